@@ -1,0 +1,72 @@
+-- SMT-LIB 2.6, theory FixedSizeBitVectors and logic QF_BV: the operations, in the order of document 01's calls.
+-- bvcomp, bvxor, bvslt and bvashr are QF_BV's abbreviations; each is written as that document expands it.
+use mathlib.Core.Bool.{Bool, true, false, not, cond, _&&_, _||_}
+use mathlib.Core.List.{List, [], _∷_, _++_, map}
+use Prim.Native.Nat.{ℕ, suc, _+_, _-_, _*_, _/_, _^_}
+use lib.Dec.{ltb}
+use lib.ListN.{length, getD, take, drop}
+use Rattle.logic.specs.Table.{zipWith}
+use Rattle.bitvec.specs.Bits.{Bits, bv2nat, nat2bv}
+
+-- = on one bit, and on bit vectors.
+abbrev pub same : Bool → Bool → Bool
+same true b = b
+same false b = not b
+
+unfoldable pub equal : Bits → Bits → Bool
+equal [] [] = true
+equal [] (b ∷ t) = false
+equal (a ∷ s) [] = false
+equal (a ∷ s) (b ∷ t) = same a b && equal s t
+
+-- The arguments of concat and extract stand as SMT-LIB has them: the high part first; the high index first.
+abbrev pub concat : Bits → Bits → Bits
+concat s t = t ++ s
+
+abbrev pub extract : ℕ → ℕ → Bits → Bits
+extract i j s = take (suc i - j) (drop j s)
+
+abbrev pub bvnot : Bits → Bits
+bvnot = map not
+
+abbrev pub bvand : Bits → Bits → Bits
+bvand = zipWith _&&_
+
+abbrev pub bvor : Bits → Bits → Bits
+bvor = zipWith _||_
+
+-- (bvor (bvand s (bvnot t)) (bvand (bvnot s) t)), bit by bit
+abbrev pub differ : Bool → Bool → Bool
+differ a b = (a && not b) || (not a && b)
+
+abbrev pub bvxor : Bits → Bits → Bits
+bvxor = zipWith differ
+
+abbrev pub bvadd : Bits → Bits → Bits
+bvadd s t = nat2bv (length s) (bv2nat s + bv2nat t)
+
+-- One bit, 1 where the two are equal.
+abbrev pub bvcomp : Bits → Bits → Bits
+bvcomp s t = equal s t ∷ []
+
+abbrev pub bvult : Bits → Bits → Bool
+bvult s t = ltb (bv2nat s) (bv2nat t)
+
+-- The top bit, the sign.
+abbrev pub msb : Bits → Bool
+msb s = getD s (length s - 1) false
+
+abbrev pub bvslt : Bits → Bits → Bool
+bvslt s t = (msb s && not (msb t)) || (same (msb s) (msb t) && bvult s t)
+
+abbrev pub bvshl : Bits → Bits → Bits
+bvshl s t = nat2bv (length s) (bv2nat s * 2 ^ bv2nat t)
+
+abbrev pub bvlshr : Bits → Bits → Bits
+bvlshr s t = nat2bv (length s) (bv2nat s / 2 ^ bv2nat t)
+
+abbrev pub bvashr : Bits → Bits → Bits
+bvashr s t = cond (msb s) (bvnot (bvlshr (bvnot s) t)) (bvlshr s t)
+
+abbrev pub bvmul : Bits → Bits → Bits
+bvmul s t = nat2bv (length s) (bv2nat s * bv2nat t)

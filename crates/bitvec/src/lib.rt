@@ -1,0 +1,1 @@
+// Bit vectors of SMT-LIB.

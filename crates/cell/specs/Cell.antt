@@ -1,0 +1,80 @@
+-- Document 01, "Words": a cell, its output width and the slots it takes. The abstract syntax that every other layer uses.
+use mathlib.Core.Bool.{Bool}
+use mathlib.Core.List.{List}
+use Prim.Native.Nat.{ℕ, _+_, max}
+use lib.ListN.{length}
+use Rattle.logic.specs.Net.{Net}
+use Rattle.logic.specs.declared.Trit.{Trit}
+
+-- A net that may be inverted (`ControlNet`).
+pub record Control : Type 0 where
+  pub net : Net
+  pub inverted : Bool
+
+-- Operations on one vector, #n n*.
+pub data Unary : Type 0 where
+  buf not : Unary
+
+-- Operations on two vectors of one width, #n n* n*.
+pub data Binary : Type 0 where
+  and or xor eq ult slt mul : Binary
+
+-- Shifts, #n #m #stride n* m*.
+pub data Shift : Type 0 where
+  shl ushr sshr xshr : Shift
+
+-- A flip-flop (`FlipFlop`); its width is that of its data.
+pub record FlipFlop : Type 0 where
+  pub resetOverEnable : Bool
+  pub clock : Control
+  pub clear : Control
+  pub reset : Control
+  pub enable : Control
+  pub dat : List Net
+  pub clearValue : List Trit
+  pub resetValue : List Trit
+
+pub data Cell : Type 0 where
+  void note : Cell
+  input ioBuf : ℕ → Cell
+  unary : Unary → List Net → Cell
+  binary : Binary → List Net → List Net → Cell
+  mux : Net → List Net → List Net → Cell
+  adc : List Net → List Net → Net → Cell
+  aig : Control → Control → Cell
+  -- value, amount, stride
+  shift : Shift → List Net → List Net → ℕ → Cell
+  -- value, enable, and for each pattern its alternates
+  match : List Net → Net → List (List (List Trit)) → Cell
+  -- value, enable, update, offset
+  assign : List Net → Net → List Net → ℕ → Cell
+  dff : FlipFlop → Cell
+
+abbrev pub binaryWidth : Binary → ℕ → ℕ
+binaryWidth and n = n
+binaryWidth or n = n
+binaryWidth xor n = n
+binaryWidth mul n = n
+binaryWidth eq n = 1
+binaryWidth ult n = 1
+binaryWidth slt n = 1
+
+-- The output width (`output_len`).
+abbrev pub outputLen : Cell → ℕ
+outputLen void = 0
+outputLen note = 0
+outputLen (input n) = n
+outputLen (ioBuf n) = n
+outputLen (unary op a) = length a
+outputLen (binary op a b) = binaryWidth op (length a)
+outputLen (mux s a b) = length a
+outputLen (adc a b c) = length a + 1
+outputLen (aig a b) = 1
+outputLen (shift op value amount stride) = length value
+outputLen (match value enable patterns) = length patterns
+outputLen (assign value enable update offset) = length value
+outputLen (dff ff) = length (ff .dat)
+
+-- A cell takes max(1, output width) slots.
+abbrev pub slotsOf : Cell → ℕ
+slotsOf c = max 1 (outputLen c)

@@ -1,0 +1,1 @@
+// The calls of an SMT engine, as words.

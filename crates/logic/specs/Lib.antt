@@ -1,0 +1,4 @@
+pub mod Trit
+pub mod Word
+pub mod Net
+pub mod Table
