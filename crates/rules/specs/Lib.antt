@@ -1,0 +1,3 @@
+pub mod Trits
+pub mod Rules
+pub mod CellRule
