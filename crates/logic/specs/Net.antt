@@ -1,7 +1,9 @@
 -- Document 01, "Words": net payload 0 is constant 0, 1 is constant 1, 2 + i is slot i, 536,870,911 is X.
-use mathlib.Core.Path.{_≡_, refl}
-use mathlib.Core.Bool.{cond}
-use Prim.Native.Nat.{ℕ, _+_, _-_, _<_}
+use mathlib.Core.Path.{_≡_, refl, sym, ap}
+use mathlib.Core.Bool.{Bool, true, false, cond}
+use Prim.Native.Nat.{ℕ, _+_, _-_, _%_, _^_, _<_, _≤_}
+use native.Mathlib.Omega.{arith}
+use borrow.Author.Tests.{ne-eqb, eqb-true, eqb-false}
 use lib.Dec.{ltb, eqb}
 use Rattle.logic.specs.declared.Trit.{Trit}
 use Rattle.logic.specs.declared.Trit.the-variants.{Zero, One, Undef}
@@ -29,9 +31,40 @@ netOf p =
     (cond (eqb p 536870911) (constant Undef) (slot (p - 2))))
 
 -- What a net number names; a number above the payloads names no net.
+abbrev pub driverOfNet : Net → Driver
+driverOfNet (constant t) = Constant t
+driverOfNet (slot i) = Output (record { 0 = i })
+
 abbrev pub driverOf : ℕ → Driver
-driverOf n =
-    cond (eqb n 0) (Constant Zero)
-    (cond (eqb n 1) (Constant One)
-    (cond (ltb n 536870911) (Output (record { 0 = n - 2 }))
-    (cond (eqb n 536870911) (Constant Undef) NoNet)))
+driverOf n = cond (ltb n (2 ^ 29)) (driverOfNet (netOf n)) NoNet
+
+-- The net number of a slot is two above the slot's; as a payload it counts modulo 2 ^ 29.
+abbrev pub netOfSlot : ℕ → ℕ
+netOfSlot i = (i + 2) % 2 ^ 29
+
+-- Reading a payload undoes writing it, for every slot that a payload can hold, and writing undoes reading.
+pub net-of-payload : (i : ℕ) → i + 2 < 536870911 → netOf (payloadOfNet (slot i)) ≡ slot i
+net-of-payload i low =
+    rw (ne-eqb (i + 2) 0 (λ e. omega arith), ne-eqb (i + 2) 1 (λ e. omega arith), ne-eqb (i + 2) 536870911 (λ e. omega arith))
+    (ap slot (omega arith))
+
+pub constant-of-payload : (t : Trit) → netOf (payloadOfNet (constant t)) ≡ constant t
+constant-of-payload Zero = refl
+constant-of-payload One = refl
+constant-of-payload Undef = refl
+
+pub payload-of-net : (p : ℕ) → payloadOfNet (netOf p) ≡ p
+payload-of-net p = go (eqb p 0) refl (eqb p 1) refl (eqb p 536870911) refl
+  where
+    go : (a : Bool) → eqb p 0 ≡ a → (b : Bool) → eqb p 1 ≡ b → (c : Bool) → eqb p 536870911 ≡ c
+        → payloadOfNet (cond a (constant Zero) (cond b (constant One) (cond c (constant Undef) (slot (p - 2))))) ≡ p
+    go true ea b eb c ec = sym (eqb-true p 0 ea)
+    go false ea true eb c ec = sym (eqb-true p 1 eb)
+    go false ea false eb true ec = sym (eqb-true p 536870911 ec)
+    go false ea false eb false ec =
+        let over : p ≡ 0 → ⊥ = eqb-false p 0 ea in
+        let above : p ≡ 1 → ⊥ = eqb-false p 1 eb in
+        sub-add-two (omega arith)
+      where
+        sub-add-two : 2 ≤ p → p - 2 + 2 ≡ p
+        sub-add-two h = omega arith

@@ -1,10 +1,9 @@
 // Trits, net words and faults: logic.rs and value.rs of the original, over document 01's 32-bit words.
 ghost use mathlib.Core.Path.{_≡_};
-ghost use Prim.Native.Nat.{_+_, _%_, _^_};
 ghost use lib.ListN.{getD, set};
 ghost use Rattle.logic.specs.Trit.{tritNumber, readbackNumber, shows};
 ghost use Rattle.logic.specs.Word.{kindOf, payloadOf, netWord, invertedWord, headWord, numberWord, termWord};
-ghost use Rattle.logic.specs.Net.{driverOf};
+ghost use Rattle.logic.specs.Net.{driverOf, netOfSlot};
 
 // An extended binary value: 0, 1 or X.
 pub enum Trit {
@@ -125,9 +124,9 @@ pub fn term_word(term: Term) -> u32
     2147483648 + term.0 % 536870912
 }
 
-// The net number of a slot, `Net::from_cell_index`; as a payload it counts modulo 2 ^ 29.
+// The net number of a slot, `Net::from_cell_index`.
 pub fn net_of_slot(slot: Slot) -> Net
-    ensures { λ r. ⌜ r .0 ≡ (slot .0 + 2) % 2 ^ 29 ⌝ }
+    ensures { λ r. ⌜ r .0 ≡ netOfSlot (slot .0) ⌝ }
 {
     Net((slot.0 % 536870912 + 2) % 536870912)
 }
@@ -137,19 +136,19 @@ pub fn driver_of(net: Net) -> Driver
     ensures { λ r. ⌜ r ≡ driverOf (net .0) ⌝ }
 {
     let n = net.0;
+    if 536870912 <= n {
+        return Driver::NoNet;
+    }
     if n == 0 {
         return Driver::Constant(Trit::Zero);
     }
     if n == 1 {
         return Driver::Constant(Trit::One);
     }
-    if n < 536870911 {
-        return Driver::Output(Slot(n - 2));
-    }
     if n == 536870911 {
         return Driver::Constant(Trit::Undef);
     }
-    Driver::NoNet
+    Driver::Output(Slot(n - 2))
 }
 
 // The word at a place of a list, 0 past its end.
