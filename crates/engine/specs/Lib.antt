@@ -1,3 +1,6 @@
 pub mod Call
 pub mod Meaning
 pub mod Laws
+pub mod Sorts
+pub mod Encode
+pub mod WellFormed
