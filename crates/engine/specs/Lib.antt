@@ -4,3 +4,4 @@ pub mod Laws
 pub mod Sorts
 pub mod Encode
 pub mod WellFormed
+pub mod SortLaws
