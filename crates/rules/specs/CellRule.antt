@@ -11,7 +11,7 @@ use Rattle.cell.specs.Cell as c
 use Rattle.rules.specs.Trits as t
 use Rattle.rules.specs.Rules as r
 
--- The current and the past trit of every slot, and which slots read their past one (those of a base Dff).
+-- The current and the past trit of every slot.
 pub record Trits : Type 0 where
   pub now : ℕ → Trit
   pub was : ℕ → Trit

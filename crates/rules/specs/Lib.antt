@@ -1,3 +1,4 @@
 pub mod Trits
 pub mod Rules
 pub mod CellRule
+pub mod Reads

@@ -33,7 +33,7 @@ adc a b carry =
     Undef
     (bitAt (number a + number b + digit carry) i))
 
--- Is there a position at which both are defined and differ?
+-- Are both defined, and differ? And is there a position at which they do?
 abbrev pub mismatch : Trit → Trit → Bool
 mismatch Zero One = true
 mismatch One Zero = true

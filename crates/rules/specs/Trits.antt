@@ -78,7 +78,7 @@ unfoldable pub number : List Trit → ℕ
 number [] = 0
 number (t ∷ ts) = digit t + 2 * number ts
 
--- The trit of a bit, and the n low bits of a number.
+-- The trit of a bit, and bit i of a number.
 abbrev pub trit : Bool → Trit
 trit b = cond b One Zero
 
