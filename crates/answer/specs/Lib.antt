@@ -1,0 +1,4 @@
+pub mod Token
+pub mod Reply
+pub mod Same
+pub mod Place

@@ -1,0 +1,51 @@
+-- Text as bytes: ASCII texts, and numbers in decimal digits.
+use mathlib.Core.Path.{_≡_, refl, sym, ap, _∙_}
+use mathlib.Core.Bool.{Bool, true, false, cond}
+use mathlib.Core.List.{List, [], _∷_, _++_}
+use Prim.Native.Nat.{ℕ, zero, suc, _+_, _/_, _%_, _<_, _≤_, _^_}
+use Prim.Native.Char.{code}
+use Prim.Native.String.{String, [] as []ˢ, _∷_ as _∷ˢ_}
+use native.Mathlib.Omega.{arith}
+use lib.Dec.{ltb}
+use borrow.Author.Tests.{lt-ltb, le-ltb, ltb-false}
+
+-- The bytes of an ASCII text.
+abbrev pub ascii : String → List ℕ
+ascii []ˢ = []
+ascii (c ∷ˢ s) = code c ∷ ascii s
+
+-- The digits of a number, at most as many as the first argument.
+digits : ℕ → ℕ → List ℕ
+digits zero n = []
+digits (suc most) n = cond (ltb n 10) ((48 + n) ∷ []) (digits most (n / 10) ++ ((48 + n % 10) ∷ []))
+
+-- A number in decimal: no leading zero, and 0 is one digit.
+pub decimal : ℕ → List ℕ
+decimal n = digits (suc n) n
+
+-- Any count above the number is enough.
+enough : (f g n : ℕ) → n < f → n < g → digits f n ≡ digits g n
+unfolding digits
+enough zero g n p q = let z : ⊥ = omega arith in elim z [ ]
+enough (suc f) zero n p q = let z : ⊥ = omega arith in elim z [ ]
+enough (suc f) (suc g) n p q =
+    go (ltb n 10) refl (λ large. enough f g (n / 10) (omega arith) (omega arith))
+  where
+    go : (small : Bool) → ltb n 10 ≡ small → (10 ≤ n → digits f (n / 10) ≡ digits g (n / 10))
+        → digits (suc f) n ≡ digits (suc g) n
+    go true e same = rw e
+    go false e same = rw (e, same (ltb-false _ _ e))
+
+-- A number below ten is its digit; any other is the decimal of its tenth and a digit more.
+pub decimal-digit : (n : ℕ) → n < 10 → decimal n ≡ (48 + n) ∷ []
+unfolding decimal digits
+decimal-digit n small = rw (lt-ltb n 10 small)
+
+pub decimal-more : (n : ℕ) → 10 ≤ n → decimal n ≡ decimal (n / 10) ++ ((48 + n % 10) ∷ [])
+unfolding decimal digits
+decimal-more n large =
+    rw (le-ltb n 10 large) (ap (λ (l : List ℕ). l ++ ((48 + n % 10) ∷ [])) (enough n (suc (n / 10)) (n / 10) (omega arith) (omega arith)))
+
+test : decimal 4096 ≡ ascii "4096"
+unfolding decimal digits
+test = refl
