@@ -2,3 +2,4 @@ pub mod Trits
 pub mod Rules
 pub mod CellRule
 pub mod Reads
+pub mod Starred

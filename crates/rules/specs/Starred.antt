@@ -1,0 +1,61 @@
+-- Document 01, "Examples": the starred set, one list and one claim, computed by the cell rules.
+use mathlib.Core.Path.{_≡_, refl}
+use mathlib.Core.Bool.{Bool}
+use mathlib.Core.List.{List, [], _∷_, map, reverse}
+use Prim.Native.Nat.{ℕ}
+use Rattle.logic.specs.Net.{Net, constant}
+use Rattle.logic.specs.Table.{tab}
+use Rattle.logic.specs.declared.Trit.{Trit}
+use Rattle.logic.specs.declared.Trit.the-variants.{Zero, One, Undef}
+use Rattle.cell.specs.Cell.{Cell}
+use Rattle.cell.specs.Cell as c
+use Rattle.rules.specs.Trits.{anyX, number}
+use Rattle.rules.specs.Rules.{anyMismatch, alternate, matches, firstHot}
+use Rattle.rules.specs.CellRule.{Trits, cellRule}
+
+-- A cell of constant nets, and the trits that document 01 gives for it.
+pub record Example : Type 0 where
+  pub cell : Cell
+  pub shows : List Trit
+
+-- Trits are highest first, as in document 01; a vector stands low first.
+abbrev trits : List Trit → List Trit
+trits = reverse
+
+abbrev nets : List Trit → List Net
+nets ts = map constant (trits ts)
+
+abbrev O : Trit
+O = Zero
+
+abbrev I : Trit
+I = One
+
+abbrev X : Trit
+X = Undef
+
+infix 5 _⟶_
+
+abbrev _⟶_ : Cell → List Trit → Example
+cell ⟶ ts = record { cell = cell; shows = trits ts }
+
+abbrev pub examples : List Example
+examples =
+    (c.binary c.and (nets (O ∷ [])) (nets (X ∷ [])) ⟶ (O ∷ []))
+    ∷ (c.binary c.or (nets (I ∷ [])) (nets (X ∷ [])) ⟶ (I ∷ []))
+    ∷ (c.mux (constant X) (nets (I ∷ O ∷ [])) (nets (I ∷ I ∷ [])) ⟶ (I ∷ X ∷ []))
+    ∷ (c.adc (nets (X ∷ I ∷ [])) (nets (O ∷ I ∷ [])) (constant O) ⟶ (X ∷ X ∷ O ∷ []))
+    ∷ (c.binary c.eq (nets (I ∷ X ∷ [])) (nets (O ∷ X ∷ [])) ⟶ (O ∷ []))
+    ∷ (c.binary c.eq (nets (I ∷ X ∷ [])) (nets (I ∷ X ∷ [])) ⟶ (X ∷ []))
+    ∷ (c.binary c.slt (nets (I ∷ [])) (nets (O ∷ [])) ⟶ (I ∷ []))
+    ∷ (c.shift c.shl (nets (O ∷ O ∷ O ∷ I ∷ [])) (nets (I ∷ O ∷ O ∷ [])) 4 ⟶ (O ∷ O ∷ O ∷ O ∷ []))
+    ∷ (c.shift c.sshr (nets (X ∷ O ∷ [])) (nets (I ∷ [])) 1 ⟶ (X ∷ X ∷ []))
+    ∷ (c.shift c.xshr (nets (I ∷ O ∷ [])) (nets (I ∷ [])) 1 ⟶ (X ∷ I ∷ []))
+    ∷ (c.match [] (constant I) (([] ∷ []) ∷ []) ⟶ (I ∷ []))
+    ∷ []
+
+-- Each cell's rule gives the trits of its example, whatever the trits of the slots: it reads none.
+pub starred : (readsPast : ℕ → Bool) (θ : Trits) (out : List ℕ)
+    → map (λ (e : Example). cellRule readsPast θ out (e .cell)) examples ≡ map (λ (e : Example). e .shows) examples
+unfolding tab anyX number anyMismatch alternate matches firstHot
+starred readsPast θ out = refl
