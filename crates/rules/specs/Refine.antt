@@ -1,0 +1,157 @@
+-- Document 01, "Reading nets": refinement, of trits and of vectors. A vector is refined by turning Xs into 0 or 1.
+use mathlib.Core.Path.{_≡_, refl, ap, ap₂}
+use mathlib.Core.Bool.{Bool, true, false, _&&_, true≢false}
+use mathlib.Core.List.{List, [], _∷_, _++_, map}
+use Prim.Native.Nat.{ℕ, zero, suc, _+_, _-_, _≤_, _<_, suc-le-suc}
+use native.Mathlib.Nat.{zero-lt-suc}
+use lib.Dec.{T}
+use lib.ListN.{length, getD, take, drop, replicate}
+use Rattle.logic.specs.Table.{zipWith, tab}
+use Rattle.logic.specs.declared.Trit.{Trit}
+use Rattle.logic.specs.declared.Trit.the-variants.{Zero, One, Undef}
+use Rattle.rules.specs.Trits.{refines, isX, anyX}
+
+-- Where the first is defined, the second is the same trit.
+abbrev pub Refines : Trit → Trit → Type 0
+Refines a b = T (refines a b)
+
+-- The same of two vectors of one width, trit by trit.
+pub data Refine : List Trit → List Trit → Type 0 where
+  empty : Refine [] []
+  both : {x y : Trit} {a b : List Trit} → Refines x y → Refine a b → Refine (x ∷ a) (y ∷ b)
+
+pub refines-same : (a : Trit) → Refines a a
+refines-same Zero = tt
+refines-same One = tt
+refines-same Undef = tt
+
+pub refines-trans : (a b c : Trit) → Refines a b → Refines b c → Refines a c
+refines-trans Undef b c h k = tt
+refines-trans Zero Zero c h k = k
+refines-trans Zero One c h k = absurd h
+refines-trans Zero Undef c h k = absurd h
+refines-trans One Zero c h k = absurd h
+refines-trans One One c h k = k
+refines-trans One Undef c h k = absurd h
+
+pub refines-antisym : (a b : Trit) → Refines a b → Refines b a → a ≡ b
+refines-antisym Zero Zero h k = refl
+refines-antisym Zero One h k = absurd h
+refines-antisym Zero Undef h k = absurd h
+refines-antisym One Zero h k = absurd h
+refines-antisym One One h k = refl
+refines-antisym One Undef h k = absurd h
+refines-antisym Undef Zero h k = absurd k
+refines-antisym Undef One h k = absurd k
+refines-antisym Undef Undef h k = refl
+
+-- ---- Functions of single trits: a test of all trits, computed, makes them monotone.
+abbrev allT : (Trit → Bool) → Bool
+allT p = p Zero && (p One && p Undef)
+
+and-first : (a b : Bool) → T (a && b) → T a
+and-first true b h = tt
+and-first false b h = absurd h
+
+and-second : (a b : Bool) → T (a && b) → T b
+and-second true b h = h
+and-second false b h = absurd h
+
+allT-at : (p : Trit → Bool) → T (allT p) → (t : Trit) → T (p t)
+allT-at p h Zero = and-first (p Zero) (p One && p Undef) h
+allT-at p h One = and-first (p One) (p Undef) (and-second (p Zero) (p One && p Undef) h)
+allT-at p h Undef = and-second (p One) (p Undef) (and-second (p Zero) (p One && p Undef) h)
+
+-- What f gives of X is refined by what it gives of any trit.
+abbrev pub lowestAtX : (Trit → Trit) → Bool
+lowestAtX f = allT λ t. refines (f Undef) (f t)
+
+pub monotone₁ : (f : Trit → Trit) → T (lowestAtX f) → (a b : Trit) → Refines a b → Refines (f a) (f b)
+monotone₁ f low Undef b h = allT-at (λ t. refines (f Undef) (f t)) low b
+monotone₁ f low Zero Zero h = refines-same (f Zero)
+monotone₁ f low Zero One h = absurd h
+monotone₁ f low Zero Undef h = absurd h
+monotone₁ f low One Zero h = absurd h
+monotone₁ f low One One h = refines-same (f One)
+monotone₁ f low One Undef h = absurd h
+
+module _ (f : Trit → Trit → Trit) where
+  pub monotone₂ : T (allT λ c. lowestAtX λ t. f t c) → T (allT λ b. lowestAtX (f b))
+      → (a b c d : Trit) → Refines a b → Refines c d → Refines (f a c) (f b d)
+  monotone₂ low₁ low₂ a b c d h k =
+      refines-trans (f a c) (f b c) (f b d)
+      (monotone₁ (λ t. f t c) (allT-at (λ c. lowestAtX λ t. f t c) low₁ c) a b h)
+      (monotone₁ (f b) (allT-at (λ b. lowestAtX (f b)) low₂ b) c d k)
+
+module _ (f : Trit → Trit → Trit → Trit) where
+  pub monotone₃ : T (allT λ c. allT λ e. lowestAtX λ t. f t c e)
+      → T (allT λ b. allT λ e. lowestAtX λ t. f b t e) → T (allT λ b. allT λ d. lowestAtX (f b d))
+      → (a b c d e g : Trit) → Refines a b → Refines c d → Refines e g → Refines (f a c e) (f b d g)
+  monotone₃ low₁ low₂ low₃ a b c d e g h k l =
+      refines-trans (f a c e) (f b c e) (f b d g)
+      (monotone₁ (λ t. f t c e) (allT-at (λ e. lowestAtX λ t. f t c e) (allT-at (λ c. allT λ e. lowestAtX λ t. f t c e) low₁ c) e) a b h)
+      (monotone₂ (f b) (allT-at (λ b. allT λ e. lowestAtX λ t. f b t e) low₂ b) (allT-at (λ b. allT λ d. lowestAtX (f b d)) low₃ b) c d e g k l)
+
+-- ---- Vectors.
+pub refine-same : (a : List Trit) → Refine a a
+refine-same [] = empty
+refine-same (x ∷ a) = both (refines-same x) (refine-same a)
+
+pub refine-antisym : {a b : List Trit} → Refine a b → Refine b a → a ≡ b
+refine-antisym empty empty = refl
+refine-antisym (both {x} {y} h r) (both k s) = ap₂ (λ (t : Trit) (l : List Trit). t ∷ l) (refines-antisym x y h k) (refine-antisym r s)
+
+pub refine-length : {a b : List Trit} → Refine a b → length a ≡ length b
+refine-length empty = refl
+refine-length (both h r) = ap suc (refine-length r)
+
+pub refine-at : {a b : List Trit} → Refine a b → (i : ℕ) (d e : Trit) → Refines d e → Refines (getD a i d) (getD b i e)
+refine-at empty i d e k = k
+refine-at (both h r) zero d e k = h
+refine-at (both h r) (suc i) d e k = refine-at r i d e k
+
+pub refine-take : {a b : List Trit} (n : ℕ) → Refine a b → Refine (take n a) (take n b)
+refine-take zero r = empty
+refine-take (suc n) empty = empty
+refine-take (suc n) (both h r) = both h (refine-take n r)
+
+pub refine-drop : {a b : List Trit} (n : ℕ) → Refine a b → Refine (drop n a) (drop n b)
+refine-drop zero r = r
+refine-drop (suc n) empty = empty
+refine-drop (suc n) (both h r) = refine-drop n r
+
+pub refine-append : {a b c d : List Trit} → Refine a b → Refine c d → Refine (a ++ c) (b ++ d)
+refine-append empty s = s
+refine-append (both h r) s = both h (refine-append r s)
+
+pub refine-tab : (n : ℕ) (f g : ℕ → Trit) → ((i : ℕ) → Refines (f i) (g i)) → Refine (tab n f) (tab n g)
+unfolding tab
+refine-tab zero f g h = empty
+refine-tab (suc n) f g h = both (h zero) (refine-tab n (λ i. f (suc i)) (λ i. g (suc i)) (λ i. h (suc i)))
+
+module _ (f : Trit → Trit) (monotone : (a b : Trit) → Refines a b → Refines (f a) (f b)) where
+  pub refine-map : {a b : List Trit} → Refine a b → Refine (map f a) (map f b)
+  refine-map empty = empty
+  refine-map (both {x} {y} h r) = both (monotone x y h) (refine-map r)
+
+module _ (f g : Trit → Trit → Trit) (monotone : (a b c d : Trit) → Refines a b → Refines c d → Refines (f a c) (g b d)) where
+  pub refine-zip : {a b c d : List Trit} → Refine a b → Refine c d → Refine (zipWith f a c) (zipWith g b d)
+  refine-zip empty s = empty
+  refine-zip (both h r) empty = empty
+  refine-zip (both {x} {y} h r) (both {x = z} {y = w} k s) = both (monotone x y z w h k) (refine-zip r s)
+
+-- A vector of Xs is refined by every vector of its width; one without X by none but itself.
+pub refine-allX : (a : List Trit) → Refine (replicate (length a) Undef) a
+refine-allX [] = empty
+refine-allX (x ∷ a) = both tt (refine-allX a)
+
+pub refine-defined : {a b : List Trit} → Refine a b → anyX a ≡ false → a ≡ b
+unfolding anyX
+refine-defined empty none = refl
+refine-defined (both {x = Zero} {y = Zero} h r) none = ap (λ (l : List Trit). Zero ∷ l) (refine-defined r none)
+refine-defined (both {x = Zero} {y = One} h r) none = absurd h
+refine-defined (both {x = Zero} {y = Undef} h r) none = absurd h
+refine-defined (both {x = One} {y = Zero} h r) none = absurd h
+refine-defined (both {x = One} {y = One} h r) none = ap (λ (l : List Trit). One ∷ l) (refine-defined r none)
+refine-defined (both {x = One} {y = Undef} h r) none = absurd h
+refine-defined (both {x = Undef} h r) none = absurd (true≢false none)
