@@ -1,6 +1,6 @@
 -- Document 01, "Reading nets": refinement, of trits and of vectors. A vector is refined by turning Xs into 0 or 1.
 use mathlib.Core.Path.{_≡_, refl, ap, ap₂}
-use mathlib.Core.Bool.{Bool, true, false, _&&_, true≢false}
+use mathlib.Core.Bool.{Bool, true, false, _&&_, _||_, true≢false}
 use mathlib.Core.List.{List, [], _∷_, _++_, map}
 use Prim.Native.Nat.{ℕ, zero, suc, _+_, _-_, _≤_, _<_, suc-le-suc}
 use native.Mathlib.Nat.{zero-lt-suc}
@@ -44,6 +44,15 @@ refines-antisym One Undef h k = absurd h
 refines-antisym Undef Zero h k = absurd k
 refines-antisym Undef One h k = absurd k
 refines-antisym Undef Undef h k = refl
+
+pub refines-defined : (a b : Trit) → Refines a b → isX a ≡ false → a ≡ b
+refines-defined Zero Zero h e = refl
+refines-defined Zero One h e = absurd h
+refines-defined Zero Undef h e = absurd h
+refines-defined One Zero h e = absurd h
+refines-defined One One h e = refl
+refines-defined One Undef h e = absurd h
+refines-defined Undef b h e = absurd (true≢false e)
 
 -- ---- Functions of single trits: a test of all trits, computed, makes them monotone.
 abbrev allT : (Trit → Bool) → Bool
@@ -145,13 +154,13 @@ pub refine-allX : (a : List Trit) → Refine (replicate (length a) Undef) a
 refine-allX [] = empty
 refine-allX (x ∷ a) = both tt (refine-allX a)
 
+pub neither : (u v : Bool) → (u || v) ≡ false → (u ≡ false) × (v ≡ false)
+neither true v e = absurd (true≢false e)
+neither false v e = (refl, e)
+
 pub refine-defined : {a b : List Trit} → Refine a b → anyX a ≡ false → a ≡ b
 unfolding anyX
 refine-defined empty none = refl
-refine-defined (both {x = Zero} {y = Zero} h r) none = ap (λ (l : List Trit). Zero ∷ l) (refine-defined r none)
-refine-defined (both {x = Zero} {y = One} h r) none = absurd h
-refine-defined (both {x = Zero} {y = Undef} h r) none = absurd h
-refine-defined (both {x = One} {y = Zero} h r) none = absurd h
-refine-defined (both {x = One} {y = One} h r) none = ap (λ (l : List Trit). One ∷ l) (refine-defined r none)
-refine-defined (both {x = One} {y = Undef} h r) none = absurd h
-refine-defined (both {x = Undef} h r) none = absurd (true≢false none)
+refine-defined (both {x} {y} {a} h r) none =
+    let defined = neither (isX x) (anyX a) none in
+    ap₂ (λ (t : Trit) (l : List Trit). t ∷ l) (refines-defined x y h (defined .0)) (refine-defined r (defined .1))

@@ -35,7 +35,6 @@ abbrev X : Trit
 X = Undef
 
 infix 5 _⟶_
-
 abbrev _⟶_ : Cell → List Trit → Example
 cell ⟶ ts = record { cell = cell; shows = trits ts }
 
