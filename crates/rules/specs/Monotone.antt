@@ -1,16 +1,18 @@
 -- Turning X operands into 0 or 1 changes no defined output: every rule is monotone, at every width.
 use mathlib.Core.Path.{_≡_, refl, sym, ap, ap₂, _∙_}
 use mathlib.Core.Bool.{Bool, true, false, cond, _||_, true≢false}
-use mathlib.Core.List.{List, [], _∷_, _++_, map}
+use mathlib.Core.List.{List, [], _∷_, _++_, map, List·Memᴰ, List·Memᴰ·head, List·Memᴰ·tail, Memᴰ·append-left, Memᴰ·append-right}
 use Prim.Native.Nat.{ℕ, zero, suc, _+_, _-_, _*_, _/_, _%_, _^_}
 use lib.Dec.{T, ltb}
 use lib.ListN.{length, getD, take, drop, replicate, length-replicate}
 use Rattle.logic.specs.Table.{zipWith, tab, length-tab}
+use Rattle.logic.specs.Net.{Net}
 use Rattle.logic.specs.declared.Trit.{Trit}
 use Rattle.logic.specs.declared.Trit.the-variants.{Zero, One, Undef}
 use Rattle.rules.specs.Trits as t
 use Rattle.rules.specs.Trits.{isX, anyX, digit, number, bitAt, trit}
 use Rattle.rules.specs.Rules as r
+use Rattle.rules.specs.Reads.{compared, comparedByAny, comparedNets}
 use Rattle.rules.specs.Number.{sum-low}
 use Rattle.rules.specs.Refine.{Refines, Refine, empty, both}
 use Rattle.rules.specs.Refine as f
@@ -213,3 +215,48 @@ module _ (p q : r.FlipFlopInputs) (h : InputsRefine p q) where
 
   pub dff-monotone : Refine (r.dff p) (r.dff q)
   dff-monotone = rw (← h .hasClear) (cond-refine (p .hasClear) (mux-monotone (p .clear) (q .clear) (h .clear) (h .clearValue) clocked-monotone) clocked-monotone)
+
+-- ---- Match: it looks only at the nets that an alternate compares.
+module _ (g g′ : Net → Trit) where
+  alternate-monotone : (value : List Net) (pattern : List Trit)
+      → ((v : Net) → List·Memᴰ v (compared value pattern) → Refines (g v) (g′ v))
+      → Refines (r.alternate (map g value) pattern) (r.alternate (map g′ value) pattern)
+  unfolding r.alternate compared
+  alternate-monotone [] pattern h = tt
+  alternate-monotone (v ∷ value) [] h = tt
+  alternate-monotone (v ∷ value) (Undef ∷ pattern) h = alternate-monotone value pattern h
+  alternate-monotone (v ∷ value) (Zero ∷ pattern) h =
+      and-monotone (t.not (g v)) (t.not (g′ v)) _ _ (not-monotone (g v) (g′ v) (h v (List·Memᴰ·head refl)))
+      (alternate-monotone value pattern λ w m. h w (List·Memᴰ·tail m))
+  alternate-monotone (v ∷ value) (One ∷ pattern) h =
+      and-monotone (g v) (g′ v) _ _ (h v (List·Memᴰ·head refl)) (alternate-monotone value pattern λ w m. h w (List·Memᴰ·tail m))
+
+  matches-monotone : (value : List Net) (alternates : List (List Trit))
+      → ((v : Net) → List·Memᴰ v (comparedByAny value alternates) → Refines (g v) (g′ v))
+      → Refines (r.matches (map g value) alternates) (r.matches (map g′ value) alternates)
+  unfolding r.matches comparedByAny
+  matches-monotone value [] h = tt
+  matches-monotone value (a ∷ alternates) h =
+      or-monotone (r.alternate (map g value) a) (r.alternate (map g′ value) a) _ _
+      (alternate-monotone value a λ v m. h v (Memᴰ·append-left _ m))
+      (matches-monotone value alternates λ v m. h v (Memᴰ·append-right (compared value a) m))
+
+  all-monotone : (value : List Net) (patterns : List (List (List Trit)))
+      → ((v : Net) → List·Memᴰ v (comparedNets value patterns) → Refines (g v) (g′ v))
+      → Refine (map (r.matches (map g value)) patterns) (map (r.matches (map g′ value)) patterns)
+  unfolding comparedNets
+  all-monotone value [] h = empty
+  all-monotone value (p ∷ patterns) h =
+      both (matches-monotone value p λ v m. h v (Memᴰ·append-left _ m))
+      (all-monotone value patterns λ v m. h v (Memᴰ·append-right (comparedByAny value p) m))
+
+firstHot-monotone : (k i : ℕ) {ms ms′ : List Trit} → Refine ms ms′ → Refine (r.firstHot k i ms) (r.firstHot k i ms′)
+unfolding r.firstHot
+firstHot-monotone k i empty = f.refine-same (replicate k Zero)
+firstHot-monotone k i (both {x} {y} h hs) = mux-monotone x y h (f.refine-same (r.oneHot k i)) (firstHot-monotone k (suc i) hs)
+
+pub match-monotone : (g g′ : Net → Trit) (value : List Net) (e e′ : Trit) (patterns : List (List (List Trit))) → Refines e e′
+    → ((v : Net) → List·Memᴰ v (comparedNets value patterns) → Refines (g v) (g′ v))
+    → Refine (r.match (map g value) e patterns) (r.match (map g′ value) e′ patterns)
+match-monotone g g′ value e e′ patterns l h =
+    mux-monotone e e′ l (firstHot-monotone (length patterns) 0 (all-monotone g g′ value patterns h)) (f.refine-same (replicate (length patterns) Zero))
