@@ -1,0 +1,128 @@
+-- Finite search, and the pigeonhole: a walk of n + 1 places among n numbers meets a number twice.
+use mathlib.Core.Path.{_≡_, refl, sym, _∙_}
+use mathlib.Core.Logic.{_≢_}
+use mathlib.Core.Bool.{Bool, true, false, cond}
+use mathlib.Core.Option.{Option, none, some}
+use Prim.Native.Nat.{ℕ, zero, suc, _+_, _-_, _≤_, _<_}
+use native.Mathlib.Omega.{arith}
+use native.Mathlib.Decide.{ℕ-discrete}
+use lib.Dec.{T, eqb, ltb, eqb→eq, eqb-refl, ltb→lt, nltb→le}
+
+-- The value of an optional number: x where there is none.
+abbrev pub option : {X : Type 0} → Option ℕ → X → (ℕ → X) → X
+option none x f = x
+option (some k) x f = f k
+
+-- The lowest number below n that passes a test.
+unfoldable pub lowest : ℕ → (ℕ → Bool) → Option ℕ
+lowest zero p = none
+lowest (suc n) p = option (lowest n p) (cond (p n) (some n) none) some
+
+pub record Found (n : ℕ) (p : ℕ → Bool) (i : ℕ) : Type 0 where
+  pub below : i < n
+  pub holds : p i ≡ true
+
+pub lowest-some : (n : ℕ) (p : ℕ → Bool) (i : ℕ) → lowest n p ≡ some i → Found n p i
+unfolding lowest
+lowest-some zero p i e = absurd (let z : _≡_ {A = ℕ} 0 1 = cc in omega arith)
+lowest-some (suc n) p i e = go (λ d. lowest-some n p i d) (lowest n p) refl (p n) refl e
+  where
+    go : (lowest n p ≡ some i → Found n p i) → (o : Option ℕ) → lowest n p ≡ o → (b : Bool) → p n ≡ b
+        → option o (cond b (some n) none) some ≡ some i → Found (suc n) p i
+    go rec none d true q f = let j : n ≡ i = cc in record { below = omega arith; holds = rw (← j) q }
+    go rec none d false q f = absurd (let z : _≡_ {A = ℕ} 0 1 = cc in omega arith)
+    go rec (some k) d b q f = let h = rec (d ∙ f) in record { below = omega arith; holds = h .holds }
+
+pub lowest-none : (n : ℕ) (p : ℕ → Bool) → lowest n p ≡ none → (i : ℕ) → i < n → p i ≡ false
+unfolding lowest
+lowest-none zero p e i h = absurd (omega arith)
+lowest-none (suc n) p e i h = go (λ d. lowest-none n p d) (lowest n p) refl (p n) refl e
+  where
+    last : Dec (i ≡ n) → p n ≡ false → ((i : ℕ) → i < n → p i ≡ false) → p i ≡ false
+    last (yes q) f g = rw q f
+    last (no q) f g = g i (omega arith)
+
+    go : (lowest n p ≡ none → (i : ℕ) → i < n → p i ≡ false) → (o : Option ℕ) → lowest n p ≡ o → (b : Bool) → p n ≡ b
+        → option o (cond b (some n) none) some ≡ none → p i ≡ false
+    go rec none d true q f = absurd (let z : _≡_ {A = ℕ} 0 1 = cc in omega arith)
+    go rec none d false q f = last (ℕ-discrete i n) q (rec d)
+    go rec (some k) d b q f = absurd (let z : _≡_ {A = ℕ} 0 1 = cc in omega arith)
+
+-- It is the lowest: none below it passes.
+pub lowest-first : (n : ℕ) (p : ℕ → Bool) (i : ℕ) → lowest n p ≡ some i → (j : ℕ) → j < i → p j ≡ false
+unfolding lowest
+lowest-first zero p i e j h = absurd (let z : _≡_ {A = ℕ} 0 1 = cc in omega arith)
+lowest-first (suc n) p i e j h = go (λ d. lowest-first n p i d j h) (lowest n p) refl (p n) refl e
+  where
+    go : (lowest n p ≡ some i → p j ≡ false) → (o : Option ℕ) → lowest n p ≡ o → (b : Bool) → p n ≡ b
+        → option o (cond b (some n) none) some ≡ some i → p j ≡ false
+    go rec none d true q f = let k : n ≡ i = cc in lowest-none n p d j (omega arith)
+    go rec none d false q f = absurd (let z : _≡_ {A = ℕ} 0 1 = cc in omega arith)
+    go rec (some k) d b q f = rec (d ∙ f)
+
+pub eqb-false : (m n : ℕ) → eqb m n ≡ false → m ≢ n
+eqb-false m n e q = let h : T (eqb m n) = rw q (eqb-refl n) in rw e at h
+
+-- The places i < j ≤ n of a walk that are the same number.
+pub record Twice (n : ℕ) (walk : ℕ → ℕ) : Type 0 where
+  pub i : ℕ
+  pub j : ℕ
+  pub before : i < j
+  pub within : j ≤ n
+  pub same : walk i ≡ walk j
+
+-- The numbers other than c, closed up.
+squash : ℕ → ℕ → ℕ
+squash c x = cond (ltb x c) x (x - 1)
+
+squash-lt : (c x n : ℕ) → x ≢ c → x < suc n → c < suc n → squash c x < n
+unfolding squash
+squash-lt c x n ne hx hc = go (ltb x c) refl
+  where
+    go : (b : Bool) → ltb x c ≡ b → cond b x (x - 1) < n
+    go true e = let h = ltb→lt x c (rw e tt) in omega arith
+    go false e = let h = nltb→le x c (rw e tt) in omega arith
+
+squash-inj : (c x y : ℕ) → x ≢ c → y ≢ c → squash c x ≡ squash c y → x ≡ y
+unfolding squash
+squash-inj c x y nx ny e = go (ltb x c) refl (ltb y c) refl e
+  where
+    go : (a : Bool) → ltb x c ≡ a → (b : Bool) → ltb y c ≡ b → cond a x (x - 1) ≡ cond b y (y - 1) → x ≡ y
+    go true p true q e = e
+    go true p false q e = let h = ltb→lt x c (rw p tt) in let k = nltb→le y c (rw q tt) in omega arith
+    go false p true q e = let h = nltb→le x c (rw p tt) in let k = ltb→lt y c (rw q tt) in omega arith
+    go false p false q e = let h = nltb→le x c (rw p tt) in let k = nltb→le y c (rw q tt) in omega arith
+
+-- By induction on n: a place that meets the first again, or the rest of the walk among the numbers other than the first.
+abbrev pub Pigeonhole : ℕ → Type 0
+Pigeonhole n = (walk : ℕ → ℕ) → ((i : ℕ) → i ≤ n → walk i < n) → Twice n walk
+
+pub pigeon : (n : ℕ) → Pigeonhole n
+pigeon zero walk h = absurd (let z = h 0 (omega arith) in omega arith)
+pigeon (suc n) walk h = go (λ w. pigeon n w) (lowest (suc n) again) refl
+  where
+    again : ℕ → Bool
+    again j = eqb (walk (suc j)) (walk 0)
+
+    first : walk 0 < suc n
+    first = h 0 (omega arith)
+
+    low : (j : ℕ) → j < suc n → walk (suc j) ≢ walk 0 → squash (walk 0) (walk (suc j)) < n
+    low j l ne = squash-lt (walk 0) (walk (suc j)) n ne (h (suc j) (omega arith)) first
+
+    rest : Pigeonhole n → ((j : ℕ) → j < suc n → walk (suc j) ≢ walk 0) → Twice (suc n) walk
+    rest rec ne =
+        let t = rec (λ j. squash (walk 0) (walk (suc j))) (λ j l. low j (omega arith) (ne j (omega arith))) in
+        let b = t .before in
+        let c = t .within in
+        let ni = ne (t .i) (omega arith) in
+        let nj = ne (t .j) (omega arith) in
+        let same = squash-inj (walk 0) (walk (suc (t .i))) (walk (suc (t .j))) ni nj (t .same) in
+        record { i = suc (t .i); j = suc (t .j); before = omega arith; within = omega arith; same = same }
+
+    go : Pigeonhole n → (o : Option ℕ) → lowest (suc n) again ≡ o → Twice (suc n) walk
+    go rec none e = rest rec (λ j l. eqb-false (walk (suc j)) (walk 0) (lowest-none (suc n) again e j l))
+    go rec (some j) e =
+        let f = lowest-some (suc n) again j e in
+        let same = eqb→eq (walk (suc j)) (walk 0) (rw (f .holds) tt) in
+        record { i = 0; j = suc j; before = omega arith; within = omega arith; same = sym same }

@@ -1,0 +1,1 @@
+// Reading nets, current loops, working out and obligations.
