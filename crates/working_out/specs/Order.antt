@@ -13,6 +13,12 @@ abbrev pub option : {X : Type 0} → Option ℕ → X → (ℕ → X) → X
 option none x f = x
 option (some k) x f = f k
 
+pub none≢some : {k : ℕ} → none ≡ some k → ⊥
+none≢some {k} e = let z : _≡_ {A = ℕ} 0 1 = cc in omega arith
+
+pub some-inj : {j k : ℕ} → some j ≡ some k → j ≡ k
+some-inj {j} {k} e = cc
+
 -- The lowest number below n that passes a test.
 unfoldable pub lowest : ℕ → (ℕ → Bool) → Option ℕ
 lowest zero p = none
@@ -24,13 +30,13 @@ pub record Found (n : ℕ) (p : ℕ → Bool) (i : ℕ) : Type 0 where
 
 pub lowest-some : (n : ℕ) (p : ℕ → Bool) (i : ℕ) → lowest n p ≡ some i → Found n p i
 unfolding lowest
-lowest-some zero p i e = absurd (let z : _≡_ {A = ℕ} 0 1 = cc in omega arith)
+lowest-some zero p i e = absurd (none≢some e)
 lowest-some (suc n) p i e = go (λ d. lowest-some n p i d) (lowest n p) refl (p n) refl e
   where
     go : (lowest n p ≡ some i → Found n p i) → (o : Option ℕ) → lowest n p ≡ o → (b : Bool) → p n ≡ b
         → option o (cond b (some n) none) some ≡ some i → Found (suc n) p i
     go rec none d true q f = let j : n ≡ i = cc in record { below = omega arith; holds = rw (← j) q }
-    go rec none d false q f = absurd (let z : _≡_ {A = ℕ} 0 1 = cc in omega arith)
+    go rec none d false q f = absurd (none≢some f)
     go rec (some k) d b q f = let h = rec (d ∙ f) in record { below = omega arith; holds = h .holds }
 
 pub lowest-none : (n : ℕ) (p : ℕ → Bool) → lowest n p ≡ none → (i : ℕ) → i < n → p i ≡ false
@@ -44,20 +50,20 @@ lowest-none (suc n) p e i h = go (λ d. lowest-none n p d) (lowest n p) refl (p 
 
     go : (lowest n p ≡ none → (i : ℕ) → i < n → p i ≡ false) → (o : Option ℕ) → lowest n p ≡ o → (b : Bool) → p n ≡ b
         → option o (cond b (some n) none) some ≡ none → p i ≡ false
-    go rec none d true q f = absurd (let z : _≡_ {A = ℕ} 0 1 = cc in omega arith)
+    go rec none d true q f = absurd (none≢some (sym f))
     go rec none d false q f = last (ℕ-discrete i n) q (rec d)
-    go rec (some k) d b q f = absurd (let z : _≡_ {A = ℕ} 0 1 = cc in omega arith)
+    go rec (some k) d b q f = absurd (none≢some (sym f))
 
 -- It is the lowest: none below it passes.
 pub lowest-first : (n : ℕ) (p : ℕ → Bool) (i : ℕ) → lowest n p ≡ some i → (j : ℕ) → j < i → p j ≡ false
 unfolding lowest
-lowest-first zero p i e j h = absurd (let z : _≡_ {A = ℕ} 0 1 = cc in omega arith)
+lowest-first zero p i e j h = absurd (none≢some e)
 lowest-first (suc n) p i e j h = go (λ d. lowest-first n p i d j h) (lowest n p) refl (p n) refl e
   where
     go : (lowest n p ≡ some i → p j ≡ false) → (o : Option ℕ) → lowest n p ≡ o → (b : Bool) → p n ≡ b
         → option o (cond b (some n) none) some ≡ some i → p j ≡ false
     go rec none d true q f = let k : n ≡ i = cc in lowest-none n p d j (omega arith)
-    go rec none d false q f = absurd (let z : _≡_ {A = ℕ} 0 1 = cc in omega arith)
+    go rec none d false q f = absurd (none≢some f)
     go rec (some k) d b q f = rec (d ∙ f)
 
 pub eqb-false : (m n : ℕ) → eqb m n ≡ false → m ≢ n

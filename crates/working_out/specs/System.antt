@@ -1,0 +1,225 @@
+-- A system of equations over slots, for any type of values: a slot is a source, or belongs to a node, named by its first slot.
+-- Working out fills the nodes in the order of their reads. It solves the equations; and a relation that every equation keeps
+-- holds between two solutions, so that the solution is the only one (≡), and monotone (refinement).
+use mathlib.Core.Path.{_≡_, refl, sym, ap, _∙_}
+use mathlib.Core.Logic.{_≢_}
+use mathlib.Core.Bool.{Bool, true, false, not, cond, _&&_, _||_, false≢true, true≢false}
+use mathlib.Core.Option.{Option, none, some}
+use mathlib.Core.List.{List, [], _∷_}
+use Prim.Native.Nat.{ℕ, _<_}
+use native.Mathlib.Omega.{arith}
+use native.Mathlib.Decide.{ℕ-discrete}
+use lib.Dec.{T, eqb, eqb→eq, eqb-refl}
+use Rattle.working_out.specs.Order.{option, none≢some, some-inj}
+use Rattle.working_out.specs.Graph.{mark, mark-same, mark-other, mark-keeps, Ready, Ordered}
+
+-- Does an element of a list pass a test?
+unfoldable pub any : (ℕ → Bool) → List ℕ → Bool
+any p [] = false
+any p (x ∷ l) = p x || any p l
+
+-- A statement about each element of a list.
+abbrev pub All : (ℕ → Type 0) → List ℕ → Type 0
+All P [] = Unit {0}
+All P (x ∷ l) = P x × All P l
+
+pub all-map : {P Q : ℕ → Type 0} (l : List ℕ) → ((j : ℕ) → P j → Q j) → All P l → All Q l
+all-map [] f h = tt
+all-map (x ∷ l) f h = (f x (h .0), all-map l f (h .1))
+
+-- owner i: the node that slot i belongs to, none for a source.
+module _ (owner : ℕ → Option ℕ) where
+  -- Does slot i belong to node a?
+  unfoldable pub owns : ℕ → ℕ → Bool
+  owns a i = option (owner i) false (λ b. eqb b a)
+
+  pub owns-own : (a i : ℕ) → owner i ≡ some a → owns a i ≡ true
+  unfolding owns
+  owns-own a i e = rw e (go (eqb a a) (eqb-refl a))
+    where
+      go : (b : Bool) → T b → b ≡ true
+      go true t = refl
+      go false t = absurd t
+
+  pub own-owns : (a i : ℕ) → owns a i ≡ true → owner i ≡ some a
+  unfolding owns
+  own-owns a i e = go (owner i) refl
+    where
+      go : (o : Option ℕ) → owner i ≡ o → owner i ≡ some a
+      go none q = absurd (false≢true (rw q at e))
+      go (some b) q = rw (eqb→eq b a (let t : eqb b a ≡ true = rw q at e in rw t tt)) at q
+
+  -- Is a number a node: does the slot of that number belong to the node of that name?
+  abbrev pub node : ℕ → Bool
+  node a = owns a a
+
+  -- A number below N that is no node has nothing to be worked out.
+  abbrev pub start : ℕ → Bool
+  start a = not (node a)
+
+  module _ (current : ℕ → List ℕ) where
+    -- Node a reads node b: one of the slots that a reads currently belongs to b.
+    unfoldable pub reads : ℕ → ℕ → Bool
+    reads a b = node a && any (owns b) (current a)
+
+-- Every slot that belongs to a node is below N, and so is the node's first slot, which belongs to the node too.
+pub record Owned (N : ℕ) (owner : ℕ → Option ℕ) : Type 0 where
+  pub low : (i a : ℕ) → owner i ≡ some a → i < N
+  pub first : (i a : ℕ) → owner i ≡ some a → owner a ≡ some a
+
+-- The values of one node's slots worked out, of the values before; then of every node of a list in turn.
+module _ {A : Type 0} (owner : ℕ → Option ℕ) (F : ℕ → (ℕ → A) → A) where
+  unfoldable pub fill : ℕ → (ℕ → A) → ℕ → A
+  fill a val i = cond (owns owner a i) (F i val) (val i)
+
+  unfoldable pub workOut : List ℕ → (ℕ → A) → ℕ → A
+  workOut [] val = val
+  workOut (a ∷ l) val = workOut l (fill a val)
+
+  -- A solution: it shows what is given on the sources, and on every other slot what the slot's equation gives of it.
+  pub record Solves (given val : ℕ → A) : Type 0 where
+    pub sources : (i : ℕ) → owner i ≡ none → val i ≡ given i
+    pub nodes : (i a : ℕ) → owner i ≡ some a → val i ≡ F i val
+
+-- The equations of two systems with the same reads keep a relation between their values.
+module _ {A B : Type 0} (owner : ℕ → Option ℕ) (current : ℕ → List ℕ) where
+  abbrev pub Keeps : (ℕ → (ℕ → A) → A) → (ℕ → (ℕ → B) → B) → (A → B → Type 0) → Type 0
+  Keeps F G R =
+      (i a : ℕ) → owner i ≡ some a → (σ : ℕ → A) (τ : ℕ → B) → All (λ j. R (σ j) (τ j)) (current a) → R (F i σ) (G i τ)
+
+-- Equations that look only at what their node reads.
+abbrev pub Local : {A : Type 0} → (ℕ → Option ℕ) → (ℕ → List ℕ) → (ℕ → (ℕ → A) → A) → Type 0
+Local owner current F = Keeps owner current F F (λ a b. a ≡ b)
+
+-- What holds of the sources, and of the slots of what is done, holds of all that a ready node reads.
+module _ (N : ℕ) (owner : ℕ → Option ℕ) (owned : Owned N owner) (current : ℕ → List ℕ) (P : ℕ → Type 0)
+    (sources : (j : ℕ) → owner j ≡ none → P j) where
+  abbrev Done : (ℕ → Bool) → Type 0
+  Done done = (j b : ℕ) → owner j ≡ some b → done b ≡ true → P j
+
+  collect : (l : List ℕ) (done : ℕ → Bool) → Done done → ((b : ℕ) → b < N → any (owns owner b) l ≡ true → done b ≡ true) → All P l
+  unfolding any
+  collect [] done h has = tt
+  collect (j ∷ l) done h has = (go (owner j) refl, collect l done h (λ b low e. has b low (or-true (owns owner b j) e)))
+    where
+      or-true : (p : Bool) {q : Bool} → q ≡ true → (p || q) ≡ true
+      or-true true e = refl
+      or-true false e = e
+
+      go : (o : Option ℕ) → owner j ≡ o → P j
+      go none e = sources j e
+      go (some b) e =
+          let low = owned .low b b (owned .first j b e) in
+          h j b e (has b low (rw (owns-own owner b j e)))
+
+  pub ready-all : (done : ℕ → Bool) (a : ℕ) → owner a ≡ some a → Ready N (reads owner current) done a → Done done → All P (current a)
+  unfolding reads
+  ready-all done a e ready h = collect (current a) done h (λ b low r. ready .has b low (rw (owns-own owner a a e) r))
+
+-- A relation that the equations keep holds between two solutions.
+module _ {A B : Type 0} (N : ℕ) (owner : ℕ → Option ℕ) (owned : Owned N owner) (current : ℕ → List ℕ)
+    (F : ℕ → (ℕ → A) → A) (G : ℕ → (ℕ → B) → B) (R : A → B → Type 0) (keeps : Keeps owner current F G R)
+    (σ : ℕ → A) (τ : ℕ → B) (σ-solves : (i a : ℕ) → owner i ≡ some a → σ i ≡ F i σ) (τ-solves : (i a : ℕ) → owner i ≡ some a → τ i ≡ G i τ)
+    (sources : (i : ℕ) → owner i ≡ none → R (σ i) (τ i)) where
+  from : (l : List ℕ) (done : ℕ → Bool) → Ordered N (reads owner current) done l
+      → ((i a : ℕ) → owner i ≡ some a → done a ≡ true → R (σ i) (τ i)) → (i a : ℕ) → owner i ≡ some a → R (σ i) (τ i)
+  from [] done ord h = λ i a e. h i a e (ord a (owned .low a a (owned .first i a e)))
+  from (b ∷ l) done ord h = from l (mark done b) (ord .1) (λ i a e d. step i a e d (ℕ-discrete a b))
+    where
+      step : (i a : ℕ) → owner i ≡ some a → mark done b a ≡ true → Dec (a ≡ b) → R (σ i) (τ i)
+      step i a e d (yes p) =
+          let all = ready-all N owner owned current (λ j. R (σ j) (τ j)) sources done b (rw p at (owned .first i a e)) (ord .0) h in
+          rw (σ-solves i a e, τ-solves i a e) (keeps i b (rw p at e) σ τ all)
+      step i a e d (no p) = h i a e (rw (mark-other done b a p) at d)
+
+  pub related : (l : List ℕ) → Ordered N (reads owner current) (start owner) l → (i : ℕ) → R (σ i) (τ i)
+  related l ord i = go (owner i) refl
+    where
+      apart : (i a : ℕ) → owner i ≡ some a → start owner a ≡ true → R (σ i) (τ i)
+      apart i a e d = absurd (false≢true (rw (owns-own owner a a (owned .first i a e)) at d))
+
+      go : (o : Option ℕ) → owner i ≡ o → R (σ i) (τ i)
+      go none e = sources i e
+      go (some a) e = from l (start owner) ord apart i a e
+
+-- Working out solves the equations. What is done has its values, and reads only sources and what is done.
+module _ {A : Type 0} (N : ℕ) (owner : ℕ → Option ℕ) (owned : Owned N owner) (current : ℕ → List ℕ)
+    (F : ℕ → (ℕ → A) → A) (local : Local owner current F) (given : ℕ → A) where
+  Settled : (ℕ → Bool) → ℕ → Type 0
+  Settled done j = (b : ℕ) → owner j ≡ some b → done b ≡ true
+
+  record Inv (done : ℕ → Bool) (val : ℕ → A) : Type 0 where
+    sources : (i : ℕ) → owner i ≡ none → val i ≡ given i
+    own : (i a : ℕ) → owner i ≡ some a → done a ≡ true → val i ≡ F i val
+    closed : (a : ℕ) → owner a ≡ some a → done a ≡ true → All (Settled done) (current a)
+
+  module _ (done : ℕ → Bool) (val : ℕ → A) (v : Inv done val) (b : ℕ) (ready : Ready N (reads owner current) done b) where
+    fill-own : (i : ℕ) → owner i ≡ some b → fill owner F b val i ≡ F i val
+    unfolding fill
+    fill-own i e = rw (owns-own owner b i e)
+
+    fill-other : (i : ℕ) → (owner i ≡ some b → ⊥) → val i ≡ fill owner F b val i
+    unfolding fill
+    fill-other i ne = go (owns owner b i) refl
+      where
+        go : (t : Bool) → owns owner b i ≡ t → val i ≡ cond t (F i val) (val i)
+        go true e = absurd (ne (own-owns owner b i e))
+        go false e = refl
+
+    settled-same : (j : ℕ) → Settled done j → val j ≡ fill owner F b val j
+    unfolding Settled
+    settled-same j s = fill-other j (λ e. true≢false (sym (s b e) ∙ ready .not-done))
+
+    settled-mark : (j : ℕ) → Settled done j → Settled (mark done b) j
+    unfolding Settled
+    settled-mark j s c e = mark-keeps done b c (s c e)
+
+    same : (i a : ℕ) → owner i ≡ some a → All (Settled done) (current a) → F i val ≡ F i (fill owner F b val)
+    same i a e h = local i a e val (fill owner F b val) (all-map (current a) settled-same h)
+
+    settled : owner b ≡ some b → All (Settled done) (current b)
+    unfolding Settled
+    settled e =
+        ready-all N owner owned current (Settled done) (λ j q c e. absurd (none≢some (sym q ∙ e))) done b e ready (λ j b q d c e. rw (some-inj (sym q ∙ e)) at d)
+
+    next : Inv (mark done b) (fill owner F b val)
+    next = record {
+      sources = λ i e. sym (fill-other i (λ q. none≢some (sym e ∙ q))) ∙ v .sources i e;
+      own = λ i a e d. own i a e d (ℕ-discrete a b);
+      closed = λ a e d. all-map (current a) settled-mark (closed a e d (ℕ-discrete a b));
+    }
+      where
+        closed : (a : ℕ) → owner a ≡ some a → mark done b a ≡ true → Dec (a ≡ b) → All (Settled done) (current a)
+        closed a e d (yes p) = rw p (settled (rw p at e))
+        closed a e d (no p) = v .closed a e (rw (mark-other done b a p) at d)
+
+        own : (i a : ℕ) → owner i ≡ some a → mark done b a ≡ true → Dec (a ≡ b) → fill owner F b val i ≡ F i (fill owner F b val)
+        own i a e d (yes p) =
+            let q : owner i ≡ some b = rw p at e in
+            fill-own i q ∙ same i b q (settled (owned .first i b q))
+        own i a e d (no p) =
+            let da : done a ≡ true = rw (mark-other done b a p) at d in
+            sym (fill-other i (λ q. p (some-inj (sym e ∙ q)))) ∙ v .own i a e da ∙ same i a e (v .closed a (owned .first i a e) da)
+
+  end : (l : List ℕ) (done : ℕ → Bool) (val : ℕ → A) → Ordered N (reads owner current) done l → Inv done val → Solves owner F given (workOut owner F l val)
+  unfolding workOut
+  end [] done val ord v =
+      record { sources = v .sources; nodes = λ i a e. v .own i a e (ord a (owned .low a a (owned .first i a e))) }
+  end (b ∷ l) done val ord v = end l (mark done b) (fill owner F b val) (ord .1) (next done val v b (ord .0))
+
+  pub solves : (l : List ℕ) → Ordered N (reads owner current) (start owner) l → Solves owner F given (workOut owner F l given)
+  solves l ord = end l (start owner) given ord (record {
+    sources = λ i e. refl;
+    own = λ i a e d. absurd (apart a (owned .first i a e) d);
+    closed = λ a e d. absurd (apart a e d);
+  })
+    where
+      apart : (a : ℕ) → owner a ≡ some a → start owner a ≡ true → ⊥
+      apart a e d = false≢true (rw (owns-own owner a a e) at d)
+
+-- There is one solution.
+pub unique : {A : Type 0} (N : ℕ) (owner : ℕ → Option ℕ) → Owned N owner → (current : ℕ → List ℕ) (F : ℕ → (ℕ → A) → A)
+    → Local owner current F → (l : List ℕ) → Ordered N (reads owner current) (start owner) l → (given σ τ : ℕ → A)
+    → Solves owner F given σ → Solves owner F given τ → (i : ℕ) → σ i ≡ τ i
+unique N owner owned current F local l ord given σ τ s t =
+    related N owner owned current F F (λ a b. a ≡ b) local σ τ (s .nodes) (t .nodes) (λ i e. s .sources i e ∙ sym (t .sources i e)) l ord
