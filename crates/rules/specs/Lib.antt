@@ -6,3 +6,4 @@ pub mod Starred
 pub mod Number
 pub mod Refine
 pub mod Monotone
+pub mod Local

@@ -50,17 +50,17 @@ module _ (owner : ℕ → Option ℕ) where
       go (some b) q = rw (eqb→eq b a (let t : eqb b a ≡ true = rw q at e in rw t tt)) at q
 
   -- Is a number a node: does the slot of that number belong to the node of that name?
-  abbrev pub node : ℕ → Bool
-  node a = owns a a
+  abbrev pub isNode : ℕ → Bool
+  isNode a = owns a a
 
   -- A number below N that is no node has nothing to be worked out.
   abbrev pub start : ℕ → Bool
-  start a = not (node a)
+  start a = not (isNode a)
 
   module _ (current : ℕ → List ℕ) where
     -- Node a reads node b: one of the slots that a reads currently belongs to b.
     unfoldable pub reads : ℕ → ℕ → Bool
-    reads a b = node a && any (owns b) (current a)
+    reads a b = isNode a && any (owns b) (current a)
 
 -- Every slot that belongs to a node is below N, and so is the node's first slot, which belongs to the node too.
 pub record Owned (N : ℕ) (owner : ℕ → Option ℕ) : Type 0 where
@@ -223,3 +223,30 @@ pub unique : {A : Type 0} (N : ℕ) (owner : ℕ → Option ℕ) → Owned N own
     → Solves owner F given σ → Solves owner F given τ → (i : ℕ) → σ i ≡ τ i
 unique N owner owned current F local l ord given σ τ s t =
     related N owner owned current F F (λ a b. a ≡ b) local σ τ (s .nodes) (t .nodes) (λ i e. s .sources i e ∙ sym (t .sources i e)) l ord
+
+-- Nodes are below N, so that the decision of a loop (`no-loop`, `loop-found`) and the order (`ordered`) are right of the system.
+module _ (N : ℕ) (owner : ℕ → Option ℕ) (owned : Owned N owner) (current : ℕ → List ℕ) where
+  any-owned : (b : ℕ) (l : List ℕ) → any (owns owner b) l ≡ true → b < N
+  unfolding any
+  any-owned b [] e = absurd (false≢true e)
+  any-owned b (j ∷ l) e = go (any-owned b l) (owns owner b j) refl e
+    where
+      go : (any (owns owner b) l ≡ true → b < N) → (t : Bool) → owns owner b j ≡ t → (t || any (owns owner b) l) ≡ true → b < N
+      go rec true q h = owned .low b b (owned .first j b (own-owns owner b j q))
+      go rec false q h = rec h
+
+  pub reads-node : (a b : ℕ) → reads owner current a b ≡ true → start owner a ≡ false
+  unfolding reads
+  reads-node a b e = go (isNode owner a) e
+    where
+      go : (t : Bool) → (t && any (owns owner b) (current a)) ≡ true → not t ≡ false
+      go true h = refl
+      go false h = absurd (false≢true h)
+
+  pub reads-low : (a b : ℕ) → reads owner current a b ≡ true → (a < N) × (b < N)
+  unfolding reads
+  reads-low a b e = go (isNode owner a) refl e
+    where
+      go : (t : Bool) → isNode owner a ≡ t → (t && any (owns owner b) (current a)) ≡ true → (a < N) × (b < N)
+      go true q h = (owned .low a a (own-owns owner a a q), any-owned b (current a) h)
+      go false q h = absurd (false≢true h)

@@ -1,0 +1,123 @@
+-- What the list reader guarantees of an accepted list (document 01, "Words" and faults 6, 7, 9, 11, 12, 13): the layout on which
+-- reading nets and working out rely.
+use mathlib.Core.Path.{_≡_, refl}
+use mathlib.Core.Bool.{Bool, true, false}
+use mathlib.Core.List.{List, [], _∷_, _++_}
+use Prim.Native.Nat.{ℕ, _+_, _≤_, _<_}
+use lib.ListN.{length}
+use Rattle.logic.specs.Net.{Net, constant, slot, payloadOfNet}
+use Rattle.logic.specs.declared.Trit.{Trit}
+use Rattle.cell.specs.Cell.{Cell, Control, FlipFlop, Binary, Shift, outputLen, slotsOf}
+use Rattle.cell.specs.Cell as c
+use Rattle.cell.specs.Design.{Design, Placed, NetPair, total}
+use Rattle.working_out.specs.Reading.{Each, Role, void, given, dff, other, role, isVoid, cellOf}
+
+-- The cells stand in slot order without a gap, from slot s up to slot e.
+abbrev pub Run : ℕ → List Placed → ℕ → Type 0
+Run s [] e = s ≡ e
+Run s (p ∷ cells) e = (p .slot ≡ s) × Run (s + slotsOf (p .cell)) cells e
+
+-- Strictly ascending by a number.
+abbrev pub Ascending : {A : Type 0} → (A → ℕ) → List A → Type 0
+Ascending key [] = Unit {0}
+Ascending key (x ∷ l) = Each (λ y. key x < key y) l × Ascending key l
+
+-- Eq, ULt, SLt and SShr are not of width 0.
+abbrev pub BinaryWide : Binary → ℕ → Type 0
+BinaryWide c.and n = Unit {0}
+BinaryWide c.or n = Unit {0}
+BinaryWide c.xor n = Unit {0}
+BinaryWide c.mul n = Unit {0}
+BinaryWide c.eq n = 0 < n
+BinaryWide c.ult n = 0 < n
+BinaryWide c.slt n = 0 < n
+
+abbrev pub ShiftWide : Shift → ℕ → Type 0
+ShiftWide c.shl n = Unit {0}
+ShiftWide c.ushr n = Unit {0}
+ShiftWide c.sshr n = 0 < n
+ShiftWide c.xshr n = Unit {0}
+
+-- The vectors of a cell have the widths of its body.
+abbrev pub Shaped : Cell → Type 0
+Shaped c.void = Unit {0}
+Shaped c.note = Unit {0}
+Shaped (c.input n) = Unit {0}
+Shaped (c.ioBuf n) = Unit {0}
+Shaped (c.unary op a) = Unit {0}
+Shaped (c.binary op a b) = (length b ≡ length a) × BinaryWide op (length a)
+Shaped (c.mux s a b) = length b ≡ length a
+Shaped (c.adc a b carry) = length b ≡ length a
+Shaped (c.aig a b) = Unit {0}
+Shaped (c.shift op value amount stride) = ShiftWide op (length value)
+Shaped (c.match value enable patterns) = Each (Each (λ (a : List Trit). length a ≡ length value)) patterns
+Shaped (c.assign value enable update offset) = offset + length update ≤ length value
+Shaped (c.dff f) = (length (f .clearValue) ≡ length (f .dat)) × (length (f .resetValue) ≡ length (f .dat))
+
+-- The nets that a cell names, in the order of its words.
+abbrev pub netsOf : Cell → List Net
+netsOf c.void = []
+netsOf c.note = []
+netsOf (c.input n) = []
+netsOf (c.ioBuf n) = []
+netsOf (c.unary op a) = a
+netsOf (c.binary op a b) = a ++ b
+netsOf (c.mux s a b) = s ∷ (a ++ b)
+netsOf (c.adc a b carry) = a ++ (b ++ (carry ∷ []))
+netsOf (c.aig a b) = a .net ∷ b .net ∷ []
+netsOf (c.shift op value amount stride) = value ++ amount
+netsOf (c.match value enable patterns) = enable ∷ value
+netsOf (c.assign value enable update offset) = enable ∷ (value ++ update)
+netsOf (c.dff f) = f .clock .net ∷ f .clear .net ∷ f .reset .net ∷ f .enable .net ∷ f .dat
+
+-- A net word's slot is below base + added.
+abbrev pub Within : ℕ → Net → Type 0
+Within n (constant t) = Unit {0}
+Within n (slot i) = i < n
+
+-- A cell of the design, or the new cell of a replacement.
+pub record CellLaid (d : Design) (p : Placed) : Type 0 where
+  pub shaped : Shaped (p .cell)
+  pub within : Each (Within (total d)) (netsOf (p .cell))
+
+-- No cell crosses the base's end.
+abbrev pub Apart : Design → Placed → Type 0
+Apart d p = p .slot < d .base → p .slot + slotsOf (p .cell) ≤ d .base
+
+-- A new cell is no Void, Input or Note.
+abbrev pub MayReplace : Cell → Type 0
+MayReplace c.void = ⊥
+MayReplace c.note = ⊥
+MayReplace (c.input n) = ⊥
+MayReplace (c.ioBuf n) = Unit {0}
+MayReplace (c.unary op a) = Unit {0}
+MayReplace (c.binary op a b) = Unit {0}
+MayReplace (c.mux s a b) = Unit {0}
+MayReplace (c.adc a b carry) = Unit {0}
+MayReplace (c.aig a b) = Unit {0}
+MayReplace (c.shift op value amount stride) = Unit {0}
+MayReplace (c.match value enable patterns) = Unit {0}
+MayReplace (c.assign value enable update offset) = Unit {0}
+MayReplace (c.dff f) = Unit {0}
+
+-- A replaced slot heads a base cell that is no Void, of the new cell's output width.
+pub record Replaces (d : Design) (p : Placed) : Type 0 where
+  pub base : p .slot < d .base
+  pub heads : cellOf d (p .slot) .slot ≡ p .slot
+  pub old : isVoid (role (cellOf d (p .slot) .cell)) ≡ false
+  pub width : outputLen (p .cell) ≡ outputLen (cellOf d (p .slot) .cell)
+  pub new : MayReplace (p .cell)
+
+pub record PairWithin (d : Design) (p : NetPair) : Type 0 where
+  pub from : Within (total d) (p .from)
+  pub to : Within (total d) (p .to)
+
+pub record Laid (d : Design) : Type 0 where
+  pub run : Run 0 (d .cells) (total d)
+  pub apart : Each (Apart d) (d .cells)
+  pub cells : Each (CellLaid d) (d .cells)
+  pub newCells : Each (CellLaid d) (d .cellReps)
+  pub replaces : Each (Replaces d) (d .cellReps)
+  pub slots : Ascending (λ (p : Placed). p .slot) (d .cellReps)
+  pub nets : Each (PairWithin d) (d .netReps)
+  pub froms : Ascending (λ (p : NetPair). payloadOfNet (p .from)) (d .netReps)

@@ -1,0 +1,121 @@
+-- Document 01, "Reading nets": which slots read their past trit, which nets are sources, which Voids are replaced, and which
+-- flip-flops are joined. Every slot that is no source belongs to a node: an asserted cell, or a replaced Void.
+use mathlib.Core.Path.{_≡_}
+use mathlib.Core.Bool.{Bool, true, false, not, cond, _&&_, _||_}
+use mathlib.Core.Option.{Option, none, some}
+use mathlib.Core.List.{List, [], _∷_}
+use Prim.Native.Nat.{ℕ, _+_}
+use lib.Dec.{eqb, ltb, leb}
+use Rattle.logic.specs.Trit.{tritNumber}
+use Rattle.logic.specs.Net.{Net, constant, slot}
+use Rattle.cell.specs.Cell.{Cell, outputLen, slotsOf}
+use Rattle.cell.specs.Cell as c
+use Rattle.cell.specs.Design.{Design, Placed, NetPair}
+use Rattle.rules.specs.CellRule.{Trits, ofNet}
+
+-- A statement about each element of a list.
+abbrev pub Each : {A : Type 0} → (A → Type 0) → List A → Type 0
+Each P [] = Unit {0}
+Each P (x ∷ l) = P x × Each P l
+
+-- ---- The cell that a slot belongs to; a slot past the last cell counts as a Note's.
+abbrev pub isIn : Placed → ℕ → Bool
+isIn p i = leb (p .slot) i && ltb i (p .slot + slotsOf (p .cell))
+
+unfoldable pub cellIn : List Placed → ℕ → Placed
+cellIn [] i = record { slot = i; cell = c.note }
+cellIn (p ∷ cells) i = cond (isIn p i) p (cellIn cells i)
+
+abbrev pub cellOf : Design → ℕ → Placed
+cellOf d = cellIn (d .cells)
+
+-- ---- What a cell is to the reading of nets: a Void, given from outside (Input and IoBuf), a Dff, or any other.
+pub data Role : Type 0 where
+  void given dff other : Role
+
+abbrev pub role : Cell → Role
+role c.void = void
+role c.note = other
+role (c.input n) = given
+role (c.ioBuf n) = given
+role (c.unary op a) = other
+role (c.binary op a b) = other
+role (c.mux s a b) = other
+role (c.adc a b carry) = other
+role (c.aig a b) = other
+role (c.shift op value amount stride) = other
+role (c.match value enable patterns) = other
+role (c.assign value enable update offset) = other
+role (c.dff f) = dff
+
+abbrev pub isVoid : Role → Bool
+isVoid void = true
+isVoid given = false
+isVoid dff = false
+isVoid other = false
+
+abbrev pub isDff : Role → Bool
+isDff void = false
+isDff given = false
+isDff dff = true
+isDff other = false
+
+-- ---- A slot of a base Dff, of width 0 too, reads its past trit; every other slot its current one, an added Dff included.
+abbrev pub readsPast : Design → ℕ → Bool
+readsPast d i = ltb i (d .base) && isDff (role (cellOf d i .cell))
+
+-- ---- Net replacements. A replacement of equal nets counts as none.
+abbrev pub sameNet : Net → Net → Bool
+sameNet (constant t) (constant u) = eqb (tritNumber t) (tritNumber u)
+sameNet (constant t) (slot j) = false
+sameNet (slot i) (constant u) = false
+sameNet (slot i) (slot j) = eqb i j
+
+-- What replaces a slot's net.
+unfoldable pub replacementIn : List NetPair → ℕ → Option Net
+replacementIn [] i = none
+replacementIn (p ∷ pairs) i =
+    cond (sameNet (p .from) (slot i) && not (sameNet (p .from) (p .to))) (some (p .to)) (replacementIn pairs i)
+
+abbrev pub replacement : Design → ℕ → Option Net
+replacement d = replacementIn (d .netReps)
+
+abbrev pub isNone : {A : Type 0} → Option A → Bool
+isNone none = true
+isNone (some x) = false
+
+-- ---- Sources: outputs of Input and IoBuf, of width 0 too, Voids without replacement, slots of other cells of output width 0.
+-- The past nets are sources too.
+abbrev pub sourceBy : Role → ℕ → Option Net → Bool
+sourceBy void width to = isNone to
+sourceBy given width to = true
+sourceBy dff width to = eqb width 0
+sourceBy other width to = eqb width 0
+
+abbrev pub source : Design → ℕ → Bool
+source d i = sourceBy (role (cellOf d i .cell)) (outputLen (cellOf d i .cell)) (replacement d i)
+
+-- The node that a slot belongs to, named by its first slot: an asserted cell, or a replaced Void; none for a source.
+unfoldable pub nodeOf : Design → ℕ → Option ℕ
+nodeOf d i = cond (source d i) none (some (cellOf d i .slot))
+
+-- ---- What a net replacement is: of equal nets, of a Void's, of a Dff's by a Dff's (base or added, by the old cell), or any other.
+pub data Pair : Type 0 where
+  equal ofVoid ofDffs ordinary : Pair
+
+abbrev pub netRole : Design → Net → Role
+netRole d (constant t) = other
+netRole d (slot i) = role (cellOf d i .cell)
+
+abbrev pub pairOf : Design → NetPair → Pair
+pairOf d p =
+    cond (sameNet (p .from) (p .to)) equal
+    (cond (isVoid (netRole d (p .from))) ofVoid
+    (cond (isDff (netRole d (p .from)) && isDff (netRole d (p .to))) ofDffs ordinary))
+
+-- A Dff's net replaced by a Dff's joins just those two past nets. Given trits are alike on joined flip-flops.
+abbrev pub Joined : Design → NetPair → Type 0
+Joined d p = pairOf d p ≡ ofDffs
+
+abbrev pub Alike : Design → Trits → Type 0
+Alike d g = Each (λ p. Joined d p → ofNet (g .was) (p .from) ≡ ofNet (g .was) (p .to)) (d .netReps)
