@@ -13,7 +13,7 @@ use Rattle.cell.specs.Design.{Design, Placed, NetPair, total}
 use Rattle.engine.specs.Call.{Call, assert, check}
 use Rattle.smt.specs.Prog.{Prog, ret, _>>=_, TritVec, buildNot, buildAnd}
 use Rattle.smt.specs.Builder.{currNet, pastNet, currValue, outputNets, net, cell, tvEq, tvRefines}
-use Rattle.smt.specs.Emit.{St, emit}
+use Rattle.smt.specs.Emit.{St, Out, after, emit}
 use Rattle.working_out.specs.Reading.{readsPast, Pair, equal, ofVoid, ofDffs, ordinary, pairOf}
 
 pub data Step : Type 0 where
@@ -117,43 +117,22 @@ steps d = eachCell d (d .cells) ++ eachPair d (d .netReps)
 
 -- ---- what the steps emit
 
--- The builder's state, the calls so far, and the terms of the obligations so far (`eqs`).
-pub record Work : Type 0 where
-  pub st : St
-  pub calls : List Call
-  pub obligations : List ℕ
+-- The calls of a step and then those of the rest; the result is the list of the obligations' terms (`eqs`).
+abbrev pub obligation : ℕ → Out (List ℕ) → Out (List ℕ)
+obligation term o = record { res = term ∷ o .res; st = o .st; calls = o .calls }
 
-abbrev pub step : Work → Step → Work
-step k (declared m) = record {
-  st = (emit m (k .st)) .st;
-  calls = k .calls ++ (emit m (k .st)) .calls;
-  obligations = k .obligations;
-}
-step k (asserted m) = record {
-  st = (emit m (k .st)) .st;
-  calls = k .calls ++ ((emit m (k .st)) .calls ++ (assert ((emit m (k .st)) .res) ∷ []));
-  obligations = k .obligations;
-}
-step k (obliged m) = record {
-  st = (emit m (k .st)) .st;
-  calls = k .calls ++ (emit m (k .st)) .calls;
-  obligations = k .obligations ++ ((emit m (k .st)) .res ∷ []);
-}
-
-unfoldable pub work : Work → List Step → Work
-work k [] = k
-work k (s ∷ rest) = work (step k s) rest
+unfoldable pub work : List Step → St → Out (List ℕ)
+work [] s = record { res = []; st = s; calls = [] }
+work (declared m ∷ rest) s = after ((emit m s) .calls) (work rest ((emit m s) .st))
+work (asserted m ∷ rest) s = after ((emit m s) .calls) (after (assert ((emit m s) .res) ∷ []) (work rest ((emit m s) .st)))
+work (obliged m ∷ rest) s = after ((emit m s) .calls) (obligation ((emit m s) .res) (work rest ((emit m s) .st)))
 
 -- Nothing is declared, and no slot is marked.
-abbrev pub start : ℕ → Work
-start slots = record {
-  st = record { next = 0; temp = 0; names = replicate (4 * slots) 0; marks = replicate slots 0 };
-  calls = [];
-  obligations = [];
-}
+abbrev pub start : ℕ → St
+start slots = record { next = 0; temp = 0; names = replicate (4 * slots) 0; marks = replicate slots 0 }
 
-abbrev pub built : Design → Work
-built d = work (start (total d)) (steps d)
+abbrev pub built : Design → Out (List ℕ)
+built d = work (steps d) (start (total d))
 
 -- `check`: the not of the and of all obligations, asserted; with no obligation there is neither query nor check.
 unfoldable pub query : List ℕ → Prog ℕ
@@ -167,4 +146,4 @@ asked (o ∷ more) s = (emit (query (o ∷ more)) s) .calls ++ (assert ((emit (q
 
 -- The calls of `Design::verify`.
 unfoldable pub verify : Design → List Call
-verify d = built d .calls ++ asked (built d .obligations) (built d .st)
+verify d = (built d) .calls ++ asked ((built d) .res) ((built d) .st)
