@@ -1,0 +1,1 @@
+// How many call words a design makes.
