@@ -5,7 +5,6 @@ use mathlib.Core.List.{List, [], _∷_, _++_, map}
 use Prim.Native.Nat.{ℕ, zero, suc, _+_, _-_, _*_, _/_, _≤_, _<_}
 use native.Mathlib.Omega.{arith}
 use lib.ListN.{length, length-map, length-replicate}
-use native.Mathlib.Nat.{suc-mul}
 use Rattle.logic.specs.Trit.{xOf, yOf}
 use Rattle.logic.specs.Net.{Net, constant, slot}
 use Rattle.logic.specs.declared.Trit.{Trit}
@@ -15,7 +14,7 @@ use Rattle.smt.specs.Builder.{
   bvConcat, bvConcatOn, bvIsZero, bvToBool, boolToBv, zeros, ones, tvLit, tvConst, tvConcat, tvConcatOn, tvExtract, tvIs0, tvIs1, tvEq,
   tvRefines, tvNot, tvAnd, tvOr, tvXor, tvMux, collect, netOf, valueOf, invertNet, clockNet, bvNoX, net, controlNet,
 }
-use Rattle.bound.specs.Costs.{termCost, Costs, CostsOnly, costs-ret, costs-more, costs-seq}
+use Rattle.bound.specs.Costs.{termCost, Costs, CostsOnly, costs-ret, costs-more, costs-seq, sumBy, sum-each}
 
 -- ---- straight lines of calls: the count is computed
 
@@ -92,15 +91,16 @@ net-costs readsPast (slot i) = go (readsPast i)
     go true = netOf-costs past (slot i)
     go false = netOf-costs curr (slot i)
 
-pub collect-costs : {A B : Type 0} (n : ℕ) (f : A → Prog B) → ((a : A) → CostsOnly n (f a)) → (l : List A)
-    → Costs (length l * n) (collect f l) (λ r. length r ≡ length l)
-unfolding collect
-collect-costs n f h [] = costs-ret _ [] _ refl
-collect-costs n f h (a ∷ l) =
-    costs-more (n + (length l * n + 0)) (suc (length l) * n) _ _ (omega (arith, suc-mul (length l) n))
-    (costs-seq (length l * n + 0) _ _ _
-    (λ b _. costs-seq 0 (λ bs. ret (b ∷ bs)) _ _ (λ bs e. costs-ret 0 (b ∷ bs) _ (ap suc e)) (length l * n) (collect f l) (collect-costs n f h l))
-    n (f a) (h a))
+pub collect-costs : {A B : Type 0} (cost : A → ℕ) (f : A → Prog B) → ((a : A) → CostsOnly (cost a) (f a)) → (l : List A)
+    → Costs (sumBy cost l) (collect f l) (λ r. length r ≡ length l)
+unfolding collect sumBy
+collect-costs cost f h [] = costs-ret _ [] _ refl
+collect-costs cost f h (a ∷ l) =
+    costs-more (cost a + (sumBy cost l + 0)) (cost a + sumBy cost l) _ _ (omega arith)
+    (costs-seq (sumBy cost l + 0) _ _ _
+    (λ b _. costs-seq 0 (λ bs. ret (b ∷ bs)) _ _ (λ bs e. costs-ret 0 (b ∷ bs) _ (ap suc e)) (sumBy cost l) (collect f l)
+    (collect-costs cost f h l))
+    (cost a) (f a) (h a))
 
 concat-step : (e msb : TritVec) → CostsOnly 6 (buildConcat (msb .x) (e .x) >>= λ x. buildConcat (msb .y) (e .y) >>= λ y. ret (tv x y))
 unfolding _>>=_ Costs
@@ -122,5 +122,7 @@ tvConcat-costs (e ∷ l) = costs-more (length l * 6) (suc (length l) * 6) _ _ (o
 pub valueOf-costs : (f : Net → Prog TritVec) → ((a : Net) → CostsOnly 10 (f a)) → (l : List Net) → CostsOnly (length l * 16) (valueOf f l)
 unfolding valueOf
 valueOf-costs f h l =
-    costs-more (length l * 10 + length l * 6) (length l * 16) _ _ (omega arith)
-    (costs-seq (length l * 6) tvConcat _ _ (λ tvs e. subst (λ (k : ℕ). CostsOnly (k * 6) (tvConcat tvs)) e (tvConcat-costs tvs)) (length l * 10) (collect f l) (collect-costs 10 f h l))
+    costs-more (sumBy (λ _. 10) l + length l * 6) (length l * 16) _ _ (let e = sum-each 10 l in omega arith)
+    (costs-seq (length l * 6) tvConcat _ _
+    (λ tvs e. subst (λ (k : ℕ). CostsOnly (k * 6) (tvConcat tvs)) e (tvConcat-costs tvs)) (sumBy (λ _. 10) l) (collect f l)
+    (collect-costs (λ _. 10) f h l))

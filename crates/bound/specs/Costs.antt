@@ -3,6 +3,7 @@ use mathlib.Core.Path.{_≡_, refl, sym, ap, _∙_}
 use mathlib.Core.List.{List, [], _∷_, _++_, map}
 use Prim.Native.Nat.{ℕ, zero, suc, _+_, _-_, _*_, _/_, _≤_, _<_}
 use native.Mathlib.Omega.{arith}
+use native.Mathlib.Nat.{suc-mul}
 use lib.ListN.{length, length-append, length-map, getD}
 use Rattle.logic.specs.Word.{numberWord}
 use Rattle.bitvec.specs.Bits.{bv2nat}
@@ -55,6 +56,14 @@ costs-more a b (bind w t f) Q l h = (omega arith, λ k. costs-more (a - 10) (b -
 costs-more a b (bind2 w x y f) Q l h =
     (omega arith, λ k j. costs-more (a - 20) (b - 20) (f k j) Q (omega arith) (h .1 k j))
 
+pub costs-weaken : {A : Type 0} (n : ℕ) (m : Prog A) (P Q : A → Type 0) → ((x : A) → P x → Q x) → Costs n m P → Costs n m Q
+unfolding Costs
+costs-weaken n (ret x) P Q i h = i x h
+costs-weaken n (op t f) P Q i h = (h .0, λ k. costs-weaken (n - termCost t) (f k) P Q i (h .1 k))
+costs-weaken n (declare a j y f) P Q i h = (h .0, λ k. costs-weaken (n - 5) (f k) P Q i (h .1 k))
+costs-weaken n (bind w t f) P Q i h = (h .0, λ k. costs-weaken (n - 10) (f k) P Q i (h .1 k))
+costs-weaken n (bind2 w x y f) P Q i h = (h .0, λ k l. costs-weaken (n - 20) (f k l) P Q i (h .1 k l))
+
 -- A part, then the rest by what holds of its result.
 module _ {A B : Type 0} (b : ℕ) (g : A → Prog B) (P : A → Type 0) (Q : B → Type 0) (rest : (x : A) → P x → Costs b (g x) Q) where
   pub costs-seq : (a : ℕ) (m : Prog A) → Costs a m P → Costs (a + b) (m >>= g) Q
@@ -71,6 +80,16 @@ module _ {A B : Type 0} (b : ℕ) (g : A → Prog B) (P : A → Type 0) (Q : B �
   costs-seq a (bind2 w x y f) h =
       (omega arith, λ k j. costs-more (a - 20 + b) (a + b - 20) (f k j >>= g) Q (omega arith)
       (costs-seq (a - 20) (f k j) (h .1 k j)))
+
+-- The sum of a number of each element.
+unfoldable pub sumBy : {A : Type 0} → (A → ℕ) → List A → ℕ
+sumBy f [] = 0
+sumBy f (a ∷ l) = f a + sumBy f l
+
+pub sum-each : {A : Type 0} (n : ℕ) (l : List A) → sumBy (λ _. n) l ≡ length l * n
+unfolding sumBy
+sum-each n [] = omega arith
+sum-each n (a ∷ l) = let h = sum-each n l in omega (arith, suc-mul (length l) n)
 
 -- ---- the words of calls
 

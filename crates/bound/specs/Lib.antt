@@ -1,2 +1,3 @@
 pub mod Costs
 pub mod Builder
+pub mod Cells
