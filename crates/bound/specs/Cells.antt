@@ -131,7 +131,7 @@ tvMul-costs a b n l =
     then 4 _ _ _ (one-call 4 _ _ (omega arith)) λ x.
     then 3 0 _ _ (one-call 3 _ _ (omega arith)) λ y. costs-ret 0 _ _ tt)
 
-tvBinary-costs : (o : Binary) (a b : TritVec) (n w : ℕ) → n ≤ 64 → CostsOnly 68 (tvBinary o a b n w)
+pub tvBinary-costs : (o : Binary) (a b : TritVec) (n w : ℕ) → n ≤ 64 → CostsOnly 68 (tvBinary o a b n w)
 tvBinary-costs cells.and a b n w l = tvAnd-costs a b w
 tvBinary-costs cells.or a b n w l = costs-more 64 68 _ _ (omega arith) (tvOr-costs a b w)
 tvBinary-costs cells.xor a b n w l = costs-more 6 68 _ _ (omega arith) (tvXor-costs a b)
@@ -192,10 +192,10 @@ abbrev pub matchCost : List (List Trit) → ℕ
 matchCost alternates = 12 + (length alternates * 76 + sumBy length alternates * 96)
 
 module _ (readsPast : ℕ → Bool) where
-  value-costs : (l : List Net) → CostsOnly (length l * 16) (value readsPast l)
+  pub value-costs : (l : List Net) → CostsOnly (length l * 16) (value readsPast l)
   value-costs l = valueOf-costs (net readsPast) (net-costs readsPast) l
 
-  controlNet-costs : (w : Control) → CostsOnly 16 (controlNet readsPast w)
+  pub controlNet-costs : (w : Control) → CostsOnly 16 (controlNet readsPast w)
   unfolding controlNet
   controlNet-costs w = then 10 6 _ _ (net-costs readsPast (w .net)) λ a. invertNet-costs w a
 
@@ -226,7 +226,7 @@ module _ (readsPast : ℕ → Bool) where
   prepared-costs u a stride n signed onX onY lu la ls =
       costs-seq 33 _ _ _ (λ p e. tvShift-costs onX onY n p e) 2057 _ (prepareShift-costs u a stride signed lu la ls)
 
-  shifted-costs : (o : Shift) (v a : List Net) (stride : ℕ) → length v ≤ 63 → length a ≤ 32 → stride < 2 ^ 29
+  pub shifted-costs : (o : Shift) (v a : List Net) (stride : ℕ) → length v ≤ 63 → length a ≤ 32 → stride < 2 ^ 29
       → CostsOnly 2090 (shifted readsPast o v a stride)
   unfolding shifted
   shifted-costs cells.shl v a stride lv la ls = prepared-costs v a stride (length v) false c.bvshl c.bvshl (omega arith) la ls
@@ -285,7 +285,7 @@ module _ (readsPast : ℕ → Bool) where
       then 12 _ _ _ (tvLit-costs (oneHot k index) (rw (length-tab k (λ (j : ℕ). cond (eqb j index) One Zero)) (omega arith))) λ hot.
       then 112 (index * 132) _ _ (tvMux-costs s hot result k) λ result. firstMatch-costs matches k index result l)
 
-  matchCell-costs : (nets : List Net) (enable : Net) (patterns : List (List (List Trit))) → length patterns ≤ 63
+  pub matchCell-costs : (nets : List Net) (enable : Net) (patterns : List (List (List Trit))) → length patterns ≤ 63
       → CostsOnly (sumBy matchCost patterns + length patterns * 138 + 154) (matchCell readsPast nets enable patterns (length patterns))
   unfolding matchCell
   matchCell-costs nets enable patterns l =
@@ -340,7 +340,7 @@ module _ (readsPast : ℕ → Bool) where
       then 6 (2 + 68) _ _ (invertNet-costs w was) λ was.
       then 2 68 _ _ (tvNot-costs was) λ wasNot. tvAnd-costs now wasNot 1
 
-  dffCell-costs : (f : FlipFlop) (s w : ℕ) → length (f .clearValue) ≤ 64 → length (f .resetValue) ≤ 64
+  pub dffCell-costs : (f : FlipFlop) (s w : ℕ) → length (f .clearValue) ≤ 64 → length (f .resetValue) ≤ 64
       → CostsOnly (length (f .dat) * 16 + w * 32 + 622) (dffCell readsPast f s w)
   unfolding dffCell
   dffCell-costs f s w lc lr =
@@ -357,7 +357,7 @@ module _ (readsPast : ℕ → Bool) where
 
   -- ---- Adc
 
-  adcCell-costs : (a b : List Net) (carry : Net) → length a ≤ 63 → CostsOnly (length a * 43 + length b * 16 + 80) (adcCell readsPast a b carry)
+  pub adcCell-costs : (a b : List Net) (carry : Net) → length a ≤ 63 → CostsOnly (length a * 43 + length b * 16 + 80) (adcCell readsPast a b carry)
   unfolding adcCell
   adcCell-costs [] b carry l = costs-more 10 (0 * 43 + length b * 16 + 80) _ _ (omega arith) (net-costs readsPast carry)
   adcCell-costs (n ∷ a) b carry l =

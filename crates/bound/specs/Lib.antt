@@ -1,3 +1,5 @@
 pub mod Costs
 pub mod Builder
 pub mod Cells
+pub mod Bounded
+pub mod CellCosts
