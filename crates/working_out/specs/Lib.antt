@@ -5,3 +5,4 @@ pub mod Reading
 pub mod Laid
 pub mod Loop
 pub mod Layout
+pub mod Width
