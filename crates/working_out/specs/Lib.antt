@@ -6,3 +6,5 @@ pub mod Laid
 pub mod Loop
 pub mod Layout
 pub mod Width
+pub mod WorkingOut
+pub mod Solved
