@@ -8,3 +8,4 @@ pub mod Layout
 pub mod Width
 pub mod WorkingOut
 pub mod Solved
+pub mod WorkedOut
