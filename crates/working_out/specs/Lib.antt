@@ -9,3 +9,4 @@ pub mod Width
 pub mod WorkingOut
 pub mod Solved
 pub mod WorkedOut
+pub mod Obligations
