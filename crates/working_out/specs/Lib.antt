@@ -6,7 +6,10 @@ pub mod Laid
 pub mod Loop
 pub mod Layout
 pub mod Width
+pub mod Replaced
+pub mod Nodes
+pub mod Equations
+pub mod Solutions
 pub mod WorkingOut
-pub mod Solved
 pub mod WorkedOut
 pub mod Obligations

@@ -17,9 +17,12 @@ use Rattle.working_out.specs.Reading.{role, isVoid, cellOf, readsPast, r
 
 -- The cell by whose rule a node gets its trits: an asserted cell itself; for a replaced Void, which gets its replacement's `to`
 -- as read, a Buf of `to`.
+abbrev pub bufOf : Net → Cell
+bufOf to = c.unary c.buf (to ∷ [])
+
 abbrev pub ruleCell : Cell → Option Net → Cell
 ruleCell cell none = cell
-ruleCell cell (some to) = cond (isVoid (role cell)) (c.unary c.buf (to ∷ [])) cell
+ruleCell cell (some to) = cond (isVoid (role cell)) (bufOf to) cell
 
 unfoldable pub nodeCell : Design → ℕ → Cell
 nodeCell d i = ruleCell (cellOf d i .cell) (replacement d i)

@@ -9,7 +9,7 @@ use Rattle.cell.specs.Design.{Design, Placed, NetPair}
 use Rattle.rules.specs.Trits.{refines}
 use Rattle.rules.specs.CellRule.{Trits, ofNet, outputs, read}
 use Rattle.working_out.specs.Reading.{readsPast, Pair, equal, ofVoid, ofDffs, ordinary, pairOf}
-use Rattle.working_out.specs.WorkingOut.{ruleAt}
+use Rattle.working_out.specs.WorkingOut.{tritRule}
 
 pub data Obligation : Type 0 where
   -- a cell replacement's: from its slots to what its new cell works out
@@ -49,7 +49,7 @@ fromOf θ (current p) = ofNet (θ .now) (p .from) ∷ []
 fromOf θ (asRead p) = ofNet (θ .now) (p .from) ∷ []
 
 abbrev pub toOf : Design → Trits → Obligation → List Trit
-toOf d θ (cell p) = ruleAt d θ (p .slot) (p .cell)
+toOf d θ (cell p) = tritRule d (θ .was) (p .slot) (p .cell) (θ .now)
 toOf d θ (current p) = ofNet (θ .now) (p .to) ∷ []
 toOf d θ (asRead p) = read (readsPast d) θ (p .to) ∷ []
 
