@@ -87,6 +87,31 @@ beyond (p ∷ cells) s e i r h =
     let rest = run-le cells (s + slotsOf (p .cell)) e (r .1) in
     rw (in-false p i (omega arith)) (beyond cells (s + slotsOf (p .cell)) e i (r .1) h)
 
+-- What holds of each cell holds of the cell of each slot, and the other way round.
+pub each-at : (P : Placed → Type 0) (cells : List Placed) (s e i : ℕ) → Run s cells e → s ≤ i → i < e → Each P cells → P (cellIn cells i)
+unfolding cellIn
+each-at P [] s e i r l h each = absurd (omega arith)
+each-at P (p ∷ cells) s e i r l h each =
+    go (λ low. each-at P cells (s + slotsOf (p .cell)) e i (r .1) low h (each .1)) (decLt i (s + slotsOf (p .cell)))
+  where
+    go : (s + slotsOf (p .cell) ≤ i → P (cellIn cells i)) → Dec (i < s + slotsOf (p .cell)) → P (cellIn (p ∷ cells) i)
+    go rec (yes y) = rw (in-true p i (omega arith) (omega arith)) (each .0)
+    go rec (no n) = rw (in-false p i (omega arith)) (rec (omega arith))
+
+pub at-each : (P : Placed → Type 0) (cells : List Placed) (s e : ℕ) → Run s cells e
+    → ((i : ℕ) → s ≤ i → i < e → P (cellIn cells i)) → Each P cells
+unfolding cellIn
+at-each P [] s e r h = tt
+at-each P (p ∷ cells) s e r h = (here, at-each P cells (s + slotsOf (p .cell)) e (r .1) later)
+  where
+    here : P p
+    here =
+        let rest = run-le cells (s + slotsOf (p .cell)) e (r .1) in
+        rw (in-true p (p .slot) (omega arith) (omega arith)) at (h (p .slot) (omega arith) (omega arith))
+
+    later : (i : ℕ) → s + slotsOf (p .cell) ≤ i → i < e → P (cellIn cells i)
+    later i low high = rw (in-false p i (omega arith)) at (h i (omega arith) high)
+
 -- A Void has one slot.
 pub void-one : (a : Cell) → isVoid (role a) ≡ true → slotsOf a ≡ 1
 void-one c.void e = refl

@@ -5,3 +5,11 @@ pub mod Reading
 pub mod Laid
 pub mod Loop
 pub mod Layout
+pub mod Width
+pub mod Replaced
+pub mod Nodes
+pub mod Equations
+pub mod Solutions
+pub mod WorkingOut
+pub mod WorkedOut
+pub mod Obligations

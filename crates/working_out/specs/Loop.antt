@@ -3,27 +3,33 @@
 use mathlib.Core.Path.{_≡_, refl}
 use mathlib.Core.Bool.{Bool, true, false, cond}
 use mathlib.Core.Option.{Option, none, some}
-use mathlib.Core.List.{List, []}
+use mathlib.Core.List.{List, [], _∷_}
 use Prim.Native.Nat.{ℕ}
 use Rattle.logic.specs.Net.{Net}
 use Rattle.cell.specs.Cell.{Cell}
+use Rattle.cell.specs.Cell as c
 use Rattle.cell.specs.Design.{Design, total}
-use Rattle.rules.specs.Reads.{currentNet, currentReads}
+use Rattle.rules.specs.Reads.{currentReads}
 use Rattle.working_out.specs.Graph as g
 use Rattle.working_out.specs.Graph.{isSome, undone}
 use Rattle.working_out.specs.System as s
 use Rattle.working_out.specs.Reading.{role, isVoid, cellOf, readsPast, replacement, nodeOf}
 
--- The slots that a node reads currently: those of the cell's current reads, or a replaced Void's `to` as read.
-abbrev pub toReads : (ℕ → Bool) → Option Net → List ℕ
-toReads past none = []
-toReads past (some to) = currentNet past to
+-- The cell by whose rule a node gets its trits: an asserted cell itself; for a replaced Void, which gets its replacement's `to`
+-- as read, a Buf of `to`.
+abbrev pub bufOf : Net → Cell
+bufOf to = c.unary c.buf (to ∷ [])
 
-abbrev pub nodeReads : (ℕ → Bool) → Cell → Option Net → List ℕ
-nodeReads past cell to = cond (isVoid (role cell)) (toReads past to) (currentReads past cell)
+abbrev pub ruleCell : Cell → Option Net → Cell
+ruleCell cell none = cell
+ruleCell cell (some to) = cond (isVoid (role cell)) (bufOf to) cell
 
+unfoldable pub nodeCell : Design → ℕ → Cell
+nodeCell d i = ruleCell (cellOf d i .cell) (replacement d i)
+
+-- The slots that a node reads currently.
 unfoldable pub current : Design → ℕ → List ℕ
-current d a = nodeReads (readsPast d) (cellOf d a .cell) (replacement d a)
+current d a = currentReads (readsPast d) (nodeCell d a)
 
 -- Node a reads node b currently: one of the slots that a reads belongs to b.
 abbrev pub reads : Design → ℕ → ℕ → Bool

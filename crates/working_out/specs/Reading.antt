@@ -95,6 +95,16 @@ sourceBy other width to = eqb width 0
 abbrev pub source : Design → ℕ → Bool
 source d i = sourceBy (role (cellOf d i .cell)) (outputLen (cellOf d i .cell)) (replacement d i)
 
+-- A cell is asserted unless it is skipped (output width 0), or its outputs are given.
+abbrev pub assertedBy : Role → ℕ → Bool
+assertedBy void width = false
+assertedBy given width = false
+assertedBy dff width = not (eqb width 0)
+assertedBy other width = not (eqb width 0)
+
+abbrev pub asserted : Cell → Bool
+asserted a = assertedBy (role a) (outputLen a)
+
 -- The node that a slot belongs to, named by its first slot: an asserted cell, or a replaced Void; none for a source.
 unfoldable pub nodeOf : Design → ℕ → Option ℕ
 nodeOf d i = cond (source d i) none (some (cellOf d i .slot))

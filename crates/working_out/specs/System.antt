@@ -5,7 +5,7 @@ use mathlib.Core.Path.{_≡_, refl, sym, ap, _∙_}
 use mathlib.Core.Logic.{_≢_}
 use mathlib.Core.Bool.{Bool, true, false, not, cond, _&&_, _||_, false≢true, true≢false}
 use mathlib.Core.Option.{Option, none, some}
-use mathlib.Core.List.{List, [], _∷_}
+use mathlib.Core.List.{List, [], _∷_, List·Memᴰ, List·Memᴰ·head, List·Memᴰ·tail}
 use Prim.Native.Nat.{ℕ, _<_}
 use native.Mathlib.Omega.{arith}
 use native.Mathlib.Decide.{ℕ-discrete}
@@ -18,14 +18,14 @@ unfoldable pub any : (ℕ → Bool) → List ℕ → Bool
 any p [] = false
 any p (x ∷ l) = p x || any p l
 
--- A statement about each element of a list.
-abbrev pub All : (ℕ → Type 0) → List ℕ → Type 0
-All P [] = Unit {0}
-All P (x ∷ l) = P x × All P l
-
-pub all-map : {P Q : ℕ → Type 0} (l : List ℕ) → ((j : ℕ) → P j → Q j) → All P l → All Q l
-all-map [] f h = tt
-all-map (x ∷ l) f h = (f x (h .0), all-map l f (h .1))
+pub any-mem : (p : ℕ → Bool) {l : List ℕ} {j : ℕ} → List·Memᴰ j l → p j ≡ true → any p l ≡ true
+unfolding any
+any-mem p {j = j} (List·Memᴰ·head {x = x} q) e = rw (← q, e)
+any-mem p (List·Memᴰ·tail {x = x} m) e = go (p x) (any-mem p m e)
+  where
+    go : (b : Bool) {c : Bool} → c ≡ true → (b || c) ≡ true
+    go true e = refl
+    go false e = e
 
 -- owner i: the node that slot i belongs to, none for a source.
 module _ (owner : ℕ → Option ℕ) where
@@ -85,7 +85,8 @@ module _ {A : Type 0} (owner : ℕ → Option ℕ) (F : ℕ → (ℕ → A) → 
 module _ {A B : Type 0} (owner : ℕ → Option ℕ) (current : ℕ → List ℕ) where
   abbrev pub Keeps : (ℕ → (ℕ → A) → A) → (ℕ → (ℕ → B) → B) → (A → B → Type 0) → Type 0
   Keeps F G R =
-      (i a : ℕ) → owner i ≡ some a → (σ : ℕ → A) (τ : ℕ → B) → All (λ j. R (σ j) (τ j)) (current a) → R (F i σ) (G i τ)
+      (i a : ℕ) → owner i ≡ some a → (σ : ℕ → A) (τ : ℕ → B)
+      → ((j : ℕ) → List·Memᴰ j (current a) → R (σ j) (τ j)) → R (F i σ) (G i τ)
 
 -- Equations that look only at what their node reads.
 abbrev pub Local : {A : Type 0} → (ℕ → Option ℕ) → (ℕ → List ℕ) → (ℕ → (ℕ → A) → A) → Type 0
@@ -97,24 +98,17 @@ module _ (N : ℕ) (owner : ℕ → Option ℕ) (owned : Owned N owner) (current
   abbrev Done : (ℕ → Bool) → Type 0
   Done done = (j b : ℕ) → owner j ≡ some b → done b ≡ true → P j
 
-  collect : (l : List ℕ) (done : ℕ → Bool) → Done done → ((b : ℕ) → b < N → any (owns owner b) l ≡ true → done b ≡ true) → All P l
-  unfolding any
-  collect [] done h has = tt
-  collect (j ∷ l) done h has = (go (owner j) refl, collect l done h (λ b low e. has b low (or-true (owns owner b j) e)))
-    where
-      or-true : (p : Bool) {q : Bool} → q ≡ true → (p || q) ≡ true
-      or-true true e = refl
-      or-true false e = e
-
-      go : (o : Option ℕ) → owner j ≡ o → P j
-      go none e = sources j e
-      go (some b) e =
-          let low = owned .low b b (owned .first j b e) in
-          h j b e (has b low (rw (owns-own owner b j e)))
-
-  pub ready-all : (done : ℕ → Bool) (a : ℕ) → owner a ≡ some a → Ready N (reads owner current) done a → Done done → All P (current a)
+  pub ready-all : (done : ℕ → Bool) (a : ℕ) → owner a ≡ some a → Ready N (reads owner current) done a → Done done
+      → (j : ℕ) → List·Memᴰ j (current a) → P j
   unfolding reads
-  ready-all done a e ready h = collect (current a) done h (λ b low r. ready .has b low (rw (owns-own owner a a e) r))
+  ready-all done a e ready h j m = go (owner j) refl
+    where
+      go : (o : Option ℕ) → owner j ≡ o → P j
+      go none q = sources j q
+      go (some b) q =
+          let low = owned .low b b (owned .first j b q) in
+          let read = any-mem (owns owner b) m (owns-own owner b j q) in
+          h j b q (ready .has b low (rw (owns-own owner a a e) read))
 
 -- A relation that the equations keep holds between two solutions.
 module _ {A B : Type 0} (N : ℕ) (owner : ℕ → Option ℕ) (owned : Owned N owner) (current : ℕ → List ℕ)
@@ -148,10 +142,13 @@ module _ {A : Type 0} (N : ℕ) (owner : ℕ → Option ℕ) (owned : Owned N ow
   Settled : (ℕ → Bool) → ℕ → Type 0
   Settled done j = (b : ℕ) → owner j ≡ some b → done b ≡ true
 
+  AllSettled : (ℕ → Bool) → ℕ → Type 0
+  AllSettled done a = (j : ℕ) → List·Memᴰ j (current a) → Settled done j
+
   record Inv (done : ℕ → Bool) (val : ℕ → A) : Type 0 where
     sources : (i : ℕ) → owner i ≡ none → val i ≡ given i
     own : (i a : ℕ) → owner i ≡ some a → done a ≡ true → val i ≡ F i val
-    closed : (a : ℕ) → owner a ≡ some a → done a ≡ true → All (Settled done) (current a)
+    closed : (a : ℕ) → owner a ≡ some a → done a ≡ true → AllSettled done a
 
   module _ (done : ℕ → Bool) (val : ℕ → A) (v : Inv done val) (b : ℕ) (ready : Ready N (reads owner current) done b) where
     fill-own : (i : ℕ) → owner i ≡ some b → fill owner F b val i ≡ F i val
@@ -174,22 +171,24 @@ module _ {A : Type 0} (N : ℕ) (owner : ℕ → Option ℕ) (owned : Owned N ow
     unfolding Settled
     settled-mark j s c e = mark-keeps done b c (s c e)
 
-    same : (i a : ℕ) → owner i ≡ some a → All (Settled done) (current a) → F i val ≡ F i (fill owner F b val)
-    same i a e h = local i a e val (fill owner F b val) (all-map (current a) settled-same h)
+    same : (i a : ℕ) → owner i ≡ some a → AllSettled done a → F i val ≡ F i (fill owner F b val)
+    unfolding AllSettled
+    same i a e h = local i a e val (fill owner F b val) (λ j m. settled-same j (h j m))
 
-    settled : owner b ≡ some b → All (Settled done) (current b)
-    unfolding Settled
+    settled : owner b ≡ some b → AllSettled done b
+    unfolding Settled AllSettled
     settled e =
         ready-all N owner owned current (Settled done) (λ j q c e. absurd (none≢some (sym q ∙ e))) done b e ready (λ j b q d c e. rw (some-inj (sym q ∙ e)) at d)
 
     next : Inv (mark done b) (fill owner F b val)
+    unfolding AllSettled
     next = record {
       sources = λ i e. sym (fill-other i (λ q. none≢some (sym e ∙ q))) ∙ v .sources i e;
       own = λ i a e d. own i a e d (ℕ-discrete a b);
-      closed = λ a e d. all-map (current a) settled-mark (closed a e d (ℕ-discrete a b));
+      closed = λ a e d j m. settled-mark j (closed a e d (ℕ-discrete a b) j m);
     }
       where
-        closed : (a : ℕ) → owner a ≡ some a → mark done b a ≡ true → Dec (a ≡ b) → All (Settled done) (current a)
+        closed : (a : ℕ) → owner a ≡ some a → mark done b a ≡ true → Dec (a ≡ b) → AllSettled done a
         closed a e d (yes p) = rw p (settled (rw p at e))
         closed a e d (no p) = v .closed a e (rw (mark-other done b a p) at d)
 

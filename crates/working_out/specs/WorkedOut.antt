@@ -1,0 +1,75 @@
+-- For an accepted list without a current loop: working out ends with a trit on every node, solves the design's equations, is the
+-- only solution, and turning given Xs into 0 or 1 changes no trit that was 0 or 1.
+use mathlib.Core.Path.{_≡_, refl}
+use mathlib.Core.Bool.{Bool, true, false, false≢true}
+use Prim.Native.Nat.{ℕ, _+_}
+use lib.ListN.{length}
+use Rattle.logic.specs.Table.{length-tab}
+use Rattle.logic.specs.declared.Trit.{Trit}
+use Rattle.logic.specs.declared.Trit.the-variants.{Zero, One, Undef}
+use Rattle.cell.specs.Cell.{Cell, outputLen}
+use Rattle.cell.specs.Cell as c
+use Rattle.cell.specs.Design.{Design}
+use Rattle.rules.specs.CellRule.{Trits, outputs}
+use Rattle.rules.specs.Refine.{Refines, refine-at}
+use Rattle.rules.specs.Local.{cellRule-monotone, cellRule-local}
+use Rattle.working_out.specs.Reading.{readsPast, source, asserted}
+use Rattle.working_out.specs.Laid.{Laid, MayReplace}
+use Rattle.working_out.specs.Width.{rule-width}
+use Rattle.working_out.specs.Loop.{hasLoop}
+use Rattle.working_out.specs.Equations.{Wide, CellKeeps, CellLocal}
+use Rattle.working_out.specs.Solutions.{related-by, worked-out-by, only-by}
+use Rattle.working_out.specs.WorkingOut.{tritRule, workedOut, Solves}
+
+-- An asserted cell has a rule, and is no IoBuf.
+asserted-rule : (a : Cell) → asserted a ≡ true → MayReplace a
+asserted-rule c.void e = absurd (false≢true e)
+asserted-rule c.note e = absurd (false≢true e)
+asserted-rule (c.input n) e = absurd (false≢true e)
+asserted-rule (c.ioBuf n) e = absurd (false≢true e)
+asserted-rule (c.unary op a) e = tt
+asserted-rule (c.binary op a b) e = tt
+asserted-rule (c.mux s a b) e = tt
+asserted-rule (c.adc a b carry) e = tt
+asserted-rule (c.aig a b) e = tt
+asserted-rule (c.shift op value amount stride) e = tt
+asserted-rule (c.match value enable patterns) e = tt
+asserted-rule (c.assign value enable update offset) e = tt
+asserted-rule (c.dff f) e = tt
+
+never-ioBuf : (a : Cell) → asserted a ≡ true → (n : ℕ) → a ≡ c.ioBuf n → ⊥
+never-ioBuf a h n e = false≢true (rw e at h)
+
+-- ---- The rules of cells, on trits: their widths, what they look at, and that they keep refinement.
+pub trit-wide : (d : Design) (was : ℕ → Trit) → Wide (tritRule d was) d
+trit-wide d was s a shaped h now =
+    rule-width (readsPast d) (record { now = now; was = was }) (outputs s (outputLen a)) a shaped (asserted-rule a h)
+    (length-tab (outputLen a) (λ o. s + o))
+
+pub trit-local : (d : Design) (was : ℕ → Trit) → CellLocal d (tritRule d was)
+trit-local d was s a h σ τ k =
+    cellRule-local (readsPast d) (record { now = σ; was = was }) (record { now = τ; was = was }) (outputs s (outputLen a)) a
+    (record { now = k; was = λ i. refl }) (λ n e. absurd (never-ioBuf a h n e))
+
+pub trit-keeps : (d : Design) (was was′ : ℕ → Trit) → ((i : ℕ) → Refines (was i) (was′ i))
+    → CellKeeps d Undef Undef (tritRule d was) (tritRule d was′) Refines
+trit-keeps d was was′ refined s a h σ τ k o =
+    refine-at
+    (cellRule-monotone (readsPast d) (record { now = σ; was = was }) (record { now = τ; was = was′ }) (outputs s (outputLen a)) a
+    (record { now = k; was = refined }) (λ n e. absurd (never-ioBuf a h n e)))
+    o Undef Undef tt
+
+-- ---- The theorems.
+module _ (d : Design) (laid : Laid d) (no-loop : hasLoop d ≡ false) where
+  pub worked-out : (g : Trits) → Solves d g (workedOut d g)
+  worked-out g = worked-out-by d laid no-loop (tritRule d (g .was)) Undef (trit-wide d (g .was)) (trit-local d (g .was)) (g .now)
+
+  pub only : (g : Trits) (now : ℕ → Trit) → Solves d g now → (i : ℕ) → now i ≡ workedOut d g i
+  only g now = only-by d laid no-loop (tritRule d (g .was)) Undef (trit-wide d (g .was)) (trit-local d (g .was)) (g .now) now
+
+  -- Turning given Xs into 0 or 1 changes no current trit that was 0 or 1, be joined flip-flops alike or not.
+  pub monotone : (g g′ : Trits) → ((i : ℕ) → source d i ≡ true → Refines (g .now i) (g′ .now i))
+      → ((i : ℕ) → Refines (g .was i) (g′ .was i)) → (i : ℕ) → Refines (workedOut d g i) (workedOut d g′ i)
+  monotone g g′ now was =
+      related-by d laid (tritRule d (g .was)) (tritRule d (g′ .was)) Undef Undef Refines no-loop (trit-wide d (g .was)) (trit-wide d (g′ .was))
+      (trit-keeps d (g .was) (g′ .was) was) (g .now) (workedOut d g) (g′ .now) (workedOut d g′) (worked-out g) (worked-out g′) now
