@@ -3,6 +3,7 @@ pub mod Rules
 pub mod CellRule
 pub mod Reads
 pub mod Starred
+pub mod Cases
 pub mod Number
 pub mod Refine
 pub mod Monotone
