@@ -6,5 +6,6 @@ pub mod Starred
 pub mod Cases
 pub mod Number
 pub mod Refine
+pub mod Ripple
 pub mod Monotone
 pub mod Local

@@ -1,6 +1,6 @@
 -- Document 01, "Reading nets": refinement, of trits and of vectors. A vector is refined by turning Xs into 0 or 1.
 use mathlib.Core.Path.{_≡_, refl, ap, ap₂}
-use mathlib.Core.Bool.{Bool, true, false, _||_, true≢false}
+use mathlib.Core.Bool.{Bool, true, false, _&&_, _||_, true≢false}
 use mathlib.Core.List.{List, [], _∷_, _++_, map}
 use Prim.Native.Nat.{ℕ, zero, suc, _+_, _-_, _≤_, _<_, suc-le-suc}
 use native.Mathlib.Nat.{zero-lt-suc}
@@ -10,7 +10,7 @@ use Rattle.logic.specs.Table.{zipWith, tab}
 use Rattle.logic.specs.declared.Trit.{Trit}
 use Rattle.logic.specs.declared.Trit.the-variants.{Zero, One, Undef}
 use Rattle.rules.specs.Trits.{refines, isX, anyX}
-use Rattle.rules.specs.Cases.{allT, all₁, all₂}
+use Rattle.rules.specs.Cases.{allT, all₁, all₂, all₃, and-first, and-second}
 
 -- Where the first is defined, the second is the same trit.
 abbrev pub Refines : Trit → Trit → Type 0
@@ -54,6 +54,17 @@ refines-defined One Zero h e = absurd h
 refines-defined One One h e = refl
 refines-defined One Undef h e = absurd h
 refines-defined Undef b h e = absurd (true≢false e)
+
+-- Two functions of three trits are equal if they are so on all of them: each refines the other.
+abbrev same : Trit → Trit → Bool
+same a b = refines a b && refines b a
+
+pub equal₃ : (f g : Trit → Trit → Trit → Trit) → T (allT λ a. allT λ b. allT λ c. same (f a b c) (g a b c))
+    → (a b c : Trit) → f a b c ≡ g a b c
+equal₃ f g h a b c =
+    let both = all₃ (λ a b c. same (f a b c) (g a b c)) h a b c in
+    refines-antisym (f a b c) (g a b c) (and-first (refines (f a b c) (g a b c)) (refines (g a b c) (f a b c)) both)
+    (and-second (refines (f a b c) (g a b c)) (refines (g a b c) (f a b c)) both)
 
 -- ---- Functions of single trits: a test of all trits, computed, makes them monotone.
 -- What f gives of X is refined by what it gives of any trit.
