@@ -9,3 +9,4 @@ pub mod Refine
 pub mod Ripple
 pub mod Monotone
 pub mod Local
+pub mod Shape

@@ -91,7 +91,7 @@ strict {a} {a′} {b} {b′} h k n result width = go (anyX a || anyX b) refl
         let none = f.neither (anyX a) (anyX b) e in
         rw (← f.refine-defined h (none .0), ← f.refine-defined k (none .1), e) (f.refine-same (result a b))
 
-cond-length : (x : Bool) (n : ℕ) (u v : List Trit) → length u ≡ n → length v ≡ n → length (cond x u v) ≡ n
+pub cond-length : (x : Bool) (n : ℕ) (u v : List Trit) → length u ≡ n → length v ≡ n → length (cond x u v) ≡ n
 cond-length true n u v p q = p
 cond-length false n u v p q = q
 
