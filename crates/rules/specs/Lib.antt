@@ -6,7 +6,9 @@ pub mod Starred
 pub mod Cases
 pub mod Number
 pub mod Refine
+pub mod Width
 pub mod Ripple
 pub mod Monotone
 pub mod Local
 pub mod Shape
+pub mod Laws
