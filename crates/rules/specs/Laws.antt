@@ -1,17 +1,19 @@
 -- Document 01's sentences on the Dff and on Match, where their controls are defined. The order of a Dff's steps, and what is hot.
 use mathlib.Core.Path.{_≡_, refl, sym, ap, _∙_}
-use mathlib.Core.Bool.{Bool, true, false, cond}
+use mathlib.Core.Bool.{Bool, true, false, cond, true≢false}
 use mathlib.Core.List.{List, [], _∷_, _++_, map}
 use Prim.Native.Nat.{ℕ, zero, suc, _+_}
 use native.Mathlib.Nat.{suc-inj, suc-ne-zero, zero-add, add-zero, add-suc, suc-add}
 use lib.ListN.{length, replicate, length-append}
+use Rattle.logic.specs.Net.{Net, constant, slot}
 use Rattle.logic.specs.declared.Trit.{Trit}
 use Rattle.logic.specs.declared.Trit.the-variants.{Zero, One, Undef}
+use Rattle.cell.specs.Cell.{Control, FlipFlop}
 use Rattle.rules.specs.Trits as t
 use Rattle.rules.specs.Rules as r
+use Rattle.rules.specs.CellRule.{Trits, ofNet, control, inactive, hasClear, edge}
 use Rattle.rules.specs.Width as w
-use Rattle.rules.specs.Width.{Width, InputsWidth}
-use Rattle.rules.specs.Shape.{Each}
+use Rattle.rules.specs.Width.{Each, Width, InputsWidth}
 
 -- 1 takes the first side, 0 the second.
 pub mux-one : {n : ℕ} {a b : List Trit} → Width n a → Width n b → r.mux One a b ≡ a
@@ -64,6 +66,43 @@ module _ (n : ℕ) (f : r.FlipFlopInputs) (width : InputsWidth n f) where
           ≡ f .dat
       go true = mux-zero (width .resetValue) (w.mux-width One (width .dat) (width .past)) ∙ mux-one (width .dat) (width .past)
       go false = mux-one (w.mux-width Zero (width .resetValue) (width .dat)) (width .past) ∙ mux-zero (width .resetValue) (width .dat)
+
+-- The edge: active now and not before.
+module _ (readsPast : ℕ → Bool) (θ : Trits) (clock : Control) where
+  abbrev now : Trit
+  now = control (ofNet (θ .now)) clock
+
+  abbrev before : Trit
+  before = control (ofNet (θ .was)) clock
+
+  pub edge-rising : now ≡ One → before ≡ Zero → edge readsPast θ clock ≡ One
+  edge-rising a b = rw (a, b)
+
+  pub edge-inactive : now ≡ Zero → edge readsPast θ clock ≡ Zero
+  edge-inactive a = rw a
+
+  pub edge-steady : before ≡ One → edge readsPast θ clock ≡ Zero
+  edge-steady b = rw b (zero now)
+    where
+      zero : (a : Trit) → t.and a Zero ≡ Zero
+      zero Zero = refl
+      zero One = refl
+      zero Undef = refl
+
+-- A clear that is constantly inactive reads 0: leaving its step out changes nothing.
+pub never-clears : (g : ℕ → Trit) (f : FlipFlop) → hasClear f ≡ false → control (ofNet g) (f .clear) ≡ Zero
+never-clears g f e = go (f .clear .inverted) (f .clear .net) e
+  where
+    go : (inverted : Bool) (n : Net) → mathlib.Core.Bool.not (inactive inverted n) ≡ false
+        → cond inverted (t.not (ofNet g n)) (ofNet g n) ≡ Zero
+    go false (constant Zero) e = refl
+    go false (constant One) e = absurd (true≢false e)
+    go false (constant Undef) e = absurd (true≢false e)
+    go false (slot i) e = absurd (true≢false e)
+    go true (constant Zero) e = absurd (true≢false e)
+    go true (constant One) e = refl
+    go true (constant Undef) e = absurd (true≢false e)
+    go true (slot i) e = absurd (true≢false e)
 
 -- ---- Match. An X in a pattern is not compared: an alternate of Xs matches every value.
 pub all-X-matches : (n : ℕ) (value : List Trit) → r.alternate value (replicate n Undef) ≡ One

@@ -3,12 +3,12 @@ pub mod Rules
 pub mod CellRule
 pub mod Reads
 pub mod Starred
+pub mod Width
+pub mod Laws
 pub mod Cases
 pub mod Number
 pub mod Refine
-pub mod Width
 pub mod Ripple
 pub mod Monotone
 pub mod Local
 pub mod Shape
-pub mod Laws

@@ -8,15 +8,10 @@ use Rattle.logic.specs.Net.{Net}
 use Rattle.logic.specs.declared.Trit.{Trit}
 use Rattle.cell.specs.Cell.{Cell, Binary, Shift, FlipFlop, outputLen}
 use Rattle.cell.specs.Cell as c
+use Rattle.rules.specs.Rules as r
 use Rattle.rules.specs.CellRule.{Trits, read, asRead, flipFlopInputs, cellRule}
-use Rattle.rules.specs.Width.{Width, InputsWidth, unary-width, binary-width, mux-width, adc-width, shift-width}
-use Rattle.rules.specs.Width.{match-width, assign-width, dff-width}
-
--- A statement about each element of a list.
-module _ {A : Type 0} where
-  abbrev pub Each : (A → Type 0) → List A → Type 0
-  Each P [] = Unit {0}
-  Each P (x ∷ l) = P x × Each P l
+use Rattle.rules.specs.Width.{Each, Width, InputsWidth, unary-width, binary-width, mux-width, adc-width, shift-width}
+use Rattle.rules.specs.Width.{cond-width, match-width, assign-width, clocked-width}
 
 -- Fault 7: Eq, ULt, SLt and SShr have at least one net.
 abbrev pub Wide : Binary → ℕ → Type 0
@@ -53,6 +48,10 @@ Shaped (c.dff f) = (length (f .clearValue) ≡ length (f .dat)) × (length (f .r
 -- ---- The rule of an accepted cell gives a trit for each of its output slots; an Input has none.
 map-width : {A : Type 0} (f : A → Trit) (a : List A) (n : ℕ) → length a ≡ n → Width n (map f a)
 map-width f a n e = record { is = length-map a f ∙ e }
+
+dff-width : (n : ℕ) (f : r.FlipFlopInputs) → InputsWidth n f → Width n (r.dff f)
+dff-width n f w =
+    cond-width (f .hasClear) (mux-width (f .clear) (w .clearValue) (clocked-width n f w)) (clocked-width n f w)
 
 module _ (readsPast : ℕ → Bool) (θ : Trits) where
   vector : (a : List Net) (n : ℕ) → length a ≡ n → Width n (map (read readsPast θ) a)

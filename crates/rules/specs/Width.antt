@@ -15,6 +15,12 @@ use Rattle.rules.specs.Trits as t
 use Rattle.rules.specs.Trits.{anyX, number}
 use Rattle.rules.specs.Rules as r
 
+-- A statement about each element of a list.
+module _ {A : Type 0} where
+  abbrev pub Each : (A → Type 0) → List A → Type 0
+  Each P [] = Unit {0}
+  Each P (x ∷ l) = P x × Each P l
+
 -- A vector of n trits.
 pub record Width (n : ℕ) (a : List Trit) : Type 0 where
   pub is : length a ≡ n
@@ -101,6 +107,3 @@ module _ (n : ℕ) (f : r.FlipFlopInputs) (w : InputsWidth n f) where
 
   pub clocked-width : Width n (r.clocked f)
   clocked-width = mux-width (f .edge) loaded-width (w .past)
-
-  pub dff-width : Width n (r.dff f)
-  dff-width = cond-width (f .hasClear) (mux-width (f .clear) (w .clearValue) clocked-width) clocked-width
