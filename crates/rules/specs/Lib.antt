@@ -2,7 +2,7 @@ pub mod Trits
 pub mod Rules
 pub mod CellRule
 pub mod Reads
-pub mod Starred
+pub mod Examples
 pub mod Width
 pub mod Laws
 pub mod Cases
