@@ -4,8 +4,8 @@ use mathlib.Core.Bool.{Bool, true, false, cond, _||_, true≢false}
 use mathlib.Core.List.{List, [], _∷_, _++_, map, List·Memᴰ, List·Memᴰ·head, List·Memᴰ·tail, Memᴰ·append-left, Memᴰ·append-right}
 use Prim.Native.Nat.{ℕ, zero, suc, _+_, _-_, _*_, _/_, _%_, _^_}
 use lib.Dec.{T, ltb}
-use lib.ListN.{length, getD, take, drop, replicate, length-replicate}
-use Rattle.logic.specs.Table.{zipWith, tab, length-tab}
+use lib.ListN.{length, getD, take, drop, replicate}
+use Rattle.logic.specs.Table.{zipWith, tab}
 use Rattle.logic.specs.Net.{Net}
 use Rattle.logic.specs.declared.Trit.{Trit}
 use Rattle.logic.specs.declared.Trit.the-variants.{Zero, One, Undef}
@@ -16,6 +16,7 @@ use Rattle.rules.specs.Reads.{compared, comparedByAny, comparedNets}
 use Rattle.rules.specs.Number.{sum-low}
 use Rattle.rules.specs.Refine.{Refines, Refine, empty, both}
 use Rattle.rules.specs.Refine as f
+use Rattle.rules.specs.Width.{Width, cond-width, tab-width, replicate-width, shift-width}
 use Rattle.cell.specs.Cell.{Unary, Binary, Shift}
 use Rattle.cell.specs.Cell as c
 
@@ -82,18 +83,14 @@ eq-monotone {a} {a′} {b} {b′} h k = go (r.anyMismatch a b) (anyX a || anyX b
 
 -- ---- ULt, SLt, Mul: of operands with an X all is X, which every vector of the width refines.
 strict : {a a′ b b′ : List Trit} → Refine a a′ → Refine b b′ → (n : ℕ) (result : List Trit → List Trit → List Trit)
-    → length (r.defined a′ b′ n (result a′ b′)) ≡ n → Refine (r.defined a b n (result a b)) (r.defined a′ b′ n (result a′ b′))
+    → Width n (r.defined a′ b′ n (result a′ b′)) → Refine (r.defined a b n (result a b)) (r.defined a′ b′ n (result a′ b′))
 strict {a} {a′} {b} {b′} h k n result width = go (anyX a || anyX b) refl
   where
     go : (x : Bool) → (anyX a || anyX b) ≡ x → Refine (cond x (replicate n Undef) (result a b)) (r.defined a′ b′ n (result a′ b′))
-    go true e = rw width at (f.refine-allX (r.defined a′ b′ n (result a′ b′)))
+    go true e = rw (width .is) at (f.refine-allX (r.defined a′ b′ n (result a′ b′)))
     go false e =
         let none = f.neither (anyX a) (anyX b) e in
         rw (← f.refine-defined h (none .0), ← f.refine-defined k (none .1), e) (f.refine-same (result a b))
-
-cond-length : (x : Bool) (n : ℕ) (u v : List Trit) → length u ≡ n → length v ≡ n → length (cond x u v) ≡ n
-cond-length true n u v p q = p
-cond-length false n u v p q = q
 
 pub binary-monotone : (op : Binary) {a a′ b b′ : List Trit} → Refine a a′ → Refine b b′ → Refine (r.binary op a b) (r.binary op a′ b′)
 binary-monotone c.and h k = f.refine-zip t.and t.and and-monotone h k
@@ -101,12 +98,12 @@ binary-monotone c.or h k = f.refine-zip t.or t.or or-monotone h k
 binary-monotone c.xor h k = f.refine-zip t.xor t.xor xor-monotone h k
 binary-monotone c.eq h k = both (eq-monotone h k) empty
 binary-monotone c.ult {a′ = a′} {b′ = b′} h k =
-    strict h k 1 (λ a b. trit (r.less a b) ∷ []) (cond-length (anyX a′ || anyX b′) 1 (Undef ∷ []) _ refl refl)
+    strict h k 1 (λ a b. trit (r.less a b) ∷ []) (cond-width (anyX a′ || anyX b′) (replicate-width 1 Undef) (record { is = refl }))
 binary-monotone c.slt {a′ = a′} {b′ = b′} h k =
-    strict h k 1 (λ a b. trit (r.signedLess a b) ∷ []) (cond-length (anyX a′ || anyX b′) 1 (Undef ∷ []) _ refl refl)
+    strict h k 1 (λ a b. trit (r.signedLess a b) ∷ []) (cond-width (anyX a′ || anyX b′) (replicate-width 1 Undef) (record { is = refl }))
 binary-monotone c.mul {a} {a′} {b′ = b′} h k =
     rw (← f.refine-length h) (strict h k (length a) (λ x y. r.trits (length a) (number x * number y))
-    (cond-length (anyX a′ || anyX b′) (length a) _ _ (length-replicate (length a) Undef) (length-tab (length a) _)))
+    (cond-width (anyX a′ || anyX b′) (replicate-width (length a) Undef) (tab-width (length a) _)))
 
 -- ---- Adc: bit i without X reads only defined trits, and those stay.
 pub adc-monotone : {a a′ b b′ : List Trit} → Refine a a′ → Refine b b′ → (c c′ : Trit) → Refines c c′
@@ -154,23 +151,15 @@ shifted-monotone c.sshr k {a} {a′} h =
     (rw (← f.refine-length h) (f.refine-at h (length a - 1) Undef Undef tt)) h
 shifted-monotone c.xshr k h = right-monotone Undef Undef k tt h
 
-pub shifted-length : (op : Shift) (k : ℕ) (a : List Trit) → length (r.shifted op k a) ≡ length a
-shifted-length c.shl k a = length-tab (length a) _
-shifted-length c.ushr k a = length-tab (length a) _
-shifted-length c.sshr k a = length-tab (length a) _
-shifted-length c.xshr k a = length-tab (length a) _
-
-pub shift-length : (op : Shift) (a b : List Trit) (stride : ℕ) → length (r.shift op a b stride) ≡ length a
-shift-length op a b stride =
-    cond-length (anyX b) (length a) _ _ (length-replicate (length a) Undef) (shifted-length op (number b * stride) a)
-
 pub shift-monotone : (op : Shift) {a a′ b b′ : List Trit} → Refine a a′ → Refine b b′ → (stride : ℕ)
     → Refine (r.shift op a b stride) (r.shift op a′ b′ stride)
 shift-monotone op {a} {a′} {b} {b′} h k stride = go (anyX b) refl
   where
     go : (x : Bool) → anyX b ≡ x
         → Refine (cond x (replicate (length a) Undef) (r.shifted op (number b * stride) a)) (r.shift op a′ b′ stride)
-    go true e = rw (shift-length op a′ b′ stride ∙ sym (f.refine-length h)) at (f.refine-allX (r.shift op a′ b′ stride))
+    go true e =
+        let width = shift-width op {n = length a} {a = a′} (record { is = sym (f.refine-length h) }) b′ stride in
+        rw (width .is) at (f.refine-allX (r.shift op a′ b′ stride))
     go false e = rw (← f.refine-defined k e, e) (shifted-monotone op (number b * stride) h)
 
 -- ---- Assign.

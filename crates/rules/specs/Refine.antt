@@ -10,6 +10,7 @@ use Rattle.logic.specs.Table.{zipWith, tab}
 use Rattle.logic.specs.declared.Trit.{Trit}
 use Rattle.logic.specs.declared.Trit.the-variants.{Zero, One, Undef}
 use Rattle.rules.specs.Trits.{refines, isX, anyX}
+use Rattle.rules.specs.Cases.{allT, all₁, all₂, all₃, and-first, and-second}
 
 -- Where the first is defined, the second is the same trit.
 abbrev pub Refines : Trit → Trit → Type 0
@@ -54,29 +55,24 @@ refines-defined One One h e = refl
 refines-defined One Undef h e = absurd h
 refines-defined Undef b h e = absurd (true≢false e)
 
+-- Two functions of three trits are equal if they are so on all of them: each refines the other.
+abbrev same : Trit → Trit → Bool
+same a b = refines a b && refines b a
+
+pub equal₃ : (f g : Trit → Trit → Trit → Trit) → T (allT λ a. allT λ b. allT λ c. same (f a b c) (g a b c))
+    → (a b c : Trit) → f a b c ≡ g a b c
+equal₃ f g h a b c =
+    let both = all₃ (λ a b c. same (f a b c) (g a b c)) h a b c in
+    refines-antisym (f a b c) (g a b c) (and-first (refines (f a b c) (g a b c)) (refines (g a b c) (f a b c)) both)
+    (and-second (refines (f a b c) (g a b c)) (refines (g a b c) (f a b c)) both)
+
 -- ---- Functions of single trits: a test of all trits, computed, makes them monotone.
-abbrev allT : (Trit → Bool) → Bool
-allT p = p Zero && (p One && p Undef)
-
-and-first : (a b : Bool) → T (a && b) → T a
-and-first true b h = tt
-and-first false b h = absurd h
-
-and-second : (a b : Bool) → T (a && b) → T b
-and-second true b h = h
-and-second false b h = absurd h
-
-allT-at : (p : Trit → Bool) → T (allT p) → (t : Trit) → T (p t)
-allT-at p h Zero = and-first (p Zero) (p One && p Undef) h
-allT-at p h One = and-first (p One) (p Undef) (and-second (p Zero) (p One && p Undef) h)
-allT-at p h Undef = and-second (p One) (p Undef) (and-second (p Zero) (p One && p Undef) h)
-
 -- What f gives of X is refined by what it gives of any trit.
 abbrev pub lowestAtX : (Trit → Trit) → Bool
 lowestAtX f = allT λ t. refines (f Undef) (f t)
 
 pub monotone₁ : (f : Trit → Trit) → T (lowestAtX f) → (a b : Trit) → Refines a b → Refines (f a) (f b)
-monotone₁ f low Undef b h = allT-at (λ t. refines (f Undef) (f t)) low b
+monotone₁ f low Undef b h = all₁ (λ t. refines (f Undef) (f t)) low b
 monotone₁ f low Zero Zero h = refines-same (f Zero)
 monotone₁ f low Zero One h = absurd h
 monotone₁ f low Zero Undef h = absurd h
@@ -85,21 +81,22 @@ monotone₁ f low One One h = refines-same (f One)
 monotone₁ f low One Undef h = absurd h
 
 module _ (f : Trit → Trit → Trit) where
-  pub monotone₂ : T (allT λ c. lowestAtX λ t. f t c) → T (allT λ b. lowestAtX (f b))
+  pub monotone₂ : T (allT λ c. lowestAtX λ t. f t c) → T (allT λ b. lowestAtX λ t. f b t)
       → (a b c d : Trit) → Refines a b → Refines c d → Refines (f a c) (f b d)
   monotone₂ low₁ low₂ a b c d h k =
       refines-trans (f a c) (f b c) (f b d)
-      (monotone₁ (λ t. f t c) (allT-at (λ c. lowestAtX λ t. f t c) low₁ c) a b h)
-      (monotone₁ (f b) (allT-at (λ b. lowestAtX (f b)) low₂ b) c d k)
+      (monotone₁ (λ t. f t c) (all₁ (λ c. lowestAtX λ t. f t c) low₁ c) a b h)
+      (monotone₁ (f b) (all₁ (λ b. lowestAtX (f b)) low₂ b) c d k)
 
 module _ (f : Trit → Trit → Trit → Trit) where
   pub monotone₃ : T (allT λ c. allT λ e. lowestAtX λ t. f t c e)
-      → T (allT λ b. allT λ e. lowestAtX λ t. f b t e) → T (allT λ b. allT λ d. lowestAtX (f b d))
+      → T (allT λ b. allT λ e. lowestAtX λ t. f b t e) → T (allT λ b. allT λ d. lowestAtX λ t. f b d t)
       → (a b c d e g : Trit) → Refines a b → Refines c d → Refines e g → Refines (f a c e) (f b d g)
   monotone₃ low₁ low₂ low₃ a b c d e g h k l =
       refines-trans (f a c e) (f b c e) (f b d g)
-      (monotone₁ (λ t. f t c e) (allT-at (λ e. lowestAtX λ t. f t c e) (allT-at (λ c. allT λ e. lowestAtX λ t. f t c e) low₁ c) e) a b h)
-      (monotone₂ (f b) (allT-at (λ b. allT λ e. lowestAtX λ t. f b t e) low₂ b) (allT-at (λ b. allT λ d. lowestAtX (f b d)) low₃ b) c d e g k l)
+      (monotone₁ (λ t. f t c e) (all₂ (λ c e. lowestAtX λ t. f t c e) low₁ c e) a b h)
+      (monotone₂ (f b) (all₁ (λ b. allT λ e. lowestAtX λ t. f b t e) low₂ b)
+      (all₁ (λ b. allT λ d. lowestAtX (f b d)) low₃ b) c d e g k l)
 
 -- ---- Vectors.
 pub refine-same : (a : List Trit) → Refine a a

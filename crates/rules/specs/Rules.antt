@@ -25,13 +25,16 @@ unary c.not a = map t.not a
 abbrev pub mux : Trit → List Trit → List Trit → List Trit
 mux s a b = zipWith (t.mux s) a b
 
--- Adc: bit i is X if carry-in or any operand bit up to i is (the top bit if any is), else the sum's bit; n = 0 gives the carry.
-abbrev pub adc : List Trit → List Trit → Trit → List Trit
-adc a b carry =
-    tab (length a + 1) (λ i.
+-- Adc: bit i is X if carry-in or any operand bit up to i is (the top bit if any is), else the sum's bit; n = 0 gives the
+-- carry.
+abbrev pub adcBit : List Trit → List Trit → Trit → ℕ → Trit
+adcBit a b carry i =
     cond (isX carry || (anyX (take (i + 1) a) || anyX (take (i + 1) b)))
     Undef
-    (bitAt (number a + number b + digit carry) i))
+    (bitAt (number a + number b + digit carry) i)
+
+abbrev pub adc : List Trit → List Trit → Trit → List Trit
+adc a b carry = tab (length a + 1) (adcBit a b carry)
 
 -- Are both defined, and differ? And is there a position at which they do?
 abbrev pub mismatch : Trit → Trit → Bool

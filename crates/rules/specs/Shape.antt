@@ -1,0 +1,88 @@
+-- Document 01, "Words" and "Faults": the widths of an accepted cell, and with them the width of what its rule gives.
+use mathlib.Core.Path.{_≡_, refl, _∙_}
+use mathlib.Core.Bool.{Bool}
+use mathlib.Core.List.{List, [], _∷_, map}
+use Prim.Native.Nat.{ℕ, _+_, _≤_, _<_}
+use lib.ListN.{length, length-map}
+use Rattle.logic.specs.Net.{Net}
+use Rattle.logic.specs.declared.Trit.{Trit}
+use Rattle.cell.specs.Cell.{Cell, Binary, Shift, FlipFlop, outputLen}
+use Rattle.cell.specs.Cell as c
+use Rattle.rules.specs.Rules as r
+use Rattle.rules.specs.CellRule.{Trits, read, asRead, flipFlopInputs, cellRule}
+use Rattle.rules.specs.Width.{Each, Width, InputsWidth, unary-width, binary-width, mux-width, adc-width, shift-width}
+use Rattle.rules.specs.Width.{cond-width, match-width, assign-width, clocked-width}
+
+-- Fault 7: Eq, ULt, SLt and SShr have at least one net.
+abbrev pub Wide : Binary → ℕ → Type 0
+Wide c.and n = Unit {0}
+Wide c.or n = Unit {0}
+Wide c.xor n = Unit {0}
+Wide c.mul n = Unit {0}
+Wide c.eq n = 0 < n
+Wide c.ult n = 0 < n
+Wide c.slt n = 0 < n
+
+abbrev pub WideShift : Shift → ℕ → Type 0
+WideShift c.shl n = Unit {0}
+WideShift c.ushr n = Unit {0}
+WideShift c.sshr n = 0 < n
+WideShift c.xshr n = Unit {0}
+
+-- Vectors under one #n have one width; fault 9: offset + u ≤ n.
+abbrev pub Shaped : Cell → Type 0
+Shaped c.void = Unit {0}
+Shaped c.note = Unit {0}
+Shaped (c.input n) = Unit {0}
+Shaped (c.ioBuf n) = Unit {0}
+Shaped (c.unary op a) = Unit {0}
+Shaped (c.binary op a b) = (length b ≡ length a) × Wide op (length a)
+Shaped (c.mux s a b) = length b ≡ length a
+Shaped (c.adc a b carry) = length b ≡ length a
+Shaped (c.aig a b) = Unit {0}
+Shaped (c.shift op value amount stride) = WideShift op (length value)
+Shaped (c.match value enable patterns) = Each (Each (λ alternate. length alternate ≡ length value)) patterns
+Shaped (c.assign value enable update offset) = offset + length update ≤ length value
+Shaped (c.dff f) = (length (f .clearValue) ≡ length (f .dat)) × (length (f .resetValue) ≡ length (f .dat))
+
+-- ---- The rule of an accepted cell gives a trit for each of its output slots; an Input has none.
+map-width : {A : Type 0} (f : A → Trit) (a : List A) (n : ℕ) → length a ≡ n → Width n (map f a)
+map-width f a n e = record { is = length-map a f ∙ e }
+
+dff-width : (n : ℕ) (f : r.FlipFlopInputs) → InputsWidth n f → Width n (r.dff f)
+dff-width n f w =
+    cond-width (f .hasClear) (mux-width (f .clear) (w .clearValue) (clocked-width n f w)) (clocked-width n f w)
+
+module _ (readsPast : ℕ → Bool) (θ : Trits) where
+  vector : (a : List Net) (n : ℕ) → length a ≡ n → Width n (map (read readsPast θ) a)
+  vector = map-width (read readsPast θ)
+
+  pub inputs-width : (f : FlipFlop) (out : List ℕ) → Shaped (c.dff f) → length out ≡ length (f .dat)
+      → InputsWidth (length (f .dat)) (flipFlopInputs readsPast θ f out)
+  inputs-width f out s e = record {
+    dat = vector (f .dat) (length (f .dat)) refl;
+    clearValue = record { is = s .0 };
+    resetValue = record { is = s .1 };
+    past = map-width (θ .was) out (length (f .dat)) e;
+  }
+
+  pub cellRule-width : (out : List ℕ) (cell : Cell) → Shaped cell → ((n : ℕ) → cell ≡ c.input n → ⊥)
+      → length out ≡ outputLen cell → Width (outputLen cell) (cellRule readsPast θ out cell)
+  cellRule-width out c.void s ruled e = record { is = refl }
+  cellRule-width out c.note s ruled e = record { is = refl }
+  cellRule-width out (c.input n) s ruled e = absurd (ruled n refl)
+  cellRule-width out (c.ioBuf n) s ruled e = map-width (asRead readsPast θ) out n e
+  cellRule-width out (c.unary op a) s ruled e = unary-width op (vector a (length a) refl)
+  cellRule-width out (c.binary op a b) s ruled e = binary-width op (vector a (length a) refl) (vector b (length a) (s .0))
+  cellRule-width out (c.mux sel a b) s ruled e =
+      mux-width (read readsPast θ sel) (vector a (length a) refl) (vector b (length a) s)
+  cellRule-width out (c.adc a b carry) s ruled e = adc-width (vector a (length a) refl) _ (read readsPast θ carry)
+  cellRule-width out (c.aig a b) s ruled e = record { is = refl }
+  cellRule-width out (c.shift op value amount stride) s ruled e =
+      shift-width op (vector value (length value) refl) _ stride
+  cellRule-width out (c.match value enable patterns) s ruled e = match-width _ (read readsPast θ enable) patterns
+  cellRule-width out (c.assign value enable update offset) s ruled e =
+      assign-width (vector value (length value) refl) (read readsPast θ enable) (map (read readsPast θ) update) offset
+      (rw (length-map update (read readsPast θ)) s)
+  cellRule-width out (c.dff f) s ruled e =
+      dff-width (length (f .dat)) (flipFlopInputs readsPast θ f out) (inputs-width f out s e)
