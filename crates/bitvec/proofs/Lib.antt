@@ -1,1 +1,2 @@
+mod Arithmetic
 mod Lemmas

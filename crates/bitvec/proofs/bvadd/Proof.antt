@@ -1,7 +1,7 @@
 -- `bitvec::bvadd` meets its contract: what passes 2 ^ 64 does not count at any width. Assumes nothing.
 use borrow.Author.Needs.{needs}
 use mathlib.Core.Path.{_∙_}
-use Rattle.bitvec.specs.WordLaws.{wrapped, word-bvadd}
+use Rattle.bitvec.proofs.Lemmas.{wrapped, word-bvadd}
 use Rattle.bitvec.proofs.bvadd.Statement.{statement}
 use Rattle.bitvec.proofs.bvadd.Tie as tie
 

@@ -1,7 +1,7 @@
 -- `bitvec::bvand` meets its contract: the and of the words, reduced, is that of the vectors. Assumes nothing.
 use borrow.Author.Needs.{needs}
 use mathlib.Core.Path.{_∙_}
-use Rattle.bitvec.specs.WordLaws.{exact, word-bvand}
+use Rattle.bitvec.proofs.Lemmas.{exact, word-bvand}
 use Rattle.bitvec.proofs.bvand.Statement.{statement}
 use Rattle.bitvec.proofs.bvand.Tie as tie
 

@@ -2,7 +2,7 @@
 use borrow.Author.Needs.{needs}
 use mathlib.Core.Path.{sym, ap, _∙_}
 use Rattle.bitvec.specs.Bits.{bit}
-use Rattle.bitvec.proofs.Lemmas.{comp-words}
+use Rattle.bitvec.proofs.Lemmas.{word-bvcomp}
 use Rattle.bitvec.proofs.bvcomp.Statement.{statement}
 use Rattle.bitvec.proofs.bvcomp.Tie as tie
 
@@ -13,13 +13,13 @@ returns : tie.Need-returns
 returns c =
     let test = c .before in
     let a = test .before .args in
-    ap bit (sym (c .if1 .taken) ∙ test .equal .ensures) ∙ comp-words (a .width) (a .s) (a .t)
+    ap bit (sym (c .if1 .taken) ∙ test .equal .ensures) ∙ word-bvcomp (a .width) (a .s) (a .t)
 
 returns-2 : tie.Need-returns-2
 returns-2 c =
     let test = c .before in
     let a = test .before .args in
-    ap bit (sym (c .if1 .left) ∙ test .equal .ensures) ∙ comp-words (a .width) (a .s) (a .t)
+    ap bit (sym (c .if1 .left) ∙ test .equal .ensures) ∙ word-bvcomp (a .width) (a .s) (a .t)
 
 pub bvcomp-spec : {M : Type 1} → statement M
 bvcomp-spec = tie.close (tie.spec equal-requires returns returns-2)

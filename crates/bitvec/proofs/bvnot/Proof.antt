@@ -2,7 +2,7 @@
 use borrow.Author.Needs.{needs}
 use native.Mathlib.Omega.{arith}
 use mathlib.Core.Path.{_∙_}
-use Rattle.bitvec.specs.WordLaws.{exact, word-bvnot}
+use Rattle.bitvec.proofs.Lemmas.{exact, word-bvnot}
 use Rattle.bitvec.proofs.bvnot.Statement.{statement}
 use Rattle.bitvec.proofs.bvnot.Tie as tie
 

@@ -1,7 +1,7 @@
 -- `bitvec::bvor` meets its contract: the or of the words, reduced, is that of the vectors. Assumes nothing.
 use borrow.Author.Needs.{needs}
 use mathlib.Core.Path.{_∙_}
-use Rattle.bitvec.specs.WordLaws.{exact, word-bvor}
+use Rattle.bitvec.proofs.Lemmas.{exact, word-bvor}
 use Rattle.bitvec.proofs.bvor.Statement.{statement}
 use Rattle.bitvec.proofs.bvor.Tie as tie
 

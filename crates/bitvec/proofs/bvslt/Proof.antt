@@ -1,8 +1,9 @@
--- `bitvec::bvslt` meets its contract: one sign leaves the order of the numbers, two leave the sign of s. Assumes nothing.
+-- `bitvec::bvslt` meets its contract: one sign leaves the order of the numbers, two leave the sign of s. Assumes
+-- nothing.
 use borrow.Author.Needs.{needs}
 use mathlib.Core.Bool.{true, false}
 use mathlib.Core.Path.{_∙_}
-use Rattle.bitvec.proofs.Lemmas.{slt-words}
+use Rattle.bitvec.proofs.Lemmas.{word-bvslt}
 use Rattle.bitvec.proofs.bvslt.Statement.{statement}
 use Rattle.bitvec.proofs.bvslt.Tie as tie
 
@@ -21,14 +22,14 @@ returns c =
     let signs = test .before in
     let a = signs .before .before .args in
     c .bvult .ensures
-    ∙ slt-words (a .width) (a .s) (a .t) _ _ true (signs .before .msb .ensures) (signs .msb2 .ensures) (test .if1 .taken)
+    ∙ word-bvslt (a .width) (a .s) (a .t) _ _ true (signs .before .msb .ensures) (signs .msb2 .ensures) (test .if1 .taken)
 
 returns-2 : tie.Need-returns-2
 returns-2 c =
     let signs = c .before in
     let sign = signs .before .msb .ensures in
     let a = signs .before .before .args in
-    sign ∙ slt-words (a .width) (a .s) (a .t) _ _ false sign (signs .msb2 .ensures) (c .if1 .left)
+    sign ∙ word-bvslt (a .width) (a .s) (a .t) _ _ false sign (signs .msb2 .ensures) (c .if1 .left)
 
 pub bvslt-spec : {M : Type 1} → statement M
 bvslt-spec = tie.close (tie.spec msb-requires msb-requires-2 bvult-requires returns returns-2)

@@ -1,7 +1,7 @@
 -- `bitvec::bvxor` meets its contract: the exclusive or of the words, reduced, is that of the vectors. Assumes nothing.
 use borrow.Author.Needs.{needs}
 use mathlib.Core.Path.{_∙_}
-use Rattle.bitvec.specs.WordLaws.{exact, word-bvxor}
+use Rattle.bitvec.proofs.Lemmas.{exact, word-bvxor}
 use Rattle.bitvec.proofs.bvxor.Statement.{statement}
 use Rattle.bitvec.proofs.bvxor.Tie as tie
 

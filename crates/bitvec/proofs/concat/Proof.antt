@@ -1,9 +1,9 @@
--- `bitvec::concat` meets its contract: its tests are those of `concatAt`, in the same order, and past them the high part, shifted,
--- or the low part is the number of the whole. Assumes nothing.
+-- `bitvec::concat` meets its contract: its tests are those of `concatAt`, in the same order, and past them the high
+-- part, shifted, or the low part is the number of the whole. Assumes nothing.
 use borrow.Author.Needs.{needs}
 use borrow.Author.Tests.{le-leb, lt-leb}
 use Rattle.bitvec.specs.Words.{concatAt}
-use Rattle.bitvec.proofs.Lemmas.{concat-words}
+use Rattle.bitvec.proofs.Lemmas.{word-concat}
 use Rattle.bitvec.proofs.concat.Statement.{statement}
 use Rattle.bitvec.proofs.concat.Tie as tie
 
@@ -40,8 +40,11 @@ returns-4 c =
     let third = low .before in
     let second = third .before in
     let a = second .before .before .args in
-    rw (le-leb _ _ (second .before .if1 .left), le-leb _ _ (second .if2 .left), le-leb _ _ (third .if3 .left), low .reduce .ensures, c .reduce2 .ensures)
-    (concat-words (a .m) (a .s) (a .n) (a .t) (second .before .if1 .left) (second .if2 .left) (third .if3 .left))
+    let some-high = second .before .if1 .left in
+    let some-low = second .if2 .left in
+    let fits = third .if3 .left in
+    rw (le-leb _ _ some-high, le-leb _ _ some-low, le-leb _ _ fits, low .reduce .ensures, c .reduce2 .ensures)
+    (word-concat (a .m) (a .s) (a .n) (a .t) some-high some-low fits)
 
 pub concat-spec : {M : Type 1} → statement M
 concat-spec = tie.close (tie.spec

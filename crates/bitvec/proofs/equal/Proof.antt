@@ -2,7 +2,7 @@
 use borrow.Author.Needs.{needs}
 use mathlib.Core.Path.{sym}
 use Rattle.bitvec.specs.WordLaws.{too-narrow, too-wide, holds-none}
-use Rattle.bitvec.proofs.Lemmas.{equal-words}
+use Rattle.bitvec.proofs.Lemmas.{word-equal}
 use Rattle.bitvec.proofs.equal.Statement.{statement}
 use Rattle.bitvec.proofs.equal.Tie as tie
 
@@ -24,7 +24,7 @@ returns-3 c =
     let narrow = wide .before in
     let a = narrow .before .args in
     rw (c .before .reduce .ensures, c .reduce2 .ensures)
-    (equal-words (a .width) (a .s) (a .t) (narrow .if1 .left) (wide .if2 .left))
+    (word-equal (a .width) (a .s) (a .t) (narrow .if1 .left) (wide .if2 .left))
 
 pub equal-spec : {M : Type 1} → statement M
 equal-spec = tie.close (tie.spec returns returns-2 reduce-requires reduce-requires-2 returns-3)

@@ -1,10 +1,10 @@
--- `bitvec::extract` meets its contract: its tests are those of `extractAt`, in the same order, and past them bits j to i of the word
--- are those of the vector. Assumes nothing.
+-- `bitvec::extract` meets its contract: its tests are those of `extractAt`, in the same order, and past them bits j to
+-- i of the word are those of the vector. Assumes nothing.
 use borrow.Author.Needs.{needs}
 use borrow.Author.Tests.{le-leb, lt-leb, lt-ltb, le-ltb}
 use mathlib.Core.Path.{_∙_}
 use Rattle.bitvec.specs.Words.{extractAt}
-use Rattle.bitvec.proofs.Lemmas.{extract-words}
+use Rattle.bitvec.proofs.Lemmas.{word-extract}
 use Rattle.bitvec.proofs.extract.Statement.{statement}
 use Rattle.bitvec.proofs.extract.Tie as tie
 
@@ -37,8 +37,11 @@ returns-4 c =
     let third = c .before in
     let second = third .before in
     let a = second .before .before .args in
-    rw (le-leb _ _ (second .before .if1 .left), lt-ltb _ _ (second .if2 .left), le-leb _ _ (third .if3 .left))
-    (c .reduce .ensures ∙ extract-words (a .width) (a .i) (a .j) (a .s) (second .before .if1 .left) (second .if2 .left) (third .if3 .left))
+    let small = second .before .if1 .left in
+    let inside = second .if2 .left in
+    let ordered = third .if3 .left in
+    rw (le-leb _ _ small, lt-ltb _ _ inside, le-leb _ _ ordered)
+    (c .reduce .ensures ∙ word-extract (a .width) (a .i) (a .j) (a .s) small inside ordered)
 
 pub extract-spec : {M : Type 1} → statement M
 extract-spec = tie.close (tie.spec returns returns-2 returns-3 add-reduce shr-reduce reduce-requires returns-4)

@@ -1,11 +1,12 @@
--- `bitvec::reduce` meets its contract: below 64 the remainder by 2 ^ width is `nat2bv`'s number, at 64 a word is its own remainder,
--- and above 64 the answer is 0. Assumes nothing.
+-- `bitvec::reduce` meets its contract: below 64 the remainder by 2 ^ width is `nat2bv`'s number, at 64 a word is its
+-- own remainder, and above 64 the answer is 0. Assumes nothing.
 use borrow.Author.Needs.{needs}
 use native.Mathlib.Omega.{arith}
 use mathlib.Core.Path.{sym}
 use lib.Pow.{pow-pos}
 use Rattle.bitvec.specs.WordLaws.{reduced, at-none, too-wide}
-use Rattle.bitvec.proofs.Lemmas.{one-shl, whole}
+use Rattle.bitvec.proofs.Arithmetic.{one-shl}
+use Rattle.bitvec.proofs.Lemmas.{whole}
 use Rattle.bitvec.proofs.reduce.Statement.{statement}
 use Rattle.bitvec.proofs.reduce.Tie as tie
 

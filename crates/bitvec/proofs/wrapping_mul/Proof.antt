@@ -1,7 +1,8 @@
--- `bitvec::wrapping_mul` meets its contract: of the four products of halves the highest is a multiple of 2 ^ 64. Assumes nothing.
+-- `bitvec::wrapping_mul` meets its contract: of the four products of halves the highest is a multiple of 2 ^ 64.
+-- Assumes nothing.
 use borrow.Author.Needs.{needs}
 use native.Mathlib.Omega.{arith}
-use Rattle.bitvec.proofs.Lemmas.{below, halves}
+use Rattle.bitvec.proofs.Arithmetic.{below, halves}
 use Rattle.bitvec.proofs.wrapping_mul.Statement.{statement}
 use Rattle.bitvec.proofs.wrapping_mul.Tie as tie
 
