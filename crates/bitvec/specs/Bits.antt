@@ -1,5 +1,5 @@
--- SMT-LIB 2.6, theory FixedSizeBitVectors: bit vectors and the two functions bv2nat and nat2bv by which it explains the operations.
--- A bit vector is the list of its bits, low first; its width is its length.
+-- SMT-LIB 2.6, theory FixedSizeBitVectors: bit vectors and the two functions bv2nat and nat2bv by which it explains the
+-- operations. A bit vector is the list of its bits, low first; its width is its length.
 use mathlib.Core.Bool.{Bool, cond}
 use mathlib.Core.List.{List, [], _∷_}
 use Prim.Native.Nat.{ℕ, zero, suc, _+_, _*_, _/_, _%_}

@@ -3,3 +3,5 @@ pub mod Ops
 pub mod Laws
 pub mod Numbers
 pub mod Shifts
+pub mod Words
+pub mod WordLaws

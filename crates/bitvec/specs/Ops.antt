@@ -1,7 +1,8 @@
--- SMT-LIB 2.6, theory FixedSizeBitVectors and logic QF_BV: the operations, in the order of document 01's calls.
--- bvcomp, bvxor, bvslt and bvashr are QF_BV's abbreviations; each is written as that document expands it.
+-- SMT-LIB 2.6, theory FixedSizeBitVectors and logic QF_BV: the operations, in the order of document 01's calls. bvxor,
+-- bvslt and bvashr are QF_BV's abbreviations, each written as that document expands it; bvcomp is what its expansion
+-- comes to. ite is `cond`.
 use mathlib.Core.Bool.{Bool, true, false, not, cond, _&&_, _||_}
-use mathlib.Core.List.{List, [], _∷_, _++_, map}
+use mathlib.Core.List.{[], _∷_, _++_, map}
 use Prim.Native.Nat.{ℕ, suc, _+_, _-_, _*_, _/_, _^_}
 use lib.Dec.{ltb}
 use lib.ListN.{length, getD, take, drop}

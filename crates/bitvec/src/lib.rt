@@ -1,1 +1,196 @@
-// Bit vectors of SMT-LIB.
+// The operations of SMT-LIB's QF_BV on bit vectors of width 1 to 64, each vector held as its number in a u64.
+// Each function takes constant time and is defined for every argument: an operand counts modulo 2^width, and at a width
+// outside 1 to 64 the answer is 0, or false.
+ghost use mathlib.Core.Path.{_≡_};
+ghost use mathlib.Core.Bool.{cond};
+ghost use Prim.Native.Nat.{_*_, _%_, _^_};
+ghost use Rattle.bitvec.specs.Bits.{nat2bv};
+ghost use Rattle.bitvec.specs.Ops as bv;
+ghost use Rattle.bitvec.specs.Words.{atWidth, holdsAt, concatAt, extractAt};
+
+// A number modulo 2^width: the vector that `nat2bv` makes of it.
+pub fn reduce(width: u32, x: u64) -> u64
+    ensures { λ r. ⌜ r ≡ atWidth width (nat2bv width x) ⌝ }
+{
+    if width < 64 {
+        return x % (1 << width);
+    }
+    if width == 64 {
+        return x;
+    }
+    0
+}
+
+// The top bit, the sign.
+pub fn msb(width: u32, s: u64) -> bool
+    ensures { λ r. ⌜ r ≡ holdsAt width (bv.msb (nat2bv width s)) ⌝ }
+{
+    if width < 1 {
+        return false;
+    }
+    if 64 < width {
+        return false;
+    }
+    (s >> (width - 1)) % 2 == 1
+}
+
+// SMT-LIB's = on bit vectors.
+pub fn equal(width: u32, s: u64, t: u64) -> bool
+    ensures { λ r. ⌜ r ≡ holdsAt width (bv.equal (nat2bv width s) (nat2bv width t)) ⌝ }
+{
+    if width < 1 {
+        return false;
+    }
+    if 64 < width {
+        return false;
+    }
+    reduce(width, s) == reduce(width, t)
+}
+
+pub fn ite(width: u32, c: bool, s: u64, t: u64) -> u64
+    ensures { λ r. ⌜ r ≡ atWidth width (cond c (nat2bv width s) (nat2bv width t)) ⌝ }
+{
+    if c {
+        reduce(width, s)
+    } else {
+        reduce(width, t)
+    }
+}
+
+// The m bits of s above the n bits of t.
+pub fn concat(m: u32, s: u64, n: u32, t: u64) -> u64
+    ensures { λ r. ⌜ r ≡ concatAt m s n t ⌝ }
+{
+    if m < 1 {
+        return 0;
+    }
+    if n < 1 {
+        return 0;
+    }
+    if 64 < m as u64 + n as u64 {
+        return 0;
+    }
+    (reduce(m, s) << n) | reduce(n, t)
+}
+
+// Bits j to i.
+pub fn extract(width: u32, i: u32, j: u32, s: u64) -> u64
+    ensures { λ r. ⌜ r ≡ extractAt width i j s ⌝ }
+{
+    if 64 < width {
+        return 0;
+    }
+    if width <= i {
+        return 0;
+    }
+    if i < j {
+        return 0;
+    }
+    reduce(i - j + 1, s >> j)
+}
+
+pub fn bvnot(width: u32, s: u64) -> u64
+    ensures { λ r. ⌜ r ≡ atWidth width (bv.bvnot (nat2bv width s)) ⌝ }
+{
+    reduce(width, !s)
+}
+
+pub fn bvand(width: u32, s: u64, t: u64) -> u64
+    ensures { λ r. ⌜ r ≡ atWidth width (bv.bvand (nat2bv width s) (nat2bv width t)) ⌝ }
+{
+    reduce(width, s & t)
+}
+
+pub fn bvor(width: u32, s: u64, t: u64) -> u64
+    ensures { λ r. ⌜ r ≡ atWidth width (bv.bvor (nat2bv width s) (nat2bv width t)) ⌝ }
+{
+    reduce(width, s | t)
+}
+
+pub fn bvxor(width: u32, s: u64, t: u64) -> u64
+    ensures { λ r. ⌜ r ≡ atWidth width (bv.bvxor (nat2bv width s) (nat2bv width t)) ⌝ }
+{
+    reduce(width, s ^ t)
+}
+
+pub fn bvadd(width: u32, s: u64, t: u64) -> u64
+    ensures { λ r. ⌜ r ≡ atWidth width (bv.bvadd (nat2bv width s) (nat2bv width t)) ⌝ }
+{
+    reduce(width, std::num::wrapping_add_u64(s, t))
+}
+
+// One bit, 1 where the two are equal.
+pub fn bvcomp(width: u32, s: u64, t: u64) -> u64
+    ensures { λ r. ⌜ r ≡ atWidth width (bv.bvcomp (nat2bv width s) (nat2bv width t)) ⌝ }
+{
+    if equal(width, s, t) { 1 } else { 0 }
+}
+
+pub fn bvult(width: u32, s: u64, t: u64) -> bool
+    ensures { λ r. ⌜ r ≡ holdsAt width (bv.bvult (nat2bv width s) (nat2bv width t)) ⌝ }
+{
+    reduce(width, s) < reduce(width, t)
+}
+
+// Under one sign as the numbers; under two the negative one is less.
+pub fn bvslt(width: u32, s: u64, t: u64) -> bool
+    ensures { λ r. ⌜ r ≡ holdsAt width (bv.bvslt (nat2bv width s) (nat2bv width t)) ⌝ }
+{
+    let negative = msb(width, s);
+    if negative == msb(width, t) {
+        bvult(width, s, t)
+    } else {
+        negative
+    }
+}
+
+pub fn bvshl(width: u32, s: u64, t: u64) -> u64
+    ensures { λ r. ⌜ r ≡ atWidth width (bv.bvshl (nat2bv width s) (nat2bv width t)) ⌝ }
+{
+    let amount = reduce(width, t);
+    if amount < 64 {
+        reduce(width, s << amount)
+    } else {
+        0
+    }
+}
+
+pub fn bvlshr(width: u32, s: u64, t: u64) -> u64
+    ensures { λ r. ⌜ r ≡ atWidth width (bv.bvlshr (nat2bv width s) (nat2bv width t)) ⌝ }
+{
+    let amount = reduce(width, t);
+    if amount < 64 {
+        reduce(width, s) >> amount
+    } else {
+        0
+    }
+}
+
+// A negative vector is shifted as its complement, and complemented again: the sign comes in.
+pub fn bvashr(width: u32, s: u64, t: u64) -> u64
+    ensures { λ r. ⌜ r ≡ atWidth width (bv.bvashr (nat2bv width s) (nat2bv width t)) ⌝ }
+{
+    if msb(width, s) {
+        bvnot(width, bvlshr(width, bvnot(width, s), t))
+    } else {
+        bvlshr(width, s, t)
+    }
+}
+
+// a * b, modulo 2^64, from the halves of a and b: the product of the high halves lies above.
+fn wrapping_mul(a: u64, b: u64) -> u64
+    ensures { λ r. ⌜ r ≡ a * b % 2 ^ 64 ⌝ }
+{
+    let ah = a / 4294967296;
+    let al = a % 4294967296;
+    let bh = b / 4294967296;
+    let bl = b % 4294967296;
+    let mid = std::num::wrapping_add_u64(ah * bl, al * bh) % 4294967296;
+    std::num::wrapping_add_u64(mid * 4294967296, al * bl)
+}
+
+pub fn bvmul(width: u32, s: u64, t: u64) -> u64
+    ensures { λ r. ⌜ r ≡ atWidth width (bv.bvmul (nat2bv width s) (nat2bv width t)) ⌝ }
+{
+    reduce(width, wrapping_mul(s, t))
+}

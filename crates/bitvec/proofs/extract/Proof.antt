@@ -1,0 +1,47 @@
+-- `bitvec::extract` meets its contract: its tests are those of `extractAt`, in the same order, and past them bits j to
+-- i of the word are those of the vector. Assumes nothing.
+use borrow.Author.Needs.{needs}
+use borrow.Author.Tests.{le-leb, lt-leb, lt-ltb, le-ltb}
+use mathlib.Core.Path.{_∙_}
+use Rattle.bitvec.specs.Words.{extractAt}
+use Rattle.bitvec.proofs.Lemmas.{word-extract}
+use Rattle.bitvec.proofs.extract.Statement.{statement}
+use Rattle.bitvec.proofs.extract.Tie as tie
+
+returns : tie.Need-returns
+unfolding extractAt
+returns c = rw (lt-leb _ _ (c .if1 .taken))
+
+returns-2 : tie.Need-returns-2
+unfolding extractAt
+returns-2 c = rw (le-leb _ _ (c .before .if1 .left), le-ltb _ _ (c .if2 .taken))
+
+returns-3 : tie.Need-returns-3
+unfolding extractAt
+returns-3 c =
+    let second = c .before in
+    rw (le-leb _ _ (second .before .if1 .left), lt-ltb _ _ (second .if2 .left), lt-leb _ _ (c .if3 .taken))
+
+add-reduce : tie.Need-add-reduce
+add-reduce c = search needs
+
+shr-reduce : tie.Need-shr-reduce
+shr-reduce c = search needs
+
+reduce-requires : tie.Need-reduce-requires
+reduce-requires c κs = search needs
+
+returns-4 : tie.Need-returns-4
+unfolding extractAt
+returns-4 c =
+    let third = c .before in
+    let second = third .before in
+    let a = second .before .before .args in
+    let small = second .before .if1 .left in
+    let inside = second .if2 .left in
+    let ordered = third .if3 .left in
+    rw (le-leb _ _ small, lt-ltb _ _ inside, le-leb _ _ ordered)
+    (c .reduce .ensures ∙ word-extract (a .width) (a .i) (a .j) (a .s) small inside ordered)
+
+pub extract-spec : {M : Type 1} → statement M
+extract-spec = tie.close (tie.spec returns returns-2 returns-3 add-reduce shr-reduce reduce-requires returns-4)
