@@ -5,3 +5,5 @@ pub mod Sorts
 pub mod Encode
 pub mod WellFormed
 pub mod SortLaws
+pub mod Steps
+pub mod Written
