@@ -181,27 +181,27 @@ flag-back : (b : Bool) {n : ℕ} → n ≡ bit b → eqb n 1 ≡ b
 flag-back true e = rw e
 flag-back false e = rw e
 
-letter-back : (l : Letter) {n : ℕ} → n ≡ letterNumber l → getD o.letters n c.n ≡ l
+pub letter-back : (l : Letter) {n : ℕ} → n ≡ letterNumber l → getD o.letters n c.n ≡ l
 letter-back c.n e = rw e
 letter-back c.p e = rw e
 letter-back c.t e = rw e
 
-suffix-back : (l : Suffix) {n : ℕ} → n ≡ suffixNumber l → getD o.suffixes n c.none ≡ l
+pub suffix-back : (l : Suffix) {n : ℕ} → n ≡ suffixNumber l → getD o.suffixes n c.none ≡ l
 suffix-back c.none e = rw e
 suffix-back c.x e = rw e
 suffix-back c.y e = rw e
 
-letter-low : (l : Letter) → letterNumber l ≤ 2
+pub letter-low : (l : Letter) → letterNumber l ≤ 2
 letter-low c.n = omega arith
 letter-low c.p = omega arith
 letter-low c.t = omega arith
 
-suffix-low : (l : Suffix) → suffixNumber l ≤ 2
+pub suffix-low : (l : Suffix) → suffixNumber l ≤ 2
 suffix-low c.none = omega arith
 suffix-low c.x = omega arith
 suffix-low c.y = omega arith
 
-bit-low : (b : Bool) → bit b ≤ 1
+pub bit-low : (b : Bool) → bit b ≤ 1
 bit-low true = omega arith
 bit-low false = omega arith
 
@@ -263,7 +263,7 @@ call-back x c.check h a e = refl
 
 -- ---- a record at its place
 
-length-literal : (s : Bits) → length (termWords (c.lit s)) ≡ suc (digitCount (length s))
+pub length-literal : (s : Bits) → length (termWords (c.lit s)) ≡ suc (digitCount (length s))
 length-literal s = ap suc (length-map (digits (digitCount (length s)) (bv2nat s)) numberWord ∙ length-digits _ _)
 
 words-count : (x : Context) (call : Call) → Allowed x call → length (words call) < countLimit
@@ -287,33 +287,33 @@ module _ (x : Context) (call : Call) (ok : Allowed x call) (pre post : List ℕ)
   abbrev here : List ℕ
   here = pre ++ (recordOf call ++ post)
 
-  head-at : getD here (length pre) 0 ≡ headWord (numberOf (operationOf call)) (length (words call))
+  pub head-at : getD here (length pre) 0 ≡ headWord (numberOf (operationOf call)) (length (words call))
   head-at = getD-append-seam pre _ (words call ++ post) 0
 
-  operation-at : operationAt here (length pre) ≡ operationOf call
+  pub operation-at : operationAt here (length pre) ≡ operationOf call
   operation-at =
       ap opOf (ap (λ (word : ℕ). payloadOf word % 32) head-at
       ∙ head-op (numberOf (operationOf call)) (length (words call)) (number-lt (operationOf call)) (words-count x call ok))
       ∙ opOf-number call
 
-  count-at : countAt here (length pre) ≡ length (words call)
+  pub count-at : countAt here (length pre) ≡ length (words call)
   count-at =
       ap (λ (word : ℕ). payloadOf word / 32) head-at
       ∙ head-count (numberOf (operationOf call)) (length (words call)) (number-lt (operationOf call)) (words-count x call ok)
 
-  argument-at : (i : ℕ) → i < length (words call) → argumentAt here (length pre) i ≡ getD (words call) i 0
+  pub argument-at : (i : ℕ) → i < length (words call) → argumentAt here (length pre) i ≡ getD (words call) i 0
   argument-at i h =
       ap (λ (k : ℕ). getD here k 0) (let e : length pre + 1 + i ≡ length pre + suc i = omega arith in e)
       ∙ getD-append-add pre (recordOf call ++ post) (suc i) 0 ∙ List·getD-append (words call) post 0 i h
 
-  call-at : callAt here (length pre) ≡ call
+  pub call-at : callAt here (length pre) ≡ call
   call-at =
       rw (operation-at, count-at) (call-back x call ok (argumentAt here (length pre)) argument-at)
 
-  next-at : nextAt here (length pre) ≡ length (pre ++ recordOf call)
+  pub next-at : nextAt here (length pre) ≡ length (pre ++ recordOf call)
   next-at = let e = length-append pre (recordOf call) in let n = count-at in omega arith
 
-  before-end : length pre < length here
+  pub before-end : length pre < length here
   before-end = let e = length-append pre (recordOf call ++ post) in omega arith
 
 -- ---- reading back what was written
