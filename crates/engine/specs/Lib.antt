@@ -9,3 +9,4 @@ pub mod Tests
 pub mod Steps
 pub mod Written
 pub mod Accepted
+pub mod ReadBack

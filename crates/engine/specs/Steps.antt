@@ -6,6 +6,7 @@ use mathlib.Core.List.{List, [], _∷_, _++_}
 use mathlib.Core.Option.{Option, some, none}
 use Prim.Native.Nat.{ℕ, zero, suc, _+_, _-_, _≤_, _<_}
 use native.Mathlib.Omega.{arith}
+use native.Mathlib.Decide.{ℕ-discrete}
 use native.Mathlib.Numerals.{add-one, sub-one}
 use lib.ListN.{length, getD}
 use lib.Dec.{ltb}
@@ -46,6 +47,18 @@ module _ (test : ℕ → Bool) where
   unfolding firstFailing
   failing-here i zero h e = absurd (omega arith)
   failing-here i (suc n) h e = rw e
+
+-- Where none fails, each test holds.
+pub failing-free : (test : ℕ → Bool) (i n : ℕ) → firstFailing test i n ≡ none → (k : ℕ) → i ≤ k → k < i + n → test k ≡ true
+unfolding firstFailing
+failing-free test i zero e k l u = absurd (omega arith)
+failing-free test i (suc n) e k l u = go (λ q. failing-free test (suc i) n q k) (test i) refl (ℕ-discrete k i)
+  where
+    go : (firstFailing test (suc i) n ≡ none → suc i ≤ k → k < suc i + n → test k ≡ true) → (b : Bool) → test i ≡ b
+        → Dec (k ≡ i) → test k ≡ true
+    go rest true t (yes q) = ap test q ∙ t
+    go rest true t (no q) = rest (rw t at e) (omega arith) (omega arith)
+    go rest false t d = let f : some i ≡ none = rw t at e in let z : _≡_ {A = ℕ} 0 1 = cc in absurd (omega arith)
 
 -- ---- decode
 
