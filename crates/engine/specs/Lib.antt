@@ -5,3 +5,8 @@ pub mod Sorts
 pub mod Encode
 pub mod WellFormed
 pub mod SortLaws
+pub mod Tests
+pub mod Steps
+pub mod Written
+pub mod Accepted
+pub mod ReadBack
