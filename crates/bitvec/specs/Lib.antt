@@ -1,2 +1,5 @@
 pub mod Bits
 pub mod Ops
+pub mod Laws
+pub mod Numbers
+pub mod Shifts
