@@ -3,7 +3,7 @@
 use mathlib.Core.Path.{_≡_}
 use mathlib.Core.Bool.{Bool, true, false, cond, _&&_}
 use mathlib.Core.List.{List, [], _∷_, _++_, map}
-use Prim.Native.Nat.{ℕ}
+use Prim.Native.Nat.{ℕ, suc, _<_}
 use lib.ListN.{length, getD}
 use Rattle.bitvec.specs.Bits.{Bits}
 use Rattle.bitvec.specs.Ops as bv
@@ -99,3 +99,52 @@ Asserted v (c.check ∷ cs) = Asserted v cs
 -- An assignment satisfies a call list.
 abbrev pub Sat : Assignment → List Call → Type 0
 Sat ρ cs = Fits ρ cs × Asserted (valueAt (run ρ [] cs)) cs
+
+-- The terms that a term takes, left to right.
+abbrev pub argumentsOf : Term → List ℕ
+argumentsOf (c.boolLit b) = []
+argumentsOf (c.boolIte i a b) = i ∷ a ∷ b ∷ []
+argumentsOf (c.not a) = a ∷ []
+argumentsOf (c.and args) = args
+argumentsOf (c.lit s) = []
+argumentsOf (c.equal a b) = a ∷ b ∷ []
+argumentsOf (c.ite i a b) = i ∷ a ∷ b ∷ []
+argumentsOf (c.concat a b) = a ∷ b ∷ []
+argumentsOf (c.extract i j a) = a ∷ []
+argumentsOf (c.bvnot a) = a ∷ []
+argumentsOf (c.op2 o a b) = a ∷ b ∷ []
+argumentsOf (c.compare o a b) = a ∷ b ∷ []
+
+-- A property of every number of a list.
+abbrev pub All : (ℕ → Type 0) → List ℕ → Type 0
+All P [] = Unit {0}
+All P (k ∷ ks) = P k × All P ks
+
+-- Calls, the first of which makes term k, refer to earlier terms only.
+abbrev pub Earlier : ℕ → List Call → Type 0
+Earlier k [] = Unit {0}
+Earlier k (c.term t ∷ cs) = All (λ a. a < k) (argumentsOf t) × Earlier (suc k) cs
+Earlier k (c.declare name w ∷ cs) = Earlier (suc k) cs
+Earlier k (c.assert a ∷ cs) = (a < k) × Earlier k cs
+Earlier k (c.check ∷ cs) = Earlier k cs
+
+-- How many terms the calls make.
+unfoldable pub terms : List Call → ℕ
+terms [] = 0
+terms (c.term t ∷ cs) = suc (terms cs)
+terms (c.declare name w ∷ cs) = suc (terms cs)
+terms (c.assert k ∷ cs) = terms cs
+terms (c.check ∷ cs) = terms cs
+
+-- A valuation v meets the calls, the next of which makes term k: each term has its meaning, each declared name its width,
+-- each assertion is true.
+abbrev pub Holds : Assignment → (ℕ → Value) → ℕ → List Call → Type 0
+Holds ρ v k [] = Unit {0}
+Holds ρ v k (c.term t ∷ cs) = (v k ≡ denote v t) × Holds ρ v (suc k) cs
+Holds ρ v k (c.declare name w ∷ cs) = (v k ≡ bits (ρ name)) × (length (ρ name) ≡ w) × Holds ρ v (suc k) cs
+Holds ρ v k (c.assert a ∷ cs) = (v a ≡ bool true) × Holds ρ v k cs
+Holds ρ v k (c.check ∷ cs) = Holds ρ v k cs
+
+-- A valuation and the values of the first terms are the same.
+abbrev pub Agrees : (ℕ → Value) → List Value → Type 0
+Agrees v l = (k : ℕ) → k < length l → v k ≡ valueAt l k
