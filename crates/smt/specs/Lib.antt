@@ -1,0 +1,3 @@
+pub mod Prog
+pub mod Emit
+pub mod Builder
