@@ -1,1 +1,3 @@
 pub mod Wp
+pub mod Formula
+pub mod Terms
