@@ -60,6 +60,11 @@ litBits value = tb (map xOf value) (map yOf value)
 
 -- ---- trit vectors
 
+-- One after the other, the first at the bottom.
+unfoldable pub concatBits : List TritBits → TritBits
+concatBits [] = tb [] []
+concatBits (a ∷ rest) = tb (a .x ++ (concatBits rest) .x) (a .y ++ (concatBits rest) .y)
+
 abbrev pub is0 : TritBits → Bits
 is0 a = bvand (bvnot (a .y)) (bvnot (a .x))
 

@@ -2,10 +2,10 @@
 -- meets its calls.
 use mathlib.Core.Path.{_≡_, refl, sym, ap, ap₂, _∙_}
 use mathlib.Core.Bool.{Bool, true, false, not, cond, _&&_, _||_}
-use mathlib.Core.List.{List, [], _∷_, _++_, map}
+use mathlib.Core.List.{List, [], _∷_, _++_, map, append-nil}
 use Prim.Native.Nat.{ℕ, zero, suc, _+_, _-_, _≤_, _<_}
 use native.Mathlib.Omega.{arith}
-use lib.ListN.{length, getD, take, drop, replicate, drop-of-length-le}
+use lib.ListN.{length, getD, take, drop, replicate, drop-of-length-le, length-map}
 use lib.Seq.{drop-cons}
 use Rattle.logic.specs.Net.{Net, constant, slot}
 use Rattle.logic.specs.declared.Trit.{Trit}
@@ -25,7 +25,7 @@ use Rattle.smt.specs.Builder.{
 }
 use Rattle.soundness.specs.Wp.{wp, wp-seq, wp-mono, Named}
 use Rattle.soundness.specs.Formula.{
-  TritBits, tb, one, NetBits, netBits, bitOf, readBits, litBits, is0, is1, isZero, isTrue, oneBit, extractBits, notBits, andBits, orBits,
+  TritBits, tb, one, NetBits, netBits, bitOf, readBits, litBits, concatBits, is0, is1, isZero, isTrue, oneBit, extractBits, notBits, andBits, orBits,
   xorBits, muxBits, invertBits, sameBits, refinesBits, noX, equalsBits, lessBits, mulBits, carryBits, adcBits, shiftBits, binaryBits,
 }
 
@@ -96,6 +96,14 @@ extract-one s i h = rw (single i, drop-cons s i false h)
 
 -- ---- nets
 
+-- Reading nets one by one and joining them is reading the value.
+concat-reads : (b : NetBits) (age : ℕ → Age) (nets : List Net)
+    → concatBits (map (λ n. readBits b age (n ∷ [])) nets) ≡ readBits b age nets
+unfolding concatBits readBits
+concat-reads b age [] = refl
+concat-reads b age (n ∷ nets) =
+    ap (λ (r : TritBits). tb (bitOf b age isUndef n ∷ r .x) (bitOf b age isOne n ∷ r .y)) (concat-reads b age nets)
+
 module _ (ρ : Assignment) (v : ℕ → Value) where
   -- A reader of nets gives each net the bits of its age.
   abbrev pub Reads : (Net → Prog TritVec) → (ℕ → Age) → Type 0
@@ -106,39 +114,46 @@ module _ (ρ : Assignment) (v : ℕ → Value) where
   netOf-wp a (constant t) = λ x ex y ey. (ex, ey)
   netOf-wp a (slot i) = λ x nx y ny. (nx .is ∙ ap bits (one-bit _ (nx .one)), ny .is ∙ ap bits (one-bit _ (ny .one)))
 
-  module _ (f : Net → Prog TritVec) (age : ℕ → Age) (reads : Reads f age) where
-    abbrev Each : List TritVec → List Net → Type 0
-    Each [] [] = Unit {0}
-    Each [] (n ∷ ns) = ⊥
-    Each (t ∷ ts) [] = ⊥
-    Each (t ∷ ts) (n ∷ ns) = Is ρ v t (readBits (netBits ρ) age (n ∷ [])) × Each ts ns
+  -- Terms with the bits of a list, one by one.
+  abbrev pub Each : List TritVec → List TritBits → Type 0
+  Each [] [] = Unit {0}
+  Each [] (b ∷ bs) = ⊥
+  Each (t ∷ ts) [] = ⊥
+  Each (t ∷ ts) (b ∷ bs) = Is ρ v t b × Each ts bs
 
-    collect-wp : (nets : List Net) → wp ρ v (collect f nets) (λ ts. Each ts nets)
-    unfolding collect
-    collect-wp [] = tt
-    collect-wp (n ∷ ns) =
-        wp-seq ρ v (f n) _ _ _ (reads n) λ t ht.
-        wp-seq ρ v (collect f ns) _ _ _ (collect-wp ns) λ ts hts. (ht, hts)
+  pub collect-wp : {A : Type 0} (f : A → Prog TritVec) (g : A → TritBits) → ((a : A) → wp ρ v (f a) (λ r. Is ρ v r (g a)))
+      → (l : List A) → wp ρ v (collect f l) (λ ts. Each ts (map g l))
+  unfolding collect
+  collect-wp f g h [] = tt
+  collect-wp f g h (a ∷ l) =
+      wp-seq ρ v (f a) _ _ _ (h a) λ t ht.
+      wp-seq ρ v (collect f l) _ _ _ (collect-wp f g h l) λ ts hts. (ht, hts)
 
-    concat-wp : (t : TritVec) (ts : List TritVec) (n : Net) (ns : List Net) → Each (t ∷ ts) (n ∷ ns)
-        → wp ρ v (tvConcatOn t ts) (λ r. Is ρ v r (readBits (netBits ρ) age (n ∷ ns)))
-    unfolding tvConcatOn readBits _>>=_
-    concat-wp t [] n [] h = h .0
-    concat-wp t [] n (m ∷ ms) h = absurd (h .1)
-    concat-wp t (u ∷ us) n [] h = absurd (h .1)
-    concat-wp t (u ∷ us) n (m ∷ ms) h =
-        wp-seq ρ v (tvConcatOn u us) _ _ _ (concat-wp u us m ms (h .1)) λ r hr x ex y ey. (cc, cc)
+  concatOn-wp : (t : TritVec) (ts : List TritVec) (b : TritBits) (bs : List TritBits) → Each (t ∷ ts) (b ∷ bs)
+      → wp ρ v (tvConcatOn t ts) (λ r. Is ρ v r (concatBits (b ∷ bs)))
+  unfolding tvConcatOn concatBits _>>=_
+  concatOn-wp t [] b [] h = (h .0 .0 ∙ ap bits (sym (append-nil (b .x))), h .0 .1 ∙ ap bits (sym (append-nil (b .y))))
+  concatOn-wp t [] b (d ∷ ds) h = absurd (h .1)
+  concatOn-wp t (u ∷ us) b [] h = absurd (h .1)
+  concatOn-wp t (u ∷ us) b (d ∷ ds) h =
+      wp-seq ρ v (tvConcatOn u us) _ _ _ (concatOn-wp u us d ds (h .1)) λ r hr x ex y ey. (cc, cc)
 
-    -- A value of at least one net.
-    pub valueOf-wp : (nets : List Net) → 0 < length nets
-        → wp ρ v (valueOf f nets) (λ r. Is ρ v r (readBits (netBits ρ) age nets))
-    unfolding valueOf tvConcat
-    valueOf-wp [] p = absurd (omega arith)
-    valueOf-wp (n ∷ ns) p = wp-seq ρ v (collect f (n ∷ ns)) _ _ _ (collect-wp (n ∷ ns)) go
-      where
-        go : (ts : List TritVec) → Each ts (n ∷ ns) → wp ρ v (tvConcat ts) (λ r. Is ρ v r (readBits (netBits ρ) age (n ∷ ns)))
-        go [] h = absurd h
-        go (t ∷ ts) h = concat-wp t ts n ns h
+  pub tvConcat-wp : (ts : List TritVec) (bs : List TritBits) → 0 < length bs → Each ts bs
+      → wp ρ v (tvConcat ts) (λ r. Is ρ v r (concatBits bs))
+  unfolding tvConcat
+  tvConcat-wp [] [] p h = absurd (omega arith)
+  tvConcat-wp [] (b ∷ bs) p h = absurd h
+  tvConcat-wp (t ∷ ts) [] p h = absurd h
+  tvConcat-wp (t ∷ ts) (b ∷ bs) p h = concatOn-wp t ts b bs h
+
+  -- A value of at least one net.
+  pub valueOf-wp : (f : Net → Prog TritVec) (age : ℕ → Age) → Reads f age → (nets : List Net) → 0 < length nets
+      → wp ρ v (valueOf f nets) (λ r. Is ρ v r (readBits (netBits ρ) age nets))
+  unfolding valueOf
+  valueOf-wp f age reads nets p =
+      let single : Net → TritBits = λ n. readBits (netBits ρ) age (n ∷ []) in
+      wp-seq ρ v (collect f nets) _ _ _ (collect-wp f single reads nets) λ ts hts.
+      rw (← (concat-reads (netBits ρ) age nets)) (tvConcat-wp ts (map single nets) (rw (length-map nets single) p) hts)
 
 -- ---- the arms of cell
 
