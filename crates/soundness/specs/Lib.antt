@@ -1,3 +1,4 @@
 pub mod Wp
 pub mod Formula
 pub mod Terms
+pub mod CellBits
