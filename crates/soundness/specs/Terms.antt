@@ -19,14 +19,76 @@ use Rattle.cell.specs.Cell as cells
 use Rattle.smt.specs.Prog.{Prog, ret, op, declare, bind, bind2, _>>=_, Age, curr, past, Half, isUndef, isOne, BitVec, bv, TritVec, tv}
 use Rattle.smt.specs.Emit.{netName}
 use Rattle.smt.specs.Builder.{
-  bvConcatOn, bvConcat, bvIsZero, bvToBool, boolToBv, tvLit, tvConst, tvBind, tvConcatOn, tvConcat, tvExtract, tvIs0, tvIs1, tvEq,
-  tvRefines, tvNot, tvAnd, tvOr, tvXor, tvMux, collect, netOf, valueOf, currNet, pastNet, invertNet, clockNet, bvNoX, carryX, tvAdc,
-  tvEquals, tvLess, tvMul, tvBinary, tvShift, Prepared,
+  bvConcatOn,
+  bvConcat,
+  bvIsZero,
+  bvToBool,
+  boolToBv,
+  tvLit,
+  tvConst,
+  tvBind,
+  tvConcatOn,
+  tvConcat,
+  tvExtract,
+  tvIs0,
+  tvIs1,
+  tvEq,
+  tvRefines,
+  tvNot,
+  tvAnd,
+  tvOr,
+  tvXor,
+  tvMux,
+  collect,
+  netOf,
+  valueOf,
+  currNet,
+  pastNet,
+  invertNet,
+  clockNet,
+  bvNoX,
+  carryX,
+  tvAdc,
+  tvEquals,
+  tvLess,
+  tvMul,
+  tvBinary,
+  tvShift,
+  Prepared,
 }
 use Rattle.soundness.specs.Wp.{wp, wp-seq, wp-mono, Named}
 use Rattle.soundness.specs.Formula.{
-  TritBits, tb, one, NetBits, netBits, bitOf, readBits, litBits, concatBits, is0, is1, isZero, isTrue, oneBit, extractBits, notBits, andBits, orBits,
-  xorBits, muxBits, invertBits, sameBits, refinesBits, noX, equalsBits, lessBits, mulBits, carryBits, adcBits, shiftBits, binaryBits,
+  TritBits,
+  tb,
+  one,
+  NetBits,
+  netBits,
+  bitOf,
+  readBits,
+  litBits,
+  concatBits,
+  is0,
+  is1,
+  isZero,
+  isTrue,
+  oneBit,
+  extractBits,
+  notBits,
+  andBits,
+  orBits,
+  xorBits,
+  muxBits,
+  invertBits,
+  sameBits,
+  refinesBits,
+  noX,
+  equalsBits,
+  lessBits,
+  mulBits,
+  carryBits,
+  adcBits,
+  shiftBits,
+  binaryBits,
 }
 
 module _ (ρ : Assignment) (v : ℕ → Value) where
@@ -186,11 +248,17 @@ module _ (ρ : Assignment) (v : ℕ → Value) where
   tvBinary-wp cells.slt a b n w = tvLess-wp c.bvslt a b n
   tvBinary-wp cells.mul a b n w = tvMul-wp a b n
 
-  pub tvShift-wp : (onX onY : BinaryOp) (n : ℕ) (p : Prepared) (A B : TritBits) (by : Bits)
-      → Is ρ v (p .value) A → Is ρ v (p .amount) B → v (p .amountMul .term) ≡ bits by
-      → wp ρ v (tvShift onX onY n p) (λ r. Is ρ v r (shiftBits onX onY n (p .width) A B by))
+  -- What prepare_shift made: a value and an amount at width w, and the places to shift by.
+  pub record Prepares (p : Prepared) (w : ℕ) (value amount : TritBits) (by : Bits) : Type 0 where
+    pub width : p .width ≡ w
+    pub value-is : Is ρ v (p .value) value
+    pub amount-is : Is ρ v (p .amount) amount
+    pub by-is : v (p .amountMul .term) ≡ bits by
+
+  pub tvShift-wp : (onX onY : BinaryOp) (n : ℕ) (p : Prepared) (w : ℕ) (A B : TritBits) (by : Bits) → Prepares p w A B by
+      → wp ρ v (tvShift onX onY n p) (λ r. Is ρ v r (shiftBits onX onY n w A B by))
   unfolding tvShift tvExtract bvIsZero _>>=_ shiftBits extractBits
-  tvShift-wp onX onY n p A B by ha hb hk = λ k1 e1 k2 e2 k3 e3 k4 e4 k5 e5 k6 e6 x ex y ey. (cc, cc)
+  tvShift-wp onX onY n p w A B by h = λ k1 e1 k2 e2 k3 e3 k4 e4 k5 e5 k6 e6 x ex y ey. (cc, cc)
 
   -- ---- Adc
   abbrev Bit : List BitVec → Bits → Type 0
