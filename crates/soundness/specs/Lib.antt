@@ -2,3 +2,4 @@ pub mod Wp
 pub mod Formula
 pub mod Terms
 pub mod CellBits
+pub mod Shows

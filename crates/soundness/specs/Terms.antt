@@ -150,7 +150,7 @@ one-bit [] e = absurd (omega arith)
 one-bit (b ∷ []) e = refl
 one-bit (b ∷ d ∷ s) e = absurd (omega arith)
 
-extract-one : (s : Bits) (i : ℕ) → i < length s → extract i i s ≡ getD s i false ∷ []
+pub extract-one : (s : Bits) (i : ℕ) → i < length s → extract i i s ≡ getD s i false ∷ []
 extract-one s i h = rw (single i, drop-cons s i false h)
   where
     single : (i : ℕ) → suc i - i ≡ 1
