@@ -3,3 +3,4 @@ pub mod Formula
 pub mod Terms
 pub mod CellBits
 pub mod Shows
+pub mod ShowsNumber
