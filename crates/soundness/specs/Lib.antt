@@ -4,3 +4,4 @@ pub mod Terms
 pub mod CellBits
 pub mod Shows
 pub mod ShowsNumber
+pub mod ShowsShift
