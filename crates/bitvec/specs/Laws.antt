@@ -1,5 +1,5 @@
--- Laws of bit vectors, proved once over the width: the width of each operation's result, and nat2bv and bv2nat inverse
--- to each other. What bv2nat makes of each operation is in Numbers; the shifts as lists are in Shifts. Assumes nothing.
+-- Laws of bit vectors, proved once over the width: the width of each operation's result, and nat2bv and bv2nat inverse to each other.
+-- What bv2nat makes of each operation is in Numbers; the shifts as lists are in Shifts. Assumes nothing.
 use mathlib.Core.Path.{_≡_, refl, sym, ap, ap₂, _∙_}
 use mathlib.Core.Bool.{Bool, true, false, not, cond, _&&_, _||_}
 use mathlib.Core.List.{[], _∷_}

@@ -1,11 +1,9 @@
--- Laws of bit vectors, proved once over the width: what bv2nat makes of each operation, as arithmetic on numbers.
--- Assumes nothing.
+-- Laws of bit vectors, proved once over the width: what bv2nat makes of each operation, as arithmetic on numbers. Assumes nothing.
 use mathlib.Core.Path.{_≡_, refl, sym, ap, _∙_}
 use mathlib.Core.Bool.{Bool, true, false, not, cond, _&&_, _||_, false≢true}
 use mathlib.Core.List.{[], _∷_}
 use Prim.Native.Nat.{ℕ, zero, suc, _+_, _-_, _*_, _/_, _%_, _^_, _≤_, _<_, min, max}
-use native.Mathlib.Nat.{suc-inj, pow-suc, mod-one, div-one, zero-div, zero-mod, mul-comm, div-div-eq-div-mul}
-use native.Mathlib.Nat.{div-eq-of-lt, div-eq-of-lt-le}
+use native.Mathlib.Nat.{suc-inj, pow-suc, mod-one, div-one, zero-div, zero-mod, mul-comm, div-div-eq-div-mul, div-eq-of-lt, div-eq-of-lt-le}
 use native.Mathlib.Omega.{arith}
 use native.Mathlib.Numerals.{add-one}
 use lib.Bits.{bitAnd, bitOr, bitXor, and-step, or-step, xor-step}

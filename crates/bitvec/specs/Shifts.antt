@@ -3,8 +3,7 @@ use mathlib.Core.Path.{_≡_, refl, sym, ap, ap₂, _∙_}
 use mathlib.Core.Bool.{Bool, true, false, not, cond}
 use mathlib.Core.List.{[], _∷_, _++_}
 use Prim.Native.Nat.{ℕ, zero, suc, _+_, _-_, _*_, _/_, _%_, _^_, _≤_, _<_}
-use native.Mathlib.Nat.{pow-suc, mul-one, div-eq-of-lt, mod-eq-of-lt, lt-of-lt-of-le, lt-of-le-of-lt, div-le-self}
-use native.Mathlib.Nat.{sub-add-cancel, sub-zero, mul-assoc, mul-mod-left}
+use native.Mathlib.Nat.{pow-suc, mul-one, div-eq-of-lt, mod-eq-of-lt, lt-of-lt-of-le, lt-of-le-of-lt, div-le-self, sub-add-cancel, sub-zero, mul-assoc, mul-mod-left}
 use native.Mathlib.Omega.{arith}
 use lib.ListN.{length, take, drop, replicate, length-append, length-replicate, length-drop}
 use lib.Pow.{pow-add, pow-mono}
@@ -62,11 +61,8 @@ pub bvashr-out : (s t : Bits) → length s ≤ bv2nat t → bv2nat (bv.bvashr s 
 bvashr-out s t h =
     bv2nat-bvashr s t
     ∙ ap₂ (cond (bv.msb s))
-    (ap (λ (q : ℕ). 2 ^ length s - 1 - q) none ∙ sub-zero (2 ^ length s - 1))
+    (ap (λ (q : ℕ). 2 ^ length s - 1 - q) (out s t h (2 ^ length s - 1 - bv2nat s) (omega (arith, bv2nat-lt s))) ∙ sub-zero (2 ^ length s - 1))
     (out s t h (bv2nat s) (bv2nat-lt s))
-  where
-    none : (2 ^ length s - 1 - bv2nat s) / 2 ^ bv2nat t ≡ 0
-    none = out s t h (2 ^ length s - 1 - bv2nat s) (omega (arith, bv2nat-lt s))
 
 -- ---- as lists: zeros come in, what leaves the width is lost
 

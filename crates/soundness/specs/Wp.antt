@@ -95,3 +95,85 @@ place-inj past i isOne curr j isUndef e = absurd (omega arith)
 place-inj past i isOne curr j isOne e = absurd (omega arith)
 place-inj past i isOne past j isUndef e = absurd (omega arith)
 place-inj past i isOne past j isOne e = ap (λ (n : ℕ). netName past n isOne) (omega arith)
+
+-- What stands in a list after a store: what was stored, at its place, or what stood there before.
+pub stored : {X : Type 0} (l : List ℕ) (i a j k : ℕ) → getD (set l i a) j 0 ≡ suc k
+    → (i ≡ j → a ≡ suc k → X) → (getD l j 0 ≡ suc k → X) → X
+stored [] i a j k e here there = there e
+stored (x ∷ l) zero a zero k e here there = here refl e
+stored (x ∷ l) zero a (suc j) k e here there = there e
+stored (x ∷ l) (suc i) a zero k e here there = there e
+stored (x ∷ l) (suc i) a (suc j) k e here there = stored l i a j k e (λ p. here (ap suc p)) there
+
+module _ (ρ : Assignment) (v : ℕ → Value) where
+  -- Every known name's term is the name's bits.
+  abbrev pub Known : List ℕ → Type 0
+  Known names = (a : Age) (i : ℕ) (h : Half) (k : ℕ) → getD names (place a i h) 0 ≡ suc k → Named ρ v a i h k
+
+  renamed : (a : Age) (i : ℕ) (h : Half) (b : Age) (j : ℕ) (g : Half) (k : ℕ) → netName a i h ≡ netName b j g
+      → Named ρ v a i h k → Named ρ v b j g k
+  renamed a i h b j g k e n =
+      record { is = n .is ∙ ap (λ (d : Name). bits (ρ d)) e; one = sym (ap (λ (d : Name). length (ρ d)) e) ∙ n .one }
+
+  learnt : (a : Age) (i : ℕ) (h : Half) (k : ℕ) (names : List ℕ) → Named ρ v a i h k → Known names
+      → Known (set names (place a i h) (suc k))
+  learnt a i h k names new kn b j g l e =
+      stored names (place a i h) (suc k) (place b j g) l e
+      (λ p q. let m : k ≡ l = omega arith in rw m at (renamed a i h b j g k (place-inj a i h b j g p) new))
+      (λ p. kn b j g l p)
+
+  -- After a run: what its weakest precondition promises of the result, the names still known, and the calls that follow met.
+  pub record Sound {A : Type 0} (a : A) (s : St) (rest : List Call) (Q : A → Type 0) : Type 0 where
+    pub post : Q a
+    pub names : Known (s .names)
+    pub more : Holds ρ v (s .next) rest
+
+  bound-eq : (k a b : ℕ) → v k ≡ denote v (c.equal a b) → v k ≡ bool true → v a ≡ v b
+  bound-eq k a b p q = equalValues-eq (v a) (v b) (cc)
+
+  pub wp-sound : {A : Type 0} (m : Prog A) (s : St) (Q : A → Type 0) (rest : List Call)
+      → Known (s .names) → Holds ρ v (s .next) ((emit m s) .calls ++ rest) → wp ρ v m Q
+      → Sound ((emit m s) .res) ((emit m s) .st) rest Q
+  unfolding emit
+  wp-sound (ret a) s Q rest kn h w = record { post = w; names = kn; more = h }
+  wp-sound (op t f) s Q rest kn h w = wp-sound (f (s .next)) _ Q rest kn (h .1) (w (s .next) (h .0))
+  wp-sound {A} (declare a i d f) s Q rest kn h w =
+      go (λ k s′. wp-sound (f k) s′ Q rest) (getD (s .names) (place a i d) 0) refl
+    where
+      go : ((k : ℕ) (s′ : St) → Known (s′ .names) → Holds ρ v (s′ .next) ((emit (f k) s′) .calls ++ rest)
+          → wp ρ v (f k) Q → Sound ((emit (f k) s′) .res) ((emit (f k) s′) .st) rest Q)
+          → (o : ℕ) → getD (s .names) (place a i d) 0 ≡ o
+          → Sound ((emit (declare a i d f) s) .res) ((emit (declare a i d f) s) .st) rest Q
+      go rec zero e =
+          let g : Holds ρ v (s .next) (c.declare (netName a i d) 1 ∷ ((emit (f (s .next)) (learn a i d s)) .calls ++ rest)) =
+          rw e at h in
+          let new : Named ρ v a i d (s .next) = record { is = g .0; one = g .1 } in
+          rw e (rec (s .next) (learn a i d s) (learnt a i d (s .next) (s .names) new kn) (g .2) (w (s .next) new))
+      go rec (suc k) e = rw e (rec k (reread a i s) kn (rw e at h) (w k (kn a i d k e)))
+  wp-sound (bind n t f) s Q rest kn h w =
+      wp-sound (f (s .next)) _ Q rest kn (h .2 .1 .1)
+      (w (s .next) (bound-eq (suc (s .next)) (s .next) t (h .2 .0) (h .2 .1 .0)))
+  wp-sound (bind2 n x y f) s Q rest kn h w =
+      let k = s .next in
+      let ofX = h .2 .2 in
+      let ofY = ofX .1 .1 in
+      wp-sound (f k (suc k)) _ Q rest kn (ofY .1 .1)
+      (w k (suc k) (bound-eq (suc (suc k)) k x (ofX .0) (ofX .1 .0))
+      (bound-eq (suc (suc (suc k))) (suc k) y (ofY .0) (ofY .1 .0)))
+
+-- What a sequence emits: the first part's calls, then the second's from the state that it leaves.
+pub emit-seq : {A B : Type 0} (m : Prog A) (g : A → Prog B) (s : St)
+    → emit (m >>= g) s ≡ after ((emit m s) .calls) (emit (g ((emit m s) .res)) ((emit m s) .st))
+unfolding emit _>>=_
+emit-seq (ret a) g s = refl
+emit-seq (op t f) g s = rw (emit-seq (f (s .next)) g)
+emit-seq (declare a i h f) g s = go (λ k s. emit-seq (f k) g s) (getD (s .names) (place a i h) 0) refl
+  where
+    go : ((k : ℕ) (s : St) → emit (f k >>= g) s ≡ after ((emit (f k) s) .calls) (emit (g ((emit (f k) s) .res)) ((emit (f k) s) .st)))
+        → (o : ℕ) → getD (s .names) (place a i h) 0 ≡ o
+        → emit (declare a i h f >>= g) s
+        ≡ after ((emit (declare a i h f) s) .calls) (emit (g ((emit (declare a i h f) s) .res)) ((emit (declare a i h f) s) .st))
+    go rec zero e = rw e (rw rec)
+    go rec (suc k) e = rw e (rec k (reread a i s))
+emit-seq (bind w t f) g s = rw (emit-seq (f (s .next)) g)
+emit-seq (bind2 w x y f) g s = rw (emit-seq (f (s .next) (suc (s .next))) g)
