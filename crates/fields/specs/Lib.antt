@@ -1,0 +1,4 @@
+pub mod Field
+pub mod Pattern
+pub mod Head
+pub mod Laws
