@@ -17,7 +17,7 @@ use Rattle.fields.specs.Field.{fault}
 -- A head's payload is the operation + 32 × the count of following words; these must be in the list.
 unfoldable pub recordOf : Operation → ℕ → ℕ → ℕ → Head
 recordOf op count len at =
-    cond (leb (at + 1 + count) len) (Record op (at + 1 + count)) (Refused (fault 1 len))
+    cond (leb (at + 1 + count) len) (Record op (at + 1) (at + 1 + count)) (Refused (fault 1 len))
 
 abbrev pub onKnown : Decoded → Fault → (Operation → Head) → Head
 onKnown (Known op) e f = f op

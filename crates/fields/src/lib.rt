@@ -26,9 +26,9 @@ pub enum Bit {
     Refused(Fault),
 }
 
-// The head of a record: its operation and where the record ends; or the fault met.
+// The head of a record: its operation, its first field and where it ends; or the fault met.
 pub enum Head {
-    Record { op: Operation, end: usize },
+    Record { op: Operation, first: usize, end: usize },
     Refused(Fault),
 }
 
@@ -223,7 +223,7 @@ pub fn record_of(op: Operation, count: u32, len: usize, at: usize) -> Head
     let words = count as usize;
     if at < len {
         if words <= len - (at + 1) {
-            return Head::Record { op, end: at + 1 + words };
+            return Head::Record { op, first: at + 1, end: at + 1 + words };
         }
     }
     Head::Refused(Fault { number: 1, place: len })

@@ -19,6 +19,9 @@ add-t10 c = search needs
 add-t11 : tie.Need-add-t11
 add-t11 c = search needs
 
+add-t12 : tie.Need-add-t12
+add-t12 c = search needs
+
 returns : tie.Need-returns
 unfolding recordOf
 returns c =
@@ -38,4 +41,4 @@ returns-3 c =
     rw (lt-leb (args .at + 1 + args .count) (args .len) (omega arith))
 
 pub record-of-spec : {M : Type 1} → statement M
-record-of-spec = tie.close (tie.spec add-if2 sub-if2 add-t10 add-t11 returns returns-2 returns-3)
+record-of-spec = tie.close (tie.spec add-if2 sub-if2 add-t10 add-t11 add-t12 returns returns-2 returns-3)
