@@ -1,5 +1,5 @@
 -- Document 01, "Words", "Operations and bodies": the cell that the words of a record without a fault stand for.
-use Prim.Native.Nat.{ℕ, zero, suc, _+_, _*_}
+use Prim.Native.Nat.{ℕ, zero, suc, _+_, _*_, _/_, _%_}
 use mathlib.Core.List.{List, [], _∷_}
 use mathlib.Core.Bool.{Bool}
 use lib.ListN.{getD}
@@ -11,6 +11,9 @@ use Rattle.logic.specs.declared.Trit.{Trit}
 use Rattle.logic.specs.declared.Trit.the-variants.{Undef}
 use Rattle.cell.specs.Cell as C
 use Rattle.cell.specs.Cell.{Cell, Control, Unary, Binary, Shift}
+use Rattle.cell.specs.Operation.{operationOf}
+use Rattle.cell.specs.declared.Decoded.{Decoded}
+use Rattle.cell.specs.declared.Decoded.the-variants.{Known, Unknown}
 use Rattle.cell.specs.declared.Operation.{Operation}
 use Rattle.cell.specs.declared.Operation.the-variants.{Void, Buf, Not, And, Or, Xor, Mux, Adc, Aig, Eq, ULt, SLt, Shl, UShr, SShr, XShr, Mul, Match, Assign, Dff, IoBuf, Input, Note}
 
@@ -106,3 +109,18 @@ cellIn w Dff at =
 cellIn w IoBuf at = C.ioBuf (numberIn w at)
 cellIn w Input at = C.input (numberIn w at)
 cellIn w Note at = C.note
+
+-- A head's payload is the operation + 32 × the count of following words.
+abbrev knownOr : Operation → Decoded → Operation
+knownOr default (Known op) = op
+knownOr default Unknown = default
+
+abbrev pub opAt : List ℕ → ℕ → Operation
+opAt w at = knownOr Note (operationOf (numberIn w at % 32))
+
+abbrev pub endAt : List ℕ → ℕ → ℕ
+endAt w at = at + 1 + numberIn w at / 32
+
+-- The cell of the record whose head stands at a place.
+unfoldable pub cellAt : List ℕ → ℕ → Cell
+cellAt w at = cellIn w (opAt w at) (at + 1)

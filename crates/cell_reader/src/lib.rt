@@ -89,7 +89,7 @@ pub fn tail_at(list: &[u32], layout: Fields, n: usize, end: usize, at: usize) ->
 }
 
 // What follows the numbers of a body, to the record's end.
-pub fn body_at(list: &[u32], total: u32, layout: Fields, n: usize, end: usize, at: usize) -> Scan
+pub fn body_at(list: &[u32], total: usize, layout: Fields, n: usize, end: usize, at: usize) -> Scan
     ensures { λ r. ⌜ r ≡ bodyAt (now (list .entry)) total layout n end at ⌝ }
 {
     match fields::nets_at(list, total, 1, end, layout.controls, at) {
@@ -102,7 +102,7 @@ pub fn body_at(list: &[u32], total: u32, layout: Fields, n: usize, end: usize, a
 }
 
 // The fields of a record, from its first on.
-pub fn contents_at(list: &[u32], total: u32, op: Operation, end: usize, first: usize) -> Record
+pub fn contents_at(list: &[u32], total: usize, op: Operation, end: usize, first: usize) -> Record
     ensures { λ r. ⌜ r ≡ contentsAt (now (list .entry)) total op end first ⌝ }
 {
     match leading_at(list, cell::numbers_of(op), end, first) {
@@ -118,7 +118,7 @@ pub fn contents_at(list: &[u32], total: u32, op: Operation, end: usize, first: u
 }
 
 // The record at a place.
-pub fn record_at(list: &[u32], total: u32, at: usize) -> Record
+pub fn record_at(list: &[u32], total: usize, at: usize) -> Record
     ensures { λ r. ⌜ r ≡ recordAt (now (list .entry)) total at ⌝ }
 {
     match fields::head_at(list, at) {

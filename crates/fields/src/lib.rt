@@ -64,7 +64,7 @@ pub fn is_constant(payload: u32) -> bool
 }
 
 // Whether a net payload is a constant or a slot below the total.
-pub fn is_known(total: u32, payload: u32) -> bool
+pub fn is_known(total: usize, payload: u32) -> bool
     ensures { λ r. ⌜ r ≡ isKnown total payload ⌝ }
 {
     if payload < 2 {
@@ -73,11 +73,11 @@ pub fn is_known(total: u32, payload: u32) -> bool
     if payload == 536870911 {
         return true;
     }
-    payload - 2 < total
+    ((payload - 2) as usize) < total
 }
 
 // A net at a place of a record, of a kind up to `most`: 0 a net word, 1 a control, which may be inverted.
-pub fn net_at(list: &[u32], total: u32, most: u32, end: usize, at: usize) -> Scan
+pub fn net_at(list: &[u32], total: usize, most: u32, end: usize, at: usize) -> Scan
     ensures { λ r. ⌜ r ≡ netAt (now (list .entry)) total most end at ⌝ }
 {
     if at < end {
@@ -128,7 +128,7 @@ pub fn constant_at(list: &[u32], end: usize, at: usize) -> Scan
 }
 
 // A run of n nets of a kind up to `most`.
-pub fn nets_at(list: &[u32], total: u32, most: u32, end: usize, n: usize, start: usize) -> Scan
+pub fn nets_at(list: &[u32], total: usize, most: u32, end: usize, n: usize, start: usize) -> Scan
     ensures { λ r. ⌜ r ≡ netsAt (now (list .entry)) total most end n start ⌝ }
 {
     let mut at = start;

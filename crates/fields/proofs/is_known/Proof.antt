@@ -1,4 +1,5 @@
 use borrow.Author.Tests.{lt-ltb, le-ltb, eq-eqb, ne-eqb}
+use borrow.Author.Needs.{needs}
 use Rattle.fields.proofs.is_known.Statement.{statement}
 use Rattle.fields.proofs.is_known.Tie as tie
 
@@ -11,6 +12,9 @@ returns-2 c =
     (le-ltb _ _ (c .before .if1 .left),
     eq-eqb _ _ (c .if2 .taken))
 
+cast-result : tie.Need-cast-result
+cast-result c = search needs
+
 returns-3 : tie.Need-returns-3
 returns-3 c =
     rw
@@ -18,4 +22,4 @@ returns-3 c =
     ne-eqb _ _ (c .if2 .left))
 
 pub is-known-spec : {M : Type 1} → statement M
-is-known-spec = tie.close (tie.spec returns returns-2 returns-3)
+is-known-spec = tie.close (tie.spec returns returns-2 cast-result returns-3)
