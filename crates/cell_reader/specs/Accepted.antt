@@ -15,20 +15,22 @@ use Rattle.cell.specs.Operation.{operationOf, numbersOf, fieldsOf}
 use Rattle.cell.specs.declared.Operation.{Operation}
 use Rattle.cell.specs.declared.Operation.the-variants.{Void, Buf, Not, And, Or, Xor, Mux, Adc, Aig, Eq, ULt, SLt, Shl, UShr, SShr, XShr, Mul, Match, Assign, Dff, IoBuf, Input, Note}
 use Rattle.cell.specs.declared.Numbers.{Numbers}
+use Rattle.cell.specs.declared.Fields.{Fields}
 use Rattle.fields.specs.declared.Number.{Number}
 use Rattle.fields.specs.declared.Number.the-variants as N
 use Rattle.fields.specs.declared.Scan.{Scan}
 use Rattle.fields.specs.declared.Scan.the-variants as S
 use Rattle.fields.specs.declared.Head.{Head}
 use Rattle.fields.specs.declared.Head.the-variants as H
-use Rattle.fields.specs.Field.{fault, onClean, numberAt}
+use Rattle.fields.specs.Field.{fault, onClean, numberAt, netsAt, constantsAt}
+use Rattle.fields.specs.Pattern.{patternsAt}
 use Rattle.fields.specs.Head.{headAt}
-use Rattle.fields.specs.Accepted.{IsNumber, number-read, IsHead, head-read}
+use Rattle.fields.specs.Accepted.{IsNumber, number-read, IsHead, head-read, ends-read, both-read}
 use Rattle.cell_reader.specs.declared.Leading.{Leading}
 use Rattle.cell_reader.specs.declared.Leading.the-variants as L
 use Rattle.cell_reader.specs.declared.Record.{Record}
 use Rattle.cell_reader.specs.declared.Record.the-variants as R
-use Rattle.cell_reader.specs.Record.{onValue, thirdAt, secondAt, firstAt, leadingAt, bodyAt, onHead, onLeading, onBody, contentsAt, recordAt}
+use Rattle.cell_reader.specs.Record.{onValue, thirdAt, secondAt, firstAt, leadingAt, tailAt, bodyAt, onHead, onLeading, onBody, contentsAt, recordAt}
 use Rattle.cell_reader.specs.Parse.{numberIn, patternsIn, cellIn, opAt, endAt, cellAt}
 
 module _ (w : List ℕ) (numbers : Numbers) (end : ℕ) where
@@ -209,3 +211,94 @@ leading-width w Dff end at is = first-width (length-tab _ _) (is .first (omega a
 leading-width w IoBuf end at is = first-width refl (is .first (omega arith))
 leading-width w Input end at is = first-width refl (is .first (omega arith))
 leading-width w Note end at is = (refl, omega arith)
+
+-- The fields after the numbers were read: controls, nets, constants and patterns, one run after another, up to the record's end.
+pub record IsBody (w : List ℕ) (total : ℕ) (layout : Fields) (n end at : ℕ) : Type 0 where
+  pub nets : ℕ
+  pub constants : ℕ
+  pub patterns : ℕ
+  pub controls-read : netsAt w total 1 end (layout .controls) at ≡ S.Clean nets
+  pub nets-read : netsAt w total 0 end (layout .nets) nets ≡ S.Clean constants
+  pub constants-read : constantsAt w end (layout .constants) constants ≡ S.Clean patterns
+  pub patterns-read : patternsAt w n end (layout .patterns) patterns ≡ S.Clean end
+
+pub body-read :
+    (w : List ℕ) (total : ℕ) (layout : Fields) (n end at : ℕ) {next : ℕ} → bodyAt w total layout n end at ≡ S.Clean next →
+    (next ≡ end) × IsBody w total layout n end at
+unfolding bodyAt tailAt
+body-read w total layout n end at read =
+    let controls = both-read (netsAt w total 1 end (layout .controls) at) _ read in
+    let nets = both-read (netsAt w total 0 end (layout .nets) (controls .place)) _ (controls .second) in
+    let constants = both-read (constantsAt w end (layout .constants) (nets .place)) _ (nets .second) in
+    let patterns = both-read (patternsAt w n end (layout .patterns) (constants .place)) _ (constants .second) in
+    let ends = ends-read end (patterns .place) (patterns .second) in
+    (ends .1,
+    record {
+      nets = controls .place;
+      constants = nets .place;
+      patterns = constants .place;
+      controls-read = controls .first;
+      nets-read = nets .first;
+      constants-read = constants .first;
+      patterns-read = patterns .first ∙ ap S.Clean (ends .0)
+    })
+
+-- A record was read: all that the layers above go by.
+pub record IsRecord (w : List ℕ) (total at : ℕ) (op : Operation) (width next : ℕ) : Type 0 where
+  pub inside : at < length w
+  pub kind : kindOf (getD w at 0) ≡ 2
+  pub same-op : op ≡ opAt w at
+  pub ends : next ≡ endAt w at
+  pub fits : next ≤ length w
+  pub same-width : width ≡ outputLen (cellAt w at)
+  pub low-width : width ≤ 64
+  pub n : ℕ
+  pub m : ℕ
+  pub start : ℕ
+  pub leading : IsLeading w (numbersOf op) next (at + 1) n m start
+  pub body : IsBody w total (fieldsOf op n m) n next start
+
+pub record-read : (w : List ℕ) (total at : ℕ) {op : Operation} {width next : ℕ} → recordAt w total at ≡ R.Read op width next → IsRecord w total at op width next
+unfolding recordAt contentsAt cellAt
+record-read w total at {op} {width} {next} read = head (headAt w at) refl read
+  where
+    body :
+        (o : Operation) (first end n m start : ℕ) → IsHead w at o first end → IsLeading w (numbersOf o) end first n m start →
+        (s : Scan) → bodyAt w total (fieldsOf o n m) n end start ≡ s →
+        onBody s (λ (after : ℕ). R.Read o (fieldsOf o n m .width) after) ≡ R.Read op width next → IsRecord w total at op width next
+    body o first end n m start h l (S.Refused f) s e = let z : _≡_ {A = ℕ} 0 1 = cc in absurd (omega arith)
+    body o first end n m start h l (S.Clean after) s e =
+        let was = body-read w total (fieldsOf o n m) n end start s in
+        let same-o : o ≡ op = cc in
+        let same-end : end ≡ next = let a : after ≡ next = cc in let b : after ≡ end = was .0 in omega arith in
+        let same-first : first ≡ at + 1 = h .start in
+        let decoded : opAt w at ≡ o = rw (h .decoded) in
+        let lead : IsLeading w (numbersOf o) end (at + 1) n m start = rw same-first at l in
+        let wide = leading-width w o end (at + 1) lead in
+        let width-is : width ≡ fieldsOf o n m .width = cc in
+        record {
+          inside = h .inside;
+          kind = h .kind;
+          same-op = sym same-o ∙ sym decoded;
+          ends = sym same-end ∙ h .finish;
+          fits = let f = h .fits in omega arith;
+          same-width = width-is ∙ sym (rw decoded (wide .0));
+          low-width = let low = wide .1 in omega arith;
+          n = n;
+          m = m;
+          start = start;
+          leading = rw same-o at (rw same-end at lead);
+          body = rw same-o at (rw same-end at (was .1))
+        }
+    lead :
+        (o : Operation) (first end : ℕ) → IsHead w at o first end → (l : Leading) → leadingAt w (numbersOf o) end first ≡ l →
+        onLeading l (λ (n m start : ℕ). onBody (bodyAt w total (fieldsOf o n m) n end start) (λ (after : ℕ). R.Read o (fieldsOf o n m .width) after))
+        ≡ R.Read op width next → IsRecord w total at op width next
+    lead o first end h (L.Refused f) l e = let z : _≡_ {A = ℕ} 0 1 = cc in absurd (omega arith)
+    lead o first end h (L.Read n m start) l e =
+        body o first end n m start h (leading-read w (numbersOf o) end first l) (bodyAt w total (fieldsOf o n m) n end start) refl e
+    head :
+        (h : Head) → headAt w at ≡ h → onHead h (λ (o : Operation) (first end : ℕ). contentsAt w total o end first) ≡ R.Read op width next →
+        IsRecord w total at op width next
+    head (H.Refused f) h e = let z : _≡_ {A = ℕ} 0 1 = cc in absurd (omega arith)
+    head (H.Record o first end) h e = lead o first end (head-read w at h) (leadingAt w (numbersOf o) end first) refl e

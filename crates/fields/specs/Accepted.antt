@@ -160,3 +160,13 @@ module _ (step : ℕ → Scan) (P : ℕ → Type 0) (one : (at next : ℕ) → s
           let later : (next ≡ at + 1 + n) × ((i : ℕ) → i < n → P (at + 1 + i)) = rest (rw same at e) in
           let ends : next ≡ at + 1 + n = later .0 in
           (omega arith, each n at (first .1) (later .1))
+
+-- A scan followed by another was clean: both were.
+pub record Both (s : Scan) (f : ℕ → Scan) (next : ℕ) : Type 0 where
+  pub place : ℕ
+  pub first : s ≡ Clean place
+  pub second : f place ≡ Clean next
+
+pub both-read : (s : Scan) (f : ℕ → Scan) {next : ℕ} → onClean s f ≡ Clean next → Both s f next
+both-read (Clean k) f e = record { place = k; first = refl; second = e }
+both-read (Refused f₁) f e = let z : _≡_ {A = ℕ} 0 1 = cc in absurd (omega arith)
