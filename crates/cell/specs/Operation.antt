@@ -20,43 +20,44 @@ operations =
 abbrev pub operationOf : ℕ → Decoded
 operationOf number = getD (map Known operations) number Unknown
 
--- No number; #n; #n with n > 0 (fault 7); #n and a second number with its bound; these and a third without a bound.
-abbrev numbers : ℕ → ℕ → Bool → Bool → Numbers
-numbers count second positive within = record { count = count; second = second; positive = positive; within = within }
-
+-- No number; #n with its least value; #n and a second number with its bound; these and a third without a bound.
 abbrev none : Numbers
-none = numbers 0 0 false false
+none = record { count = 0; least = 0; second = 0; within = false }
 
-abbrev oneNumber : Numbers
-oneNumber = numbers 1 0 false false
+abbrev one : ℕ → Numbers
+one least = record { count = 1; least = least; second = 0; within = false }
 
-abbrev positiveNumber : Numbers
-positiveNumber = numbers 1 0 true false
+abbrev two : ℕ → Numbers
+two second = record { count = 2; least = 0; second = second; within = false }
 
--- The numbers of each body: n, k, u ≤ 63, m ≤ 32, flag ≤ 1; n = 0 in Eq, ULt, SLt, SShr is fault 7; Assign's offset + u > n is fault 9.
+abbrev three : ℕ → ℕ → Bool → Numbers
+three least second within = record { count = 3; least = least; second = second; within = within }
+
+-- The numbers of each body: k, u ≤ 63, m ≤ 32, flag ≤ 1 (n ≤ 63 in all); Eq, ULt, SLt and SShr need n > 0 (fault 7); in Assign
+-- offset + u must be within n (fault 9).
 abbrev pub numbersOf : Operation → Numbers
 numbersOf Void = none
-numbersOf Buf = oneNumber
-numbersOf Not = oneNumber
-numbersOf And = oneNumber
-numbersOf Or = oneNumber
-numbersOf Xor = oneNumber
-numbersOf Mux = oneNumber
-numbersOf Adc = oneNumber
+numbersOf Buf = one 0
+numbersOf Not = one 0
+numbersOf And = one 0
+numbersOf Or = one 0
+numbersOf Xor = one 0
+numbersOf Mux = one 0
+numbersOf Adc = one 0
 numbersOf Aig = none
-numbersOf Eq = positiveNumber
-numbersOf ULt = positiveNumber
-numbersOf SLt = positiveNumber
-numbersOf Shl = numbers 3 32 false false
-numbersOf UShr = numbers 3 32 false false
-numbersOf SShr = numbers 3 32 true false
-numbersOf XShr = numbers 3 32 false false
-numbersOf Mul = oneNumber
-numbersOf Match = numbers 2 63 false false
-numbersOf Assign = numbers 3 63 false true
-numbersOf Dff = numbers 2 1 false false
-numbersOf IoBuf = oneNumber
-numbersOf Input = oneNumber
+numbersOf Eq = one 1
+numbersOf ULt = one 1
+numbersOf SLt = one 1
+numbersOf Shl = three 0 32 false
+numbersOf UShr = three 0 32 false
+numbersOf SShr = three 1 32 false
+numbersOf XShr = three 0 32 false
+numbersOf Mul = one 0
+numbersOf Match = two 63
+numbersOf Assign = three 0 63 true
+numbersOf Dff = two 1
+numbersOf IoBuf = one 0
+numbersOf Input = one 0
 numbersOf Note = none
 
 abbrev fields : ℕ → ℕ → ℕ → ℕ → ℕ → Fields

@@ -35,12 +35,12 @@ pub enum Decoded {
     Unknown,
 }
 
-// The numbers that lead a body: how many, the bound of the second, whether the first must be positive, and whether the third is an offset
-// at which as many words as the second says must fit within the first.
+// The numbers that lead a body: how many, the least that the first may be, the bound of the second, and whether the third is an offset at which
+// as many nets as the second says must fit within as many as the first says.
 pub struct Numbers {
     pub count: u32,
+    pub least: u32,
     pub second: u32,
-    pub positive: bool,
     pub within: bool,
 }
 
@@ -90,144 +90,29 @@ pub fn numbers_of(op: Operation) -> Numbers
     ensures { λ r. ⌜ r ≡ numbersOf op ⌝ }
 {
     match op {
-        Operation::Void => Numbers {
-            count: 0,
-            second: 0,
-            positive: false,
-            within: false,
-        },
-        Operation::Buf => Numbers {
-            count: 1,
-            second: 0,
-            positive: false,
-            within: false,
-        },
-        Operation::Not => Numbers {
-            count: 1,
-            second: 0,
-            positive: false,
-            within: false,
-        },
-        Operation::And => Numbers {
-            count: 1,
-            second: 0,
-            positive: false,
-            within: false,
-        },
-        Operation::Or => Numbers {
-            count: 1,
-            second: 0,
-            positive: false,
-            within: false,
-        },
-        Operation::Xor => Numbers {
-            count: 1,
-            second: 0,
-            positive: false,
-            within: false,
-        },
-        Operation::Mux => Numbers {
-            count: 1,
-            second: 0,
-            positive: false,
-            within: false,
-        },
-        Operation::Adc => Numbers {
-            count: 1,
-            second: 0,
-            positive: false,
-            within: false,
-        },
-        Operation::Aig => Numbers {
-            count: 0,
-            second: 0,
-            positive: false,
-            within: false,
-        },
-        Operation::Eq => Numbers {
-            count: 1,
-            second: 0,
-            positive: true,
-            within: false,
-        },
-        Operation::ULt => Numbers {
-            count: 1,
-            second: 0,
-            positive: true,
-            within: false,
-        },
-        Operation::SLt => Numbers {
-            count: 1,
-            second: 0,
-            positive: true,
-            within: false,
-        },
-        Operation::Shl => Numbers {
-            count: 3,
-            second: 32,
-            positive: false,
-            within: false,
-        },
-        Operation::UShr => Numbers {
-            count: 3,
-            second: 32,
-            positive: false,
-            within: false,
-        },
-        Operation::SShr => Numbers {
-            count: 3,
-            second: 32,
-            positive: true,
-            within: false,
-        },
-        Operation::XShr => Numbers {
-            count: 3,
-            second: 32,
-            positive: false,
-            within: false,
-        },
-        Operation::Mul => Numbers {
-            count: 1,
-            second: 0,
-            positive: false,
-            within: false,
-        },
-        Operation::Match => Numbers {
-            count: 2,
-            second: 63,
-            positive: false,
-            within: false,
-        },
-        Operation::Assign => Numbers {
-            count: 3,
-            second: 63,
-            positive: false,
-            within: true,
-        },
-        Operation::Dff => Numbers {
-            count: 2,
-            second: 1,
-            positive: false,
-            within: false,
-        },
-        Operation::IoBuf => Numbers {
-            count: 1,
-            second: 0,
-            positive: false,
-            within: false,
-        },
-        Operation::Input => Numbers {
-            count: 1,
-            second: 0,
-            positive: false,
-            within: false,
-        },
-        Operation::Note => Numbers {
-            count: 0,
-            second: 0,
-            positive: false,
-            within: false,
-        },
+        Operation::Void => Numbers { count: 0, least: 0, second: 0, within: false },
+        Operation::Buf => Numbers { count: 1, least: 0, second: 0, within: false },
+        Operation::Not => Numbers { count: 1, least: 0, second: 0, within: false },
+        Operation::And => Numbers { count: 1, least: 0, second: 0, within: false },
+        Operation::Or => Numbers { count: 1, least: 0, second: 0, within: false },
+        Operation::Xor => Numbers { count: 1, least: 0, second: 0, within: false },
+        Operation::Mux => Numbers { count: 1, least: 0, second: 0, within: false },
+        Operation::Adc => Numbers { count: 1, least: 0, second: 0, within: false },
+        Operation::Aig => Numbers { count: 0, least: 0, second: 0, within: false },
+        Operation::Eq => Numbers { count: 1, least: 1, second: 0, within: false },
+        Operation::ULt => Numbers { count: 1, least: 1, second: 0, within: false },
+        Operation::SLt => Numbers { count: 1, least: 1, second: 0, within: false },
+        Operation::Shl => Numbers { count: 3, least: 0, second: 32, within: false },
+        Operation::UShr => Numbers { count: 3, least: 0, second: 32, within: false },
+        Operation::SShr => Numbers { count: 3, least: 1, second: 32, within: false },
+        Operation::XShr => Numbers { count: 3, least: 0, second: 32, within: false },
+        Operation::Mul => Numbers { count: 1, least: 0, second: 0, within: false },
+        Operation::Match => Numbers { count: 2, least: 0, second: 63, within: false },
+        Operation::Assign => Numbers { count: 3, least: 0, second: 63, within: true },
+        Operation::Dff => Numbers { count: 2, least: 0, second: 1, within: false },
+        Operation::IoBuf => Numbers { count: 1, least: 0, second: 0, within: false },
+        Operation::Input => Numbers { count: 1, least: 0, second: 0, within: false },
+        Operation::Note => Numbers { count: 0, least: 0, second: 0, within: false },
     }
 }
 

@@ -1,0 +1,82 @@
+-- Document 01, "Faults and what stays", Order: "Each field: outside the count 5, kind 2, bound 4, then 7 and 9 once their numbers are known,
+-- constant 8, net 6. Then leftover 5". Each definition answers what stands at a place, or the first fault met there.
+use Prim.Native.Nat.{ℕ, zero, suc, _+_, _-_}
+use mathlib.Core.List.{List}
+use mathlib.Core.Bool.{Bool, true, false, cond}
+use lib.ListN.{getD}
+use lib.Dec.{ltb, leb, eqb}
+use Rattle.logic.specs.Word.{kindOf, payloadOf}
+use Rattle.logic.specs.declared.Fault.{Fault}
+use Rattle.fields.specs.declared.Number.{Number}
+use Rattle.fields.specs.declared.Number.the-variants as N
+use Rattle.fields.specs.declared.Scan.{Scan}
+use Rattle.fields.specs.declared.Scan.the-variants.{Clean, Refused}
+use Rattle.fields.specs.declared.Bit.{Bit}
+use Rattle.fields.specs.declared.Bit.the-variants as B
+
+abbrev pub fault : ℕ → ℕ → Fault
+fault number place = record { number = number; place = place }
+
+-- What follows a scan without a fault, from the place it reached.
+abbrev pub onClean : Scan → (ℕ → Scan) → Scan
+onClean (Clean next) f = f next
+onClean (Refused e) f = Refused e
+
+-- A number at `at` of a record that ends before `end`: outside the count 5, kind 2, above its bound 4.
+unfoldable pub numberAt : List ℕ → ℕ → ℕ → ℕ → Number
+numberAt w bound end at =
+    cond (ltb at end)
+    (cond (eqb (kindOf (getD w at 0)) 3)
+    (cond (leb (payloadOf (getD w at 0)) bound) (N.Value (payloadOf (getD w at 0)) (at + 1)) (N.Refused (fault 4 at)))
+    (N.Refused (fault 2 at)))
+    (N.Refused (fault 5 at))
+
+-- Constants 0, 1 and X.
+abbrev pub isConstant : ℕ → Bool
+isConstant p = cond (ltb p 2) true (eqb p 536870911)
+
+-- A constant, or a slot below the total.
+abbrev pub isKnown : ℕ → ℕ → Bool
+isKnown total p = cond (isConstant p) true (ltb (p - 2) total)
+
+-- A net of a kind up to `most` (0: net words only; 1: a control, which may be inverted): outside the count 5, kind 2, unknown slot 6.
+unfoldable pub netAt : List ℕ → ℕ → ℕ → ℕ → ℕ → Scan
+netAt w total most end at =
+    cond (ltb at end)
+    (cond (leb (kindOf (getD w at 0)) most)
+    (cond (isKnown total (payloadOf (getD w at 0))) (Clean (at + 1)) (Refused (fault 6 at)))
+    (Refused (fault 2 at)))
+    (Refused (fault 5 at))
+
+-- A word where only a constant may stand: outside the count 5, kind 2; else whether it is one.
+unfoldable pub bitAt : List ℕ → ℕ → ℕ → Bit
+bitAt w end at =
+    cond (ltb at end)
+    (cond (eqb (kindOf (getD w at 0)) 0)
+    (cond (isConstant (payloadOf (getD w at 0))) (B.Constant (at + 1)) B.Other)
+    (B.Refused (fault 2 at)))
+    (B.Refused (fault 5 at))
+
+-- A net word that is no constant is fault 8.
+abbrev pub scanBit : Bit → ℕ → Scan
+scanBit (B.Constant next) at = Clean next
+scanBit B.Other at = Refused (fault 8 at)
+scanBit (B.Refused e) at = Refused e
+
+unfoldable pub constantAt : List ℕ → ℕ → ℕ → Scan
+constantAt w end at = scanBit (bitAt w end at) at
+
+-- `step` n times, from place to place, up to the first fault.
+unfoldable pub scanMany : (ℕ → Scan) → ℕ → ℕ → Scan
+scanMany step zero at = Clean at
+scanMany step (suc n) at = onClean (step at) (scanMany step n)
+
+abbrev pub netsAt : List ℕ → ℕ → ℕ → ℕ → ℕ → ℕ → Scan
+netsAt w total most end n at = scanMany (netAt w total most end) n at
+
+abbrev pub constantsAt : List ℕ → ℕ → ℕ → ℕ → Scan
+constantsAt w end n at = scanMany (constantAt w end) n at
+
+-- The fields end where the head's count says, or the word after them is fault 5.
+unfoldable pub endsAt : ℕ → ℕ → Scan
+endsAt end next = cond (eqb next end) (Clean end) (Refused (fault 5 next))

@@ -1,0 +1,33 @@
+-- Document 01, "Faults and what stays", Order: "A record: missing word 1, head kind 2, operation 3, running past the list 1."
+use Prim.Native.Nat.{ℕ, _+_, _/_, _%_}
+use mathlib.Core.List.{List}
+use mathlib.Core.Bool.{cond}
+use lib.ListN.{getD, length}
+use lib.Dec.{ltb, leb, eqb}
+use Rattle.logic.specs.Word.{kindOf, payloadOf}
+use Rattle.logic.specs.declared.Fault.{Fault}
+use Rattle.cell.specs.Operation.{operationOf}
+use Rattle.cell.specs.declared.Operation.{Operation}
+use Rattle.cell.specs.declared.Decoded.{Decoded}
+use Rattle.cell.specs.declared.Decoded.the-variants.{Known, Unknown}
+use Rattle.fields.specs.declared.Head.{Head}
+use Rattle.fields.specs.declared.Head.the-variants.{Record, Refused}
+use Rattle.fields.specs.Field.{fault}
+
+-- A head's payload is the operation + 32 × the count of following words; these must be in the list.
+unfoldable pub recordOf : Operation → ℕ → ℕ → ℕ → Head
+recordOf op count len at =
+    cond (leb (at + 1 + count) len) (Record op (at + 1) (at + 1 + count)) (Refused (fault 1 len))
+
+abbrev pub onKnown : Decoded → Fault → (Operation → Head) → Head
+onKnown (Known op) e f = f op
+onKnown Unknown e f = Refused e
+
+unfoldable pub headAt : List ℕ → ℕ → Head
+headAt w at =
+    cond (ltb at (length w))
+    (cond (eqb (kindOf (getD w at 0)) 2)
+    (onKnown (operationOf (payloadOf (getD w at 0) % 32)) (fault 3 at)
+    (λ (op : Operation). recordOf op (payloadOf (getD w at 0) / 32) (length w) at))
+    (Refused (fault 2 at)))
+    (Refused (fault 1 (length w)))

@@ -1,0 +1,5 @@
+pub mod Field
+pub mod Pattern
+pub mod Head
+pub mod Laws
+pub mod Accepted
