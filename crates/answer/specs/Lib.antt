@@ -2,3 +2,4 @@ pub mod Token
 pub mod Reply
 pub mod Same
 pub mod Place
+pub mod Step

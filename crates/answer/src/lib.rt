@@ -1,17 +1,50 @@
 // The answer reader: a solver's reply, read against the recorded marks into a lent table of trits.
+use logic::Fault;
 ghost use mathlib.Core.Path.{_≡_};
 ghost use mathlib.Core.Bool.{_||_};
 ghost use Prim.Native.Nat.{_≤_};
 ghost use lib.ListN.{length};
 ghost use lib.Seq.{slice};
 ghost use Rattle.answer.specs.Token.{white, parenthesis};
-ghost use Rattle.answer.specs.Reply.{same};
-ghost use Rattle.answer.specs.Place.{Skipped, Found, runEnd};
+ghost use Rattle.answer.specs.Reply.{same, expectSpelled, expectName, value, pairSpelled};
+ghost use Rattle.answer.specs.Place.{Skipped, Found, runEnd, tokensFrom};
+ghost use Rattle.answer.specs.Step.{stepResult, bitResult};
+
+// What a solver said. After sat the table is written; a refusal has document 01's number and the place of the byte or mark at fault.
+pub enum Answer {
+    Unsat,
+    Sat,
+    Refused(Fault),
+}
+
+// The first recorded mark that is none, if there is one.
+enum Mark {
+    Fine,
+    Bad(usize),
+}
 
 // Where the next token stands: from a place up to another.
 enum Next {
     End,
     Token(usize, usize),
+}
+
+// The place after a token that was expected.
+enum Step {
+    At(usize),
+    Refused(Fault),
+}
+
+// The bit of a value, and the place after it.
+enum Bit {
+    Read(bool, usize),
+    Refused(Fault),
+}
+
+// The number of a slot's readback, and the place after its pairs.
+enum Entry {
+    Read(u8, usize),
+    Refused(Fault),
 }
 
 // Is a byte white space?
@@ -108,4 +141,102 @@ fn token_is(text: &[u8], start: usize, end: usize, word: &[u8]) -> bool
         i += 1;
     }
     true
+}
+
+// Reads a token of one spelling.
+fn expect_word(text: &[u8], at: usize, word: &[u8]) -> Step
+    ensures { λ r. ⌜ expectSpelled (now (word .entry)) (tokensFrom (now (text .entry)) at) ≡ stepResult (now (text .entry)) r ⌝ }
+{
+    match next_token(text, at) {
+        Next::End => Step::Refused(Fault {
+            number: 16,
+            place: 0,
+        }),
+        Next::Token(start, end) => {
+            if token_is(text, start, end, word) {
+                Step::At(end)
+            } else {
+                Step::Refused(Fault {
+                    number: 16,
+                    place: start,
+                })
+            }
+        }
+    }
+}
+
+// Reads the name asked.
+fn expect_name(text: &[u8], at: usize, name: &[u8]) -> Step
+    ensures { λ r. ⌜ expectName (now (name .entry)) (tokensFrom (now (text .entry)) at) ≡ stepResult (now (text .entry)) r ⌝ }
+{
+    match next_token(text, at) {
+        Next::End => Step::Refused(Fault {
+            number: 16,
+            place: 0,
+        }),
+        Next::Token(start, end) => {
+            if token_is(text, start, end, name) {
+                return Step::At(end);
+            }
+            if token_is(text, start, end, b"(") {
+                return Step::Refused(Fault {
+                    number: 16,
+                    place: start,
+                });
+            }
+            if token_is(text, start, end, b")") {
+                return Step::Refused(Fault {
+                    number: 16,
+                    place: start,
+                });
+            }
+            Step::Refused(Fault {
+                number: 17,
+                place: start,
+            })
+        }
+    }
+}
+
+// Reads #b0 or #b1.
+fn value_at(text: &[u8], at: usize) -> Bit
+    ensures { λ r. ⌜ value (tokensFrom (now (text .entry)) at) ≡ bitResult (now (text .entry)) r ⌝ }
+{
+    match next_token(text, at) {
+        Next::End => Bit::Refused(Fault {
+            number: 16,
+            place: 0,
+        }),
+        Next::Token(start, end) => {
+            if token_is(text, start, end, b"#b0") {
+                return Bit::Read(false, end);
+            }
+            if token_is(text, start, end, b"#b1") {
+                return Bit::Read(true, end);
+            }
+            Bit::Refused(Fault {
+                number: 16,
+                place: start,
+            })
+        }
+    }
+}
+
+// Reads a pair: a name that is spelled as asked, and its value.
+fn pair_at(text: &[u8], at: usize, name: &[u8]) -> Bit
+    ensures { λ r. ⌜ pairSpelled (now (name .entry)) (tokensFrom (now (text .entry)) at) ≡ bitResult (now (text .entry)) r ⌝ }
+{
+    match expect_word(text, at, b"(") {
+        Step::Refused(e) => Bit::Refused(e),
+        Step::At(named) => match expect_name(text, named, name) {
+            Step::Refused(e) => Bit::Refused(e),
+            Step::At(valued) => match value_at(text, valued) {
+                Bit::Refused(e) => Bit::Refused(e),
+                Bit::Read(bit, closing) => match expect_word(text, closing, b")") {
+                    Step::Refused(e) => Bit::Refused(e),
+                    Step::At(next) => Bit::Read(bit, next),
+                },
+            },
+        },
+    }
 }
