@@ -5,7 +5,7 @@ use Prim.Native.Nat.{ℕ, zero, suc}
 use lib.Dec.{eqb}
 use Rattle.logic.specs.Trit.{shows, readbackNumber}
 use Rattle.logic.specs.declared.Readback.the-variants.{Shown, Absent}
-use Rattle.text.specs.Bytes.{ascii, decimal}
+use Rattle.text.specs.Names.{spelling}
 use Rattle.answer.specs.declared.Step.{Step}
 use Rattle.answer.specs.declared.Step.the-variants as step
 use Rattle.answer.specs.declared.Bit.{Bit}
@@ -28,18 +28,32 @@ abbrev pub entryResult : List ℕ → Entry → Result ℕ
 entryResult text (entry.Read number at) = got number (tokensFrom text at)
 entryResult text (entry.Refused e) = refused e
 
--- A name of a slot, by its letter and suffix.
-abbrev pub slotName : ℕ → ℕ → ℕ → List ℕ
-slotName letter slot suffix = (letter ∷ []) ++ decimal slot ++ (suffix ∷ [])
+-- An entry, and those of the tokens after it.
+abbrev pub onEntry : Result ℕ → (List Token → List ℕ) → List ℕ
+onEntry (got number tokens) rest = number ∷ rest tokens
+onEntry (refused e) rest = []
 
 -- The trit of a slot from its two pairs.
 unfoldable pub trit : ℕ → ℕ → Reader ℕ
 trit letter slot = do
-  x ← pairSpelled (slotName letter slot 120)
-  y ← pairSpelled (slotName letter slot 121)
+  x ← pairSpelled (spelling letter slot 120)
+  y ← pairSpelled (spelling letter slot 121)
   return (readbackNumber (Shown (shows x y)))
 
 -- A slot's entry of the table, by its mark.
 unfoldable pub entryOf : ℕ → ℕ → Reader ℕ
 entryOf slot mark =
     cond (eqb mark 1) (trit 110 slot) (cond (eqb mark 2) (trit 112 slot) (return (readbackNumber Absent)))
+
+-- The entries of all slots, the first mark being the slot's.
+unfoldable pub entries : ℕ → List ℕ → Reader (List ℕ)
+entries slot [] = return []
+entries slot (mark ∷ marks) = do
+  number ← entryOf slot mark
+  numbers ← entries (suc slot) marks
+  return (number ∷ numbers)
+
+-- The entries before the first fault.
+unfoldable pub written : ℕ → List ℕ → List Token → List ℕ
+written slot [] tokens = []
+written slot (mark ∷ marks) tokens = onEntry (entryOf slot mark tokens) (written (suc slot) marks)

@@ -1,5 +1,6 @@
 // The answer reader: a solver's reply, read against the recorded marks into a lent table of trits.
 use logic::Fault;
+use logic::Readback;
 ghost use mathlib.Core.Path.{_≡_};
 ghost use mathlib.Core.Bool.{_||_};
 ghost use Prim.Native.Nat.{_≤_};
@@ -8,7 +9,8 @@ ghost use lib.Seq.{slice};
 ghost use Rattle.answer.specs.Token.{white, parenthesis};
 ghost use Rattle.answer.specs.Reply.{same, expectSpelled, expectName, value, pairSpelled};
 ghost use Rattle.answer.specs.Place.{Skipped, Found, runEnd, tokensFrom};
-ghost use Rattle.answer.specs.Step.{stepResult, bitResult};
+ghost use Rattle.answer.specs.Step.{stepResult, bitResult, entryResult, trit, entryOf};
+ghost use Rattle.text.specs.Names.{spelling};
 
 // What a solver said. After sat the table is written; a refusal has document 01's number and the place of the byte or mark at fault.
 pub enum Answer {
@@ -239,4 +241,44 @@ fn pair_at(text: &[u8], at: usize, name: &[u8]) -> Bit
             },
         },
     }
+}
+
+// Reads the pair of a slot's name.
+fn slot_pair_at(text: &[u8], at: usize, letter: u8, slot: usize, suffix: u8) -> Bit
+    ensures { λ r. ⌜ pairSpelled (spelling letter slot suffix) (tokensFrom (now (text .entry)) at) ≡ bitResult (now (text .entry)) r ⌝ }
+{
+    let mut name = [0u8; 24];
+    let n = text::put_name(&mut name, 0, letter, slot, suffix);
+    pair_at(text, at, &name[..n])
+}
+
+// Reads the two pairs of a slot: x, then y, which an x of 1 hides.
+fn trit_at(text: &[u8], at: usize, letter: u8, slot: usize) -> Entry
+    ensures { λ r. ⌜ trit letter slot (tokensFrom (now (text .entry)) at) ≡ entryResult (now (text .entry)) r ⌝ }
+{
+    match slot_pair_at(text, at, letter, slot, b'x') {
+        Bit::Refused(e) => Entry::Refused(e),
+        Bit::Read(x, second) => match slot_pair_at(text, second, letter, slot, b'y') {
+            Bit::Refused(e) => Entry::Refused(e),
+            Bit::Read(y, next) => {
+                Entry::Read(
+                    logic::readback_number(Readback::Shown(logic::trit_of_bits(x, y))),
+                    next,
+                )
+            }
+        },
+    }
+}
+
+// Reads what a slot's mark asks for, if anything.
+fn entry_at(text: &[u8], at: usize, slot: usize, mark: u8) -> Entry
+    ensures { λ r. ⌜ entryOf slot mark (tokensFrom (now (text .entry)) at) ≡ entryResult (now (text .entry)) r ⌝ }
+{
+    if mark == 1 {
+        return trit_at(text, at, b'n', slot);
+    }
+    if mark == 2 {
+        return trit_at(text, at, b'p', slot);
+    }
+    Entry::Read(logic::readback_number(Readback::Absent), at)
 }
