@@ -3,3 +3,5 @@ pub mod Reply
 pub mod Same
 pub mod Place
 pub mod Step
+pub mod Entries
+pub mod Model

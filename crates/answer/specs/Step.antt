@@ -20,6 +20,11 @@ abbrev pub stepResult : List ℕ → Step → Result (Unit {0})
 stepResult text (step.At at) = got tt (tokensFrom text at)
 stepResult text (step.Refused e) = refused e
 
+-- At the text's end no token is left.
+abbrev pub endResult : Step → Result (Unit {0})
+endResult (step.At at) = got tt []
+endResult (step.Refused e) = refused e
+
 abbrev pub bitResult : List ℕ → Bit → Result Bool
 bitResult text (bit.Read b at) = got b (tokensFrom text at)
 bitResult text (bit.Refused e) = refused e

@@ -7,10 +7,12 @@ ghost use Prim.Native.Nat.{_≤_};
 ghost use lib.ListN.{length};
 ghost use lib.Seq.{slice};
 ghost use Rattle.answer.specs.Token.{white, parenthesis};
-ghost use Rattle.answer.specs.Reply.{same, expectSpelled, expectName, value, pairSpelled};
+ghost use Rattle.answer.specs.Reply.{same, expectSpelled, expectName, value, pairSpelled, ended, badMark};
 ghost use Rattle.answer.specs.Place.{Skipped, Found, runEnd, tokensFrom};
-ghost use Rattle.answer.specs.Step.{stepResult, bitResult, entryResult, trit, entryOf};
-ghost use Rattle.text.specs.Names.{spelling};
+ghost use Rattle.answer.specs.Step.{endResult, stepResult, bitResult, entryResult, trit, entryOf, entries, written};
+ghost use Rattle.answer.specs.Entries.{forget, nothing};
+ghost use Rattle.text.specs.Names.{spelling, asked};
+ghost use Rattle.text.specs.Write.{overwrite};
 
 // What a solver said. After sat the table is written; a refusal has document 01's number and the place of the byte or mark at fault.
 pub enum Answer {
@@ -46,6 +48,13 @@ enum Bit {
 // The number of a slot's readback, and the place after its pairs.
 enum Entry {
     Read(u8, usize),
+    Refused(Fault),
+}
+
+// The answer's first token: after sat, the place where the rest starts.
+enum Verdict {
+    Unsat,
+    Sat(usize),
     Refused(Fault),
 }
 
@@ -281,4 +290,85 @@ fn entry_at(text: &[u8], at: usize, slot: usize, mark: u8) -> Entry
         return trit_at(text, at, b'p', slot);
     }
     Entry::Read(logic::readback_number(Readback::Absent), at)
+}
+
+// The text ends: no token is left.
+fn end_at(text: &[u8], at: usize) -> Step
+    ensures { λ r. ⌜ ended (tokensFrom (now (text .entry)) at) ≡ endResult r ⌝ }
+{
+    match next_token(text, at) {
+        Next::End => Step::At(at),
+        Next::Token(start, _) => Step::Refused(Fault {
+            number: 16,
+            place: start,
+        }),
+    }
+}
+
+// Reads the entries of all slots and gives the place after them.
+fn scan_entries(text: &[u8], start: usize, recorded: &[u8]) -> Step
+    ensures { λ r. ⌜ forget (entries 0 (now (recorded .entry)) (tokensFrom (now (text .entry)) start)) ≡ stepResult (now (text .entry)) r ⌝ }
+{
+    let mut at = start;
+    let mut slot = 0;
+    while slot < recorded.len() {
+        match entry_at(text, at, slot, recorded[slot]) {
+            Entry::Refused(e) => return Step::Refused(e),
+            Entry::Read(_, next) => {
+                at = next;
+            }
+        }
+        slot += 1;
+    }
+    Step::At(at)
+}
+
+// Writes the entries of all slots; a fault, of which the scan would have told, ends it.
+fn write_entries(text: &[u8], start: usize, recorded: &[u8], trits: &mut [u8])
+    ensures { λ _. ⌜ now (trits .exit) ≡ overwrite (now (trits .entry)) 0 (written 0 (now (recorded .entry)) (tokensFrom (now (text .entry)) start)) ⌝ }
+{
+    let mut at = start;
+    let mut slot = 0;
+    while slot < recorded.len() {
+        match entry_at(text, at, slot, recorded[slot]) {
+            Entry::Refused(_) => return,
+            Entry::Read(number, next) => {
+                text::set_byte(trits, slot, number);
+                at = next;
+            }
+        }
+        slot += 1;
+    }
+}
+
+// Does no mark ask for a name?
+fn nothing_asked(recorded: &[u8]) -> bool
+    ensures { λ r. ⌜ r ≡ nothing (asked (now (recorded .entry))) ⌝ }
+{
+    let mut slot = 0;
+    while slot < recorded.len() {
+        let mark = recorded[slot];
+        if mark == 1 {
+            return false;
+        }
+        if mark == 2 {
+            return false;
+        }
+        slot += 1;
+    }
+    true
+}
+
+// The first mark above 2.
+fn bad_mark(recorded: &[u8]) -> Mark
+    ensures { λ r. ⌜ r ≡ badMark 0 (now (recorded .entry)) ⌝ }
+{
+    let mut slot = 0;
+    while slot < recorded.len() {
+        if 2 < recorded[slot] {
+            return Mark::Bad(slot);
+        }
+        slot += 1;
+    }
+    Mark::Fine
 }

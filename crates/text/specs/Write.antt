@@ -15,6 +15,14 @@ unfoldable pub overwrite : List ℕ → ℕ → List ℕ → List ℕ
 overwrite text at [] = text
 overwrite text at (b ∷ bytes) = overwrite (set text at b) (suc at) bytes
 
+pub overwrite-none : (text : List ℕ) (at : ℕ) → overwrite text at [] ≡ text
+unfolding overwrite
+overwrite-none text at = refl
+
+pub overwrite-more : (text : List ℕ) (at b : ℕ) (bytes : List ℕ) → overwrite text at (b ∷ bytes) ≡ overwrite (set text at b) (at + 1) bytes
+unfolding overwrite
+overwrite-more text at b bytes = rw (add-one at)
+
 -- A place counted in a machine word; no text that can be lent reaches the largest.
 abbrev pub capped : ℕ → ℕ
 capped n = min n (2 ^ 64 - 1)
