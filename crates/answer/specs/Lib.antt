@@ -2,3 +2,6 @@ pub mod Token
 pub mod Reply
 pub mod Same
 pub mod Place
+pub mod Step
+pub mod Entries
+pub mod Model

@@ -122,3 +122,15 @@ module _ (text : List ℕ) (at : ℕ) (inside : at < length text) where
         covered (suc at) (length (run rest)) rest,
         drop-drop (length (run rest)) (suc at) text,
       )
+
+-- What the next token's place says of the tokens.
+module _ {text : List ℕ} {at : ℕ} {found : Next} (at-found : Found text at found) where
+  pub found-end : found ≡ next.End → tokensFrom text at ≡ []
+  found-end e = rw e at (at-found .tokens)
+
+  pub found-token : {start end : ℕ} → found ≡ next.Token start end
+      → tokensFrom text at ≡ record { place = start; spelling = slice start end text } ∷ tokensFrom text end
+  found-token e = rw e at (at-found .tokens)
+
+  pub found-inside : {start end : ℕ} → found ≡ next.Token start end → (start ≤ end) × (end ≤ length text)
+  found-inside e = rw e at (at-found .inside)

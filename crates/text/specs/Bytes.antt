@@ -6,8 +6,10 @@ use Prim.Native.Nat.{ℕ, zero, suc, _+_, _/_, _%_, _<_, _≤_, _^_}
 use Prim.Native.Char.{code}
 use Prim.Native.String.{String, [] as []ˢ, _∷_ as _∷ˢ_}
 use native.Mathlib.Omega.{arith}
+use native.Mathlib.Nat.{pow-suc}
 use lib.Dec.{ltb}
-use borrow.Author.Tests.{lt-ltb, le-ltb, ltb-false}
+use lib.ListN.{length, length-append}
+use borrow.Author.Tests.{lt-ltb, le-ltb, ltb-true, ltb-false}
 
 -- The bytes of an ASCII text.
 abbrev pub ascii : String → List ℕ
@@ -46,6 +48,15 @@ unfolding decimal digits
 decimal-more n large =
     rw (le-ltb n 10 large) (ap (λ (l : List ℕ). l ++ ((48 + n % 10) ∷ [])) (enough n (suc (n / 10)) (n / 10) (omega arith) (omega arith)))
 
-test : decimal 4096 ≡ ascii "4096"
-unfolding decimal digits
-test = refl
+-- A number below 10 ^ k has at most k digits.
+pub decimal-length : (k n : ℕ) → n < 10 ^ suc k → length (decimal n) ≤ suc k
+decimal-length zero n low = rw (decimal-digit n low) (omega arith)
+decimal-length (suc k) n low = go (ltb n 10) refl (λ below. decimal-length k (n / 10) below)
+  where
+    go : (small : Bool) → ltb n 10 ≡ small → (n / 10 < 10 ^ suc k → length (decimal (n / 10)) ≤ suc k)
+        → length (decimal n) ≤ suc (suc k)
+    go true e ih = rw (decimal-digit n (ltb-true _ _ e)) (omega arith)
+    go false e ih =
+        let power = pow-suc 10 (suc k) in
+        let shorter = ih (omega arith) in
+        rw (decimal-more n (ltb-false _ _ e), length-append) (omega arith)

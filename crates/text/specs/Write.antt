@@ -8,12 +8,20 @@ use native.Mathlib.Decide.{decLe}
 use native.Mathlib.Numerals.{add-one}
 use native.Mathlib.Omega.{arith}
 use lib.ListN.{length, take, drop, getD, set, length-append, length-set}
-use lib.Seq.{set-out, sets, sets-eq, take-suc}
+use lib.Seq.{set-out, sets, sets-eq, take-suc, take-at}
 
 -- The bytes stored from a place on.
 unfoldable pub overwrite : List ℕ → ℕ → List ℕ → List ℕ
 overwrite text at [] = text
 overwrite text at (b ∷ bytes) = overwrite (set text at b) (suc at) bytes
+
+pub overwrite-none : (text : List ℕ) (at : ℕ) → overwrite text at [] ≡ text
+unfolding overwrite
+overwrite-none text at = refl
+
+pub overwrite-more : (text : List ℕ) (at b : ℕ) (bytes : List ℕ) → overwrite text at (b ∷ bytes) ≡ overwrite (set text at b) (at + 1) bytes
+unfolding overwrite
+overwrite-more text at b bytes = rw (add-one at)
 
 -- A place counted in a machine word; no text that can be lent reaches the largest.
 abbrev pub capped : ℕ → ℕ
@@ -75,3 +83,15 @@ wrote-then {text} {text1} {text2} {at} {at1} {at2} {a} {b} short p q =
 pub wrote-more : {text text1 text2 : List ℕ} {at at1 at2 : ℕ} (bytes : List ℕ) (i : ℕ) → i < length bytes → length text < 2 ^ 64
     → Wrote text text1 at at1 (take i bytes) → Wrote text1 text2 at1 at2 (getD bytes i 0 ∷ []) → Wrote text text2 at at2 (take (i + 1) bytes)
 wrote-more bytes i inside short p q = rw (add-one i, take-suc bytes i 0 inside) (wrote-then short p q)
+
+-- Bytes that fit, written from the start, are what the text starts with.
+module _ {text text1 : List ℕ} {next : ℕ} {bytes : List ℕ} (wrote : Wrote text text1 0 next bytes)
+    (fits : length bytes ≤ length text) (short : length text < 2 ^ 64) where
+  pub start-place : next ≡ length bytes
+  start-place = omega (arith, wrote .place)
+
+  pub start-inside : next ≤ length text1
+  start-inside = rw (start-place, wrote .stored, length-overwrite text 0 bytes) fits
+
+  pub start-bytes : take next text1 ≡ bytes
+  start-bytes = rw (wrote .stored, start-place, overwrite-fits text bytes fits) (take-at bytes _ _ refl)

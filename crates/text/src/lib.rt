@@ -4,6 +4,7 @@ ghost use mathlib.Core.List.{_∷_, []};
 ghost use Prim.Native.Nat.{_+_};
 ghost use lib.ListN.{getD, set};
 ghost use Rattle.text.specs.Bytes.{decimal};
+ghost use Rattle.text.specs.Names.{spelling};
 ghost use Rattle.text.specs.Write.{Wrote, capped};
 
 // The byte at a place of a text, 0 past its end.
@@ -63,4 +64,13 @@ pub fn put_number(text: &mut [u8], at: usize, n: usize) -> usize
     }
     let last = put_number(text, at, n / 10);
     put_byte(text, last, (48 + n % 10) as u8)
+}
+
+// Writes a name from a place on, its letter and suffix as bytes, and gives the next place.
+pub fn put_name(text: &mut [u8], start: usize, letter: u8, index: usize, suffix: u8) -> usize
+    ensures { λ r. ⌜ Wrote (now (text .entry)) (now (text .exit)) start r (spelling letter index suffix) ⌝ }
+{
+    let number = put_byte(text, start, letter);
+    let last = put_number(text, number, index);
+    put_byte(text, last, suffix)
 }

@@ -1,0 +1,115 @@
+-- What follows sat, as the code goes through it: marks one by one, then the list's parts and the end of the text.
+use mathlib.Core.Path.{_≡_, refl, sym, ap, _∙_}
+use mathlib.Core.Bool.{Bool, true, false, cond, _||_}
+use mathlib.Core.List.{List, [], _∷_, _++_}
+use Prim.Native.Nat.{ℕ, zero, suc, _+_, _<_, _≤_}
+use native.Mathlib.Numerals.{add-one}
+use native.Mathlib.Omega.{arith}
+use lib.Dec.{eqb, ltb}
+use lib.ListN.{length, drop, getD, drop-of-length-le}
+use lib.Seq.{drop-cons}
+use borrow.Author.Tests.{lt-ltb, le-ltb, eq-eqb, ne-eqb}
+use Rattle.logic.specs.declared.Fault.{Fault}
+use Rattle.engine.specs.Call.{Name}
+use Rattle.text.specs.Names.{askedFrom, asked}
+use Rattle.answer.specs.declared.Mark.the-variants.{Fine, Bad}
+use Rattle.answer.specs.declared.Step.{Step}
+use Rattle.answer.specs.declared.Step.the-variants as step
+use Rattle.answer.specs.declared.Verdict.{Verdict}
+use Rattle.answer.specs.declared.Verdict.the-variants as verdict
+use Rattle.answer.specs.Token.{Token}
+use Rattle.answer.specs.Reply.{Result, Reader, Reply, got, refused, return, onGot, pairs, table, badMark, expect, ended, model, satisfied, unsat, bad}
+use Rattle.answer.specs.Place.{tokensFrom}
+use Rattle.answer.specs.Step.{entries}
+use Rattle.answer.specs.Entries.{forget, nothing, entries-table}
+
+module _ (marks : List ℕ) (i : ℕ) (inside : i < length marks) where
+  pub mark-bad : 2 < getD marks i 0 → badMark i (drop i marks) ≡ Bad i
+  unfolding badMark
+  mark-bad above = rw (drop-cons marks i 0 inside, lt-ltb _ _ above)
+
+  pub mark-fine : getD marks i 0 ≤ 2 → badMark i (drop i marks) ≡ badMark (i + 1) (drop (i + 1) marks)
+  unfolding badMark
+  mark-fine low = rw (drop-cons marks i 0 inside, le-ltb _ _ low, add-one i)
+
+  pub asked-one : getD marks i 0 ≡ 1 → nothing (askedFrom i (drop i marks)) ≡ false
+  unfolding askedFrom
+  asked-one e = rw (drop-cons marks i 0 inside, eq-eqb _ _ e)
+
+  pub asked-two : (getD marks i 0 ≡ 1 → ⊥) → getD marks i 0 ≡ 2 → nothing (askedFrom i (drop i marks)) ≡ false
+  unfolding askedFrom
+  asked-two other e = rw (drop-cons marks i 0 inside, ne-eqb _ _ other, eq-eqb _ _ e)
+
+  pub asked-none : (getD marks i 0 ≡ 1 → ⊥) → (getD marks i 0 ≡ 2 → ⊥)
+      → askedFrom i (drop i marks) ≡ askedFrom (i + 1) (drop (i + 1) marks)
+  unfolding askedFrom
+  asked-none one two = rw (drop-cons marks i 0 inside, ne-eqb _ _ one, ne-eqb _ _ two, add-one i)
+
+module _ (marks : List ℕ) (i : ℕ) (past : length marks ≤ i) where
+  pub marks-done : badMark i (drop i marks) ≡ Fine
+  unfolding badMark
+  marks-done = rw (drop-of-length-le marks past)
+
+  pub asked-done : askedFrom i (drop i marks) ≡ []
+  unfolding askedFrom
+  asked-done = rw (drop-of-length-le marks past)
+
+-- What the code says of what follows sat: the fault, or the bits, and the place from which the entries of their table are read.
+abbrev pub ModelAt : List ℕ → List ℕ → ℕ → Step → Type 0
+ModelAt text marks at (step.Refused e) = model (asked marks) (tokensFrom text at) ≡ refused e
+ModelAt text marks at (step.At first) =
+    (bits : List Bool) × (left rest : List Token)
+    × (model (asked marks) (tokensFrom text at) ≡ got bits left)
+    × (entries 0 marks (tokensFrom text first) ≡ got (table marks bits) rest)
+
+-- The reply that the first token leads to.
+abbrev pub replyAfter : List ℕ → List Name → Verdict → Reply
+replyAfter text names verdict.Unsat = unsat
+replyAfter text names (verdict.Sat at) = satisfied (model names (tokensFrom text at))
+replyAfter text names (verdict.Refused e) = bad e
+
+-- Reading in turn, taken together in either way.
+regroup : {A B C : Type 0} (r : Result A) (f : A → Reader B) (g : B → Reader C)
+    → onGot (onGot r f) g ≡ onGot r (λ a tokens. onGot (f a tokens) g)
+regroup (got a tokens) f g = refl
+regroup (refused e) f g = refl
+
+abbrev pub listed : List Name → Reader (List Bool)
+listed names tokens = onGot (onGot (pairs names tokens) (λ bits u. onGot (expect ")" u) (λ _. return bits))) (λ bits v. onGot (ended v) (λ _. return bits))
+
+-- With nothing asked, the text ends; otherwise a list, its pairs, and the end.
+module _ (names : List Name) (tokens : List Token) where
+  pub model-none : nothing names ≡ true → model names tokens ≡ onGot (ended tokens) (λ _. return [])
+  model-none e = go names e
+    where
+      go : (names : List Name) → nothing names ≡ true → model names tokens ≡ onGot (ended tokens) (λ _. return [])
+      go [] e = refl
+      go (name ∷ names) e = let z : _≡_ {A = ℕ} 0 1 = cc in absurd (omega arith)
+
+  pub model-some : nothing names ≡ false → model names tokens ≡ onGot (expect "(" tokens) (λ _. listed names)
+  model-some e = go names e
+    where
+      go : (names : List Name) → nothing names ≡ false → model names tokens ≡ onGot (expect "(" tokens) (λ _. listed names)
+      go [] e = let z : _≡_ {A = ℕ} 0 1 = cc in absurd (omega arith)
+      go (name ∷ names) e = regroup (expect "(" tokens) _ _
+
+-- The entries scanned tell of the pairs.
+module _ (marks : List ℕ) (tokens : List Token) where
+  pub scanned-fault : {e : Fault} → forget (entries 0 marks tokens) ≡ refused e → pairs (asked marks) tokens ≡ refused e
+  scanned-fault {e} scanned = go (pairs (asked marks) tokens) (rw (entries-table 0 marks tokens) at scanned)
+    where
+      go : (r : Result (List Bool)) → forget (onGot r (λ bits. return (table marks bits))) ≡ refused e → r ≡ refused e
+      go (got bits left) q = let z : _≡_ {A = ℕ} 0 1 = cc in absurd (omega arith)
+      go (refused x) q = q′ q
+        where
+          q′ : {A B : Type 0} {x y : Fault} → _≡_ {A = Result A} (refused x) (refused y) → _≡_ {A = Result B} (refused x) (refused y)
+          q′ h = cc
+
+  pub scanned : {left : List Token} → forget (entries 0 marks tokens) ≡ got tt left
+      → (bits : List Bool) × (pairs (asked marks) tokens ≡ got bits left) × (entries 0 marks tokens ≡ got (table marks bits) left)
+  scanned {left} scan = go (pairs (asked marks) tokens) refl (rw (entries-table 0 marks tokens) at scan)
+    where
+      go : (r : Result (List Bool)) → pairs (asked marks) tokens ≡ r → forget (onGot r (λ bits. return (table marks bits))) ≡ got tt left
+          → (bits : List Bool) × (pairs (asked marks) tokens ≡ got bits left) × (entries 0 marks tokens ≡ got (table marks bits) left)
+      go (got bits u) e q = let same : u ≡ left = cc in (bits, rw same at e, rw (entries-table 0 marks tokens, e, same))
+      go (refused x) e q = let z : _≡_ {A = ℕ} 0 1 = cc in absurd (omega arith)
