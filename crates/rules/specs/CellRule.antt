@@ -50,10 +50,11 @@ module _ (readsPast : ℕ → Bool) (θ : Trits) where
   abbrev pub read : Net → Trit
   read = ofNet (asRead readsPast θ)
 
-  -- A Dff's clock reads both: its edge is the And of now active and the Not of active before. Its own output reads past.
+  -- A Dff's clock reads both: its edge is the And of now active and the Not of active before.
   abbrev pub edge : Control → Trit
   edge w = t.and (control (ofNet (θ .now)) w) (t.not (control (ofNet (θ .was)) w))
 
+  -- What a Dff's rule is given; its own output reads past.
   abbrev pub flipFlopInputs : FlipFlop → List ℕ → r.FlipFlopInputs
   flipFlopInputs f out = record {
     edge = edge (f .clock);
@@ -68,7 +69,8 @@ module _ (readsPast : ℕ → Bool) (θ : Trits) where
     past = map (θ .was) out;
   }
 
-  -- The rule of a cell with the output slots `out`. An Input, a Void and a Note have none; an IoBuf shows its slots as read.
+  -- The rule of a cell with the output slots `out`. An Input, a Void and a Note have none; an IoBuf, as a replacement's
+  -- new cell, shows the slots as read.
   abbrev pub cellRule : List ℕ → Cell → List Trit
   cellRule out c.void = []
   cellRule out c.note = []

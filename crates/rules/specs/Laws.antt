@@ -1,10 +1,11 @@
--- Document 01's sentences on the Dff and on Match, where their controls are defined. The order of a Dff's steps, and what is hot.
+-- Document 01, "Cell rules, over trits": the order of a Dff's steps, and what is hot in a Match, where their controls
+-- are defined.
 use mathlib.Core.Path.{_≡_, refl, sym, ap, _∙_}
 use mathlib.Core.Bool.{Bool, true, false, cond, true≢false}
 use mathlib.Core.List.{List, [], _∷_, _++_, map}
 use Prim.Native.Nat.{ℕ, zero, suc, _+_}
 use native.Mathlib.Nat.{suc-inj, suc-ne-zero, zero-add, add-zero, add-suc, suc-add}
-use lib.ListN.{length, replicate, length-append}
+use lib.ListN.{length, replicate}
 use Rattle.logic.specs.Net.{Net, constant, slot}
 use Rattle.logic.specs.declared.Trit.{Trit}
 use Rattle.logic.specs.declared.Trit.the-variants.{Zero, One, Undef}
@@ -42,7 +43,8 @@ module _ (n : ℕ) (f : r.FlipFlopInputs) (width : InputsWidth n f) where
   pub clear-inactive : (f .hasClear ≡ true → f .clear ≡ Zero) → r.dff f ≡ r.clocked f
   clear-inactive off = go (f .hasClear) refl
     where
-      go : (has : Bool) → f .hasClear ≡ has → cond has (r.mux (f .clear) (f .clearValue) (r.clocked f)) (r.clocked f) ≡ r.clocked f
+      go : (has : Bool) → f .hasClear ≡ has
+          → cond has (r.mux (f .clear) (f .clearValue) (r.clocked f)) (r.clocked f) ≡ r.clocked f
       go true e = rw (off e) (mux-zero (width .clearValue) (w.clocked-width n f width))
       go false e = refl
 
@@ -53,19 +55,25 @@ module _ (n : ℕ) (f : r.FlipFlopInputs) (width : InputsWidth n f) where
   no-edge e = rw e (mux-zero (w.loaded-width n f width) (width .past))
 
   pub reset-over-enable : f .resetOverEnable ≡ true → f .reset ≡ One → r.loaded f ≡ f .resetValue
-  reset-over-enable flag active = rw (flag, active) (mux-one (width .resetValue) (w.mux-width (f .enable) (width .dat) (width .past)))
+  reset-over-enable flag active =
+      rw (flag, active) (mux-one (width .resetValue) (w.mux-width (f .enable) (width .dat) (width .past)))
 
   pub enable-over-reset : f .resetOverEnable ≡ false → f .enable ≡ Zero → r.loaded f ≡ f .past
-  enable-over-reset flag inactive = rw (flag, inactive) (mux-zero (w.mux-width (f .reset) (width .resetValue) (width .dat)) (width .past))
+  enable-over-reset flag inactive =
+      rw (flag, inactive) (mux-zero (w.mux-width (f .reset) (width .resetValue) (width .dat)) (width .past))
 
   pub loads-data : f .reset ≡ Zero → f .enable ≡ One → r.loaded f ≡ f .dat
   loads-data inactive active = rw (inactive, active) (go (f .resetOverEnable))
     where
       go : (flag : Bool)
-          → cond flag (r.mux Zero (f .resetValue) (r.mux One (f .dat) (f .past))) (r.mux One (r.mux Zero (f .resetValue) (f .dat)) (f .past))
+          → cond flag (r.mux Zero (f .resetValue) (r.mux One (f .dat) (f .past)))
+          (r.mux One (r.mux Zero (f .resetValue) (f .dat)) (f .past))
           ≡ f .dat
-      go true = mux-zero (width .resetValue) (w.mux-width One (width .dat) (width .past)) ∙ mux-one (width .dat) (width .past)
-      go false = mux-one (w.mux-width Zero (width .resetValue) (width .dat)) (width .past) ∙ mux-zero (width .resetValue) (width .dat)
+      go true =
+          mux-zero (width .resetValue) (w.mux-width One (width .dat) (width .past)) ∙ mux-one (width .dat) (width .past)
+      go false =
+          mux-one (w.mux-width Zero (width .resetValue) (width .dat)) (width .past)
+          ∙ mux-zero (width .resetValue) (width .dat)
 
 -- The edge: active now and not before.
 module _ (readsPast : ℕ → Bool) (θ : Trits) (clock : Control) where
@@ -115,12 +123,14 @@ all-X-matches (suc n) (v ∷ value) = all-X-matches n value
 pub match-disabled : (value : List Trit) (patterns : List (List (List Trit)))
     → r.match value Zero patterns ≡ replicate (length patterns) Zero
 match-disabled value patterns =
-    mux-zero (w.firstHot-width (length patterns) 0 (map (r.matches value) patterns)) (w.replicate-width (length patterns) Zero)
+    mux-zero (w.firstHot-width (length patterns) 0 (map (r.matches value) patterns))
+    (w.replicate-width (length patterns) Zero)
 
 pub match-enabled : (value : List Trit) (patterns : List (List (List Trit)))
     → r.match value One patterns ≡ r.firstHot (length patterns) 0 (map (r.matches value) patterns)
 match-enabled value patterns =
-    mux-one (w.firstHot-width (length patterns) 0 (map (r.matches value) patterns)) (w.replicate-width (length patterns) Zero)
+    mux-one (w.firstHot-width (length patterns) 0 (map (r.matches value) patterns))
+    (w.replicate-width (length patterns) Zero)
 
 firstHot-hit : (k i : ℕ) (ms : List Trit) → r.firstHot k i (One ∷ ms) ≡ r.oneHot k i
 unfolding r.firstHot

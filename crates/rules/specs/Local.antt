@@ -1,6 +1,6 @@
--- Cells: turning Xs into 0 or 1 in what a cell reads changes no defined trit of what its rule gives. Hence its rule looks
--- at nothing but past trits and the current trits of its current reads. The exception is an IoBuf as a replacement's new
--- cell: it counts no read, and shows the slots as read.
+-- Cells: turning Xs into 0 or 1 in what a cell reads changes no defined trit of what its rule gives. Hence its rule
+-- looks at nothing but past trits and the current trits of its current reads. The exception is an IoBuf as a
+-- replacement's new cell: it counts no read, and shows the slots as read.
 use mathlib.Core.Path.{_≡_, refl, sym}
 use mathlib.Core.Bool.{Bool, true, false, cond}
 use mathlib.Core.List.{List, [], _∷_, _++_, map}
@@ -25,7 +25,10 @@ control-monotone : (g g′ : Net → Trit) (w : Control) → Refines (g (w .net)
     → Refines (control g w) (control g′ w)
 control-monotone g g′ w h = go (w .inverted)
   where
-    go : (b : Bool) → Refines (control g (record { net = w .net; inverted = b })) (control g′ (record { net = w .net; inverted = b }))
+    word : Bool → Control
+    word b = record { net = w .net; inverted = b }
+
+    go : (b : Bool) → Refines (control g (word b)) (control g′ (word b))
     go true = m.not-monotone h
     go false = h
 
@@ -125,7 +128,8 @@ module _ (readsPast : ℕ → Bool) (θ θ′ : Trits) where
       m.adc-monotone (vector-monotone a (first _ _ h)) (vector-monotone b (first _ _ rest))
       (net-monotone carry (second (currentNets readsPast b) _ rest))
   cellRule-monotone out (c.aig a b) h io =
-      both (m.and-monotone (control-read a (first _ _ h)) (control-read b (second (currentNet readsPast (a .net)) _ h))) empty
+      both (m.and-monotone (control-read a (first _ _ h))
+      (control-read b (second (currentNet readsPast (a .net)) _ h))) empty
   cellRule-monotone out (c.shift op value amount stride) h io =
       m.shift-monotone op (vector-monotone value (first _ _ h))
       (vector-monotone amount (second (currentNets readsPast value) _ h)) stride
@@ -144,8 +148,7 @@ pub record AgreeOn (slots : List ℕ) (θ θ′ : Trits) : Type 0 where
   pub now : (i : ℕ) → List·Memᴰ i slots → θ .now i ≡ θ′ .now i
   pub was : (i : ℕ) → θ .was i ≡ θ′ .was i
 
--- A rule looks at nothing but the past trits and the current trits of the cell's current reads: to agree is to refine both
--- ways.
+-- A rule looks at nothing but past trits and the current trits of its current reads: to agree is to refine both ways.
 module _ (readsPast : ℕ → Bool) (θ θ′ : Trits) (out : List ℕ) (cell : Cell) where
   equal : {a b : Trit} → a ≡ b → Refines a b
   equal {a} e = rw (← e) same

@@ -130,8 +130,14 @@ adc-monotone {a} {a′} {b} {b′} {c} {c′} h k l =
     at-bit i false e =
         let none = neither (isX c) (anyX (take (i + 1) a) || anyX (take (i + 1) b)) e in
         let low = neither (anyX (take (i + 1) a)) (anyX (take (i + 1) b)) (none .1) in
-        rw (← f.refines-defined l (none .0), sum-low i a′ b′ (digit c), ← f.refine-defined (f.refine-take (i + 1) h) (low .0),
-        ← f.refine-defined (f.refine-take (i + 1) k) (low .1), e, sum-low i a b (digit c)) same
+        rw (
+          ← f.refines-defined l (none .0),
+          sum-low i a′ b′ (digit c),
+          ← f.refine-defined (f.refine-take (i + 1) h) (low .0),
+          ← f.refine-defined (f.refine-take (i + 1) k) (low .1),
+          e,
+          sum-low i a b (digit c),
+        ) same
 
 -- ---- Shifts.
 left-monotone : (k : ℕ) {a a′ : List Trit} → Refine a a′ → Refine (r.left k a) (r.left k a′)

@@ -1,5 +1,5 @@
 -- Document 01, "Reading nets": the current reads of a cell, the slots whose current trit its rule looks at.
-use mathlib.Core.Bool.{Bool, true, false, cond}
+use mathlib.Core.Bool.{Bool, false, cond}
 use mathlib.Core.List.{List, [], _∷_, _++_}
 use Prim.Native.Nat.{ℕ}
 use Rattle.logic.specs.Net.{Net, constant, slot}

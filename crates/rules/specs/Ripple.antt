@@ -2,7 +2,7 @@
 use mathlib.Core.Path.{_≡_, refl, sym, ap, ap₂, _∙_}
 use mathlib.Core.Bool.{Bool, true, false, cond, _||_, true≢false}
 use mathlib.Core.List.{List, [], _∷_}
-use Prim.Native.Nat.{ℕ, zero, suc, _+_, _*_, _/_, _%_, _^_, _<_}
+use Prim.Native.Nat.{ℕ, suc, _+_, _*_, _/_, _^_}
 use native.Mathlib.Nat.{suc-inj, suc-ne-zero, suc-add, pow-succ', div-div-eq-div-mul}
 use native.Mathlib.Numerals.{add-one}
 use native.Mathlib.Omega.{arith}
@@ -12,7 +12,7 @@ use Rattle.logic.specs.Table.{tab, tab-ext}
 use Rattle.logic.specs.declared.Trit.{Trit}
 use Rattle.logic.specs.declared.Trit.the-variants.{Zero, One, Undef}
 use Rattle.rules.specs.Trits as t
-use Rattle.rules.specs.Trits.{isX, anyX, digit, number, bitAt, trit, refines}
+use Rattle.rules.specs.Trits.{isX, anyX, digit, number, bitAt, trit}
 use Rattle.rules.specs.Rules as r
 use Rattle.rules.specs.Cases.{all₃}
 use Rattle.rules.specs.Number.{bitAt-low}
@@ -31,7 +31,8 @@ ripple (x ∷ a) (y ∷ b) c = t.xor x (t.xor y c) ∷ ripple a b (carry x y c)
 
 -- ---- One position: what is added there is its bit and twice the carry.
 sum-bit : (x y c : Trit)
-    → cond (isX c || ((isX x || false) || (isX y || false))) Undef (bitAt (digit x + digit y + digit c) 0) ≡ t.xor x (t.xor y c)
+    → cond (isX c || ((isX x || false) || (isX y || false))) Undef (bitAt (digit x + digit y + digit c) 0)
+    ≡ t.xor x (t.xor y c)
 sum-bit = equal₃ _ _ tt
 
 carry-X : (x y c : Trit) → isX (carry x y c) ≡ (isX x || (isX y || isX c))
@@ -46,7 +47,8 @@ carry-X x y c = go (isX x || (isX y || isX c)) (ltb 1 (digit x + digit y + digit
 carry-digit : (x y c : Trit) → isX (carry x y c) ≡ false → (digit x + digit y + digit c) / 2 ≡ digit (carry x y c)
 unfolding carry
 carry-digit x y c =
-    unless (isX (carry x y c)) _ _ (all₃ (λ x y c. isX (carry x y c) || eqb (half x y c) (digit (carry x y c))) tt x y c)
+    unless (isX (carry x y c)) _ _
+    (all₃ (λ x y c. isX (carry x y c) || eqb (half x y c) (digit (carry x y c))) tt x y c)
   where
     half : Trit → Trit → Trit → ℕ
     half x y c = (digit x + digit y + digit c) / 2
@@ -74,7 +76,8 @@ low-bit : (x y : Trit) (a b : List Trit) (c : Trit) → r.adcBit (x ∷ a) (y �
 unfolding anyX number
 low-bit x y a b c = rw (even, bitAt-low 0 (digit x + digit y + digit c) (number a + number b)) (sum-bit x y c)
   where
-    even : digit x + 2 * number a + (digit y + 2 * number b) + digit c ≡ digit x + digit y + digit c + 2 * (number a + number b)
+    even : digit x + 2 * number a + (digit y + 2 * number b) + digit c
+        ≡ digit x + digit y + digit c + 2 * (number a + number b)
     even = omega arith
 
 higher-bit : (i : ℕ) (x y : Trit) (a b : List Trit) (c : Trit)
@@ -95,7 +98,8 @@ higher-bit i x y a b c =
     go true e v = refl
     go false e v = rw (carry-digit x y c e)
 
-adc-cons : (x y : Trit) (a b : List Trit) (c : Trit) → r.adc (x ∷ a) (y ∷ b) c ≡ t.xor x (t.xor y c) ∷ r.adc a b (carry x y c)
+adc-cons : (x y : Trit) (a b : List Trit) (c : Trit)
+    → r.adc (x ∷ a) (y ∷ b) c ≡ t.xor x (t.xor y c) ∷ r.adc a b (carry x y c)
 unfolding tab
 adc-cons x y a b c =
     rw (add-one (suc (length a)), add-one (length a)) (ap₂ (λ (u : Trit) (l : List Trit). u ∷ l) (low-bit x y a b c)
@@ -108,4 +112,5 @@ adc-ripple [] [] One e = refl
 adc-ripple [] [] Undef e = refl
 adc-ripple [] (y ∷ b) c e = absurd (suc-ne-zero (length b) (sym e))
 adc-ripple (x ∷ a) [] c e = absurd (suc-ne-zero (length a) e)
-adc-ripple (x ∷ a) (y ∷ b) c e = adc-cons x y a b c ∙ ap (λ (l : List Trit). t.xor x (t.xor y c) ∷ l) (adc-ripple a b (carry x y c) (suc-inj e))
+adc-ripple (x ∷ a) (y ∷ b) c e =
+    adc-cons x y a b c ∙ ap (λ (l : List Trit). t.xor x (t.xor y c) ∷ l) (adc-ripple a b (carry x y c) (suc-inj e))

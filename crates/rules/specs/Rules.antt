@@ -1,7 +1,7 @@
--- Document 01, "Cell rules, over trits": the rule of each operation, on vectors of trits, low first. In document 01's order.
-use mathlib.Core.Bool.{Bool, true, false, cond, _&&_, _||_}
+-- Document 01, "Cell rules, over trits": the rule of each operation, on vectors of trits, low first, in its order.
+use mathlib.Core.Bool.{Bool, true, false, cond, _||_}
 use mathlib.Core.List.{List, [], _∷_, _++_, map}
-use Prim.Native.Nat.{ℕ, zero, suc, _+_, _-_, _*_}
+use Prim.Native.Nat.{ℕ, suc, _+_, _-_, _*_}
 use lib.Dec.{eqb, ltb}
 use lib.ListN.{length, getD, take, drop, replicate}
 use Rattle.logic.specs.Table.{zipWith, tab}
@@ -25,8 +25,8 @@ unary c.not a = map t.not a
 abbrev pub mux : Trit → List Trit → List Trit → List Trit
 mux s a b = zipWith (t.mux s) a b
 
--- Adc: bit i is X if carry-in or any operand bit up to i is (the top bit if any is), else the sum's bit; n = 0 gives the
--- carry.
+-- Adc: bit i is X if carry-in or any operand bit up to i is, the top bit if any is; else it is the sum's bit. At n = 0
+-- that is the carry.
 abbrev pub adcBit : List Trit → List Trit → Trit → ℕ → Trit
 adcBit a b carry i =
     cond (isX carry || (anyX (take (i + 1) a) || anyX (take (i + 1) b)))
@@ -144,7 +144,8 @@ pub record FlipFlopInputs : Type 0 where
   pub resetValue : List Trit
   pub past : List Trit
 
--- Dff, each step by Mux: reset and enable in the flagged order, then the clock edge, then clear unless it is constantly inactive.
+-- Dff, each step by Mux: reset and enable in the flagged order, then the clock edge, then clear unless it is constantly
+-- inactive.
 abbrev pub loaded : FlipFlopInputs → List Trit
 loaded f =
     cond (f .resetOverEnable)

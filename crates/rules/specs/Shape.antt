@@ -1,7 +1,7 @@
 -- Document 01, "Words" and "Faults": the widths of an accepted cell, and with them the width of what its rule gives.
 use mathlib.Core.Path.{_≡_, refl, _∙_}
 use mathlib.Core.Bool.{Bool}
-use mathlib.Core.List.{List, [], _∷_, map}
+use mathlib.Core.List.{List, map}
 use Prim.Native.Nat.{ℕ, _+_, _≤_, _<_}
 use lib.ListN.{length, length-map}
 use Rattle.logic.specs.Net.{Net}
@@ -10,8 +10,8 @@ use Rattle.cell.specs.Cell.{Cell, Binary, Shift, FlipFlop, outputLen}
 use Rattle.cell.specs.Cell as c
 use Rattle.rules.specs.Rules as r
 use Rattle.rules.specs.CellRule.{Trits, read, asRead, flipFlopInputs, cellRule}
-use Rattle.rules.specs.Width.{Each, Width, InputsWidth, unary-width, binary-width, mux-width, adc-width, shift-width}
-use Rattle.rules.specs.Width.{cond-width, match-width, assign-width, clocked-width}
+use Rattle.rules.specs.Width.{Each, Width, InputsWidth, cond-width, mux-width, clocked-width}
+use Rattle.rules.specs.Width.{unary-width, binary-width, adc-width, shift-width, match-width, assign-width}
 
 -- Fault 7: Eq, ULt, SLt and SShr have at least one net.
 abbrev pub Wide : Binary → ℕ → Type 0
@@ -57,7 +57,7 @@ module _ (readsPast : ℕ → Bool) (θ : Trits) where
   vector : (a : List Net) (n : ℕ) → length a ≡ n → Width n (map (read readsPast θ) a)
   vector = map-width (read readsPast θ)
 
-  pub inputs-width : (f : FlipFlop) (out : List ℕ) → Shaped (c.dff f) → length out ≡ length (f .dat)
+  inputs-width : (f : FlipFlop) (out : List ℕ) → Shaped (c.dff f) → length out ≡ length (f .dat)
       → InputsWidth (length (f .dat)) (flipFlopInputs readsPast θ f out)
   inputs-width f out s e = record {
     dat = vector (f .dat) (length (f .dat)) refl;
@@ -66,14 +66,15 @@ module _ (readsPast : ℕ → Bool) (θ : Trits) where
     past = map-width (θ .was) out (length (f .dat)) e;
   }
 
-  pub cellRule-width : (out : List ℕ) (cell : Cell) → Shaped cell → ((n : ℕ) → cell ≡ c.input n → ⊥)
+  cellRule-width : (out : List ℕ) (cell : Cell) → Shaped cell → ((n : ℕ) → cell ≡ c.input n → ⊥)
       → length out ≡ outputLen cell → Width (outputLen cell) (cellRule readsPast θ out cell)
   cellRule-width out c.void s ruled e = record { is = refl }
   cellRule-width out c.note s ruled e = record { is = refl }
   cellRule-width out (c.input n) s ruled e = absurd (ruled n refl)
   cellRule-width out (c.ioBuf n) s ruled e = map-width (asRead readsPast θ) out n e
   cellRule-width out (c.unary op a) s ruled e = unary-width op (vector a (length a) refl)
-  cellRule-width out (c.binary op a b) s ruled e = binary-width op (vector a (length a) refl) (vector b (length a) (s .0))
+  cellRule-width out (c.binary op a b) s ruled e =
+      binary-width op (vector a (length a) refl) (vector b (length a) (s .0))
   cellRule-width out (c.mux sel a b) s ruled e =
       mux-width (read readsPast θ sel) (vector a (length a) refl) (vector b (length a) s)
   cellRule-width out (c.adc a b carry) s ruled e = adc-width (vector a (length a) refl) _ (read readsPast θ carry)
@@ -86,3 +87,7 @@ module _ (readsPast : ℕ → Bool) (θ : Trits) where
       (rw (length-map update (read readsPast θ)) s)
   cellRule-width out (c.dff f) s ruled e =
       dff-width (length (f .dat)) (flipFlopInputs readsPast θ f out) (inputs-width f out s e)
+
+  pub cellRule-length : (out : List ℕ) (cell : Cell) → Shaped cell → ((n : ℕ) → cell ≡ c.input n → ⊥)
+      → length out ≡ outputLen cell → length (cellRule readsPast θ out cell) ≡ outputLen cell
+  cellRule-length out cell s ruled e = (cellRule-width out cell s ruled e) .is

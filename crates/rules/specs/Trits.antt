@@ -1,7 +1,7 @@
--- Document 01, "Cell rules, over trits": the rules on single trits, and vectors of trits as numbers. A vector stands low trit first.
-use mathlib.Core.Bool.{Bool, true, false, cond, _&&_, _||_}
+-- Document 01, "Cell rules, over trits": the rules on single trits, and vectors of trits as numbers, low trit first.
+use mathlib.Core.Bool.{Bool, true, false, cond, _||_}
 use mathlib.Core.List.{List, [], _∷_}
-use Prim.Native.Nat.{ℕ, zero, suc, _+_, _*_, _/_, _%_, _^_}
+use Prim.Native.Nat.{ℕ, _+_, _*_, _/_, _%_, _^_}
 use lib.Dec.{eqb}
 use Rattle.logic.specs.declared.Trit.{Trit}
 use Rattle.logic.specs.declared.Trit.the-variants.{Zero, One, Undef}

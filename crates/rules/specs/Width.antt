@@ -1,7 +1,7 @@
 -- The widths of what the rules give.
 use mathlib.Core.Path.{_≡_, refl, sym, ap, _∙_}
 use mathlib.Core.Bool.{Bool, true, false, cond, _||_}
-use mathlib.Core.List.{List, [], _∷_, _++_, map}
+use mathlib.Core.List.{List, [], _∷_}
 use Prim.Native.Nat.{ℕ, zero, suc, _+_, _*_, _≤_}
 use native.Mathlib.Nat.{suc-inj, suc-ne-zero}
 use native.Mathlib.Omega.{arith}
@@ -25,7 +25,8 @@ module _ {A : Type 0} where
 pub record Width (n : ℕ) (a : List Trit) : Type 0 where
   pub is : length a ≡ n
 
-zip-length : (f : Trit → Trit → Trit) (n : ℕ) (a b : List Trit) → length a ≡ n → length b ≡ n → length (zipWith f a b) ≡ n
+zip-length : (f : Trit → Trit → Trit) (n : ℕ) (a b : List Trit) → length a ≡ n → length b ≡ n
+    → length (zipWith f a b) ≡ n
 zip-length f n [] b p q = p
 zip-length f n (x ∷ a) [] p q = absurd (suc-ne-zero (length a) (p ∙ sym q))
 zip-length f zero (x ∷ a) (y ∷ b) p q = absurd (suc-ne-zero (length a) p)
@@ -51,14 +52,16 @@ pub unary-width : (op : Unary) {n : ℕ} {a : List Trit} → Width n a → Width
 unary-width c.buf p = p
 unary-width c.not {a = a} p = record { is = length-map a t.not ∙ p .is }
 
-pub binary-width : (op : Binary) {n : ℕ} {a b : List Trit} → Width n a → Width n b → Width (binaryWidth op n) (r.binary op a b)
+pub binary-width : (op : Binary) {n : ℕ} {a b : List Trit} → Width n a → Width n b
+    → Width (binaryWidth op n) (r.binary op a b)
 binary-width c.and p q = zip-width t.and p q
 binary-width c.or p q = zip-width t.or p q
 binary-width c.xor p q = zip-width t.xor p q
 binary-width c.eq p q = record { is = refl }
 binary-width c.ult {a = a} {b = b} p q = cond-width (anyX a || anyX b) (replicate-width 1 Undef) (record { is = refl })
 binary-width c.slt {a = a} {b = b} p q = cond-width (anyX a || anyX b) (replicate-width 1 Undef) (record { is = refl })
-binary-width c.mul {n} {a} {b} p q = rw (p .is) (cond-width (anyX a || anyX b) (replicate-width n Undef) (tab-width n _))
+binary-width c.mul {n} {a} {b} p q =
+    rw (p .is) (cond-width (anyX a || anyX b) (replicate-width n Undef) (tab-width n _))
 
 pub adc-width : {n : ℕ} {a : List Trit} → Width n a → (b : List Trit) (carry : Trit) → Width (n + 1) (r.adc a b carry)
 adc-width {a = a} p b carry = rw (← p .is) (tab-width (length a + 1) (r.adcBit a b carry))
@@ -74,12 +77,13 @@ shift-width op {n} {a} p amount stride =
     shifted c.sshr k = rw (p .is) (tab-width n _)
     shifted c.xshr k = rw (p .is) (tab-width n _)
 
-pub overwrite-width : {n : ℕ} {a : List Trit} → Width n a → (offset : ℕ) (b : List Trit) → offset + length b ≤ n → Width n (r.overwrite a offset b)
+pub overwrite-width : {n : ℕ} {a : List Trit} → Width n a → (offset : ℕ) (b : List Trit) → offset + length b ≤ n
+    → Width n (r.overwrite a offset b)
 overwrite-width {a = a} p offset b h =
     let e = p .is in record { is = simp (length-append, length-take, length-drop) (omega arith) }
 
-pub assign-width : {n : ℕ} {a : List Trit} → Width n a → (enable : Trit) (b : List Trit) (offset : ℕ) → offset + length b ≤ n
-    → Width n (r.assign a enable b offset)
+pub assign-width : {n : ℕ} {a : List Trit} → Width n a → (enable : Trit) (b : List Trit) (offset : ℕ)
+    → offset + length b ≤ n → Width n (r.assign a enable b offset)
 assign-width p enable b offset h = mux-width enable (overwrite-width p offset b h) p
 
 pub firstHot-width : (k i : ℕ) (ms : List Trit) → Width k (r.firstHot k i ms)
@@ -87,7 +91,8 @@ unfolding r.firstHot
 firstHot-width k i [] = replicate-width k Zero
 firstHot-width k i (m ∷ ms) = mux-width m (tab-width k _) (firstHot-width k (suc i) ms)
 
-pub match-width : (value : List Trit) (enable : Trit) (patterns : List (List (List Trit))) → Width (length patterns) (r.match value enable patterns)
+pub match-width : (value : List Trit) (enable : Trit) (patterns : List (List (List Trit)))
+    → Width (length patterns) (r.match value enable patterns)
 match-width value enable patterns =
     mux-width enable (firstHot-width (length patterns) 0 _) (replicate-width (length patterns) Zero)
 
