@@ -1,8 +1,9 @@
--- Document 01, "Reading nets": refinement, of trits and of vectors. Turning Xs into 0 or 1 refines.
+-- Document 01, "Reading nets": refinement, of trits and of vectors. A vector is refined by turning Xs into 0 or 1.
 use mathlib.Core.Path.{_≡_, refl, ap, ap₂}
 use mathlib.Core.Bool.{Bool, true, false, _&&_, _||_, true≢false}
 use mathlib.Core.List.{List, [], _∷_, _++_, map}
-use Prim.Native.Nat.{ℕ, zero, suc}
+use Prim.Native.Nat.{ℕ, zero, suc, _+_, _-_, _≤_, _<_, suc-le-suc}
+use native.Mathlib.Nat.{zero-lt-suc}
 use lib.Dec.{T}
 use lib.ListN.{length, getD, take, drop, replicate}
 use Rattle.logic.specs.Table.{zipWith, tab}
@@ -11,102 +12,109 @@ use Rattle.logic.specs.declared.Trit.the-variants.{Zero, One, Undef}
 use Rattle.rules.specs.Trits.{refines, isX, anyX}
 use Rattle.rules.specs.Cases.{allT, all₁, all₂, all₃, and-first, and-second}
 
--- Where the first is defined, the second is the same trit: X is refined by every trit, each trit by itself.
-pub data Refines : Trit → Trit → Type 0 where
-  fromX : {b : Trit} → Refines Undef b
-  same : {a : Trit} → Refines a a
+-- Where the first is defined, the second is the same trit.
+abbrev pub Refines : Trit → Trit → Type 0
+Refines a b = T (refines a b)
 
 -- The same of two vectors of one width, trit by trit.
 pub data Refine : List Trit → List Trit → Type 0 where
   empty : Refine [] []
   both : {x y : Trit} {a b : List Trit} → Refines x y → Refine a b → Refine (x ∷ a) (y ∷ b)
 
--- ---- Trits: an order, which the test decides.
-pub refines-trans : {a b c : Trit} → Refines a b → Refines b c → Refines a c
-refines-trans fromX k = fromX
-refines-trans same k = k
+pub refines-same : (a : Trit) → Refines a a
+refines-same Zero = tt
+refines-same One = tt
+refines-same Undef = tt
 
-pub refines-antisym : {a b : Trit} → Refines a b → Refines b a → a ≡ b
-refines-antisym same k = refl
-refines-antisym fromX same = refl
-refines-antisym fromX fromX = refl
+pub refines-trans : (a b c : Trit) → Refines a b → Refines b c → Refines a c
+refines-trans Undef b c h k = tt
+refines-trans Zero Zero c h k = k
+refines-trans Zero One c h k = absurd h
+refines-trans Zero Undef c h k = absurd h
+refines-trans One Zero c h k = absurd h
+refines-trans One One c h k = k
+refines-trans One Undef c h k = absurd h
 
-pub refines-defined : {a b : Trit} → Refines a b → isX a ≡ false → a ≡ b
-refines-defined same e = refl
-refines-defined fromX e = absurd (true≢false e)
+pub refines-antisym : (a b : Trit) → Refines a b → Refines b a → a ≡ b
+refines-antisym Zero Zero h k = refl
+refines-antisym Zero One h k = absurd h
+refines-antisym Zero Undef h k = absurd h
+refines-antisym One Zero h k = absurd h
+refines-antisym One One h k = refl
+refines-antisym One Undef h k = absurd h
+refines-antisym Undef Zero h k = absurd k
+refines-antisym Undef One h k = absurd k
+refines-antisym Undef Undef h k = refl
 
-pub of-test : (a b : Trit) → T (refines a b) → Refines a b
-of-test Zero Zero h = same
-of-test Zero One h = absurd h
-of-test Zero Undef h = absurd h
-of-test One Zero h = absurd h
-of-test One One h = same
-of-test One Undef h = absurd h
-of-test Undef b h = fromX
+pub refines-defined : (a b : Trit) → Refines a b → isX a ≡ false → a ≡ b
+refines-defined Zero Zero h e = refl
+refines-defined Zero One h e = absurd h
+refines-defined Zero Undef h e = absurd h
+refines-defined One Zero h e = absurd h
+refines-defined One One h e = refl
+refines-defined One Undef h e = absurd h
+refines-defined Undef b h e = absurd (true≢false e)
 
-pub test-of : {a b : Trit} → Refines a b → T (refines a b)
-test-of fromX = tt
-test-of (same {a}) = self a
-  where
-    self : (a : Trit) → T (refines a a)
-    self Zero = tt
-    self One = tt
-    self Undef = tt
+-- Two functions of three trits are equal if they are so on all of them: each refines the other.
+abbrev same : Trit → Trit → Bool
+same a b = refines a b && refines b a
 
--- ---- Functions of trits: a test of all trits, computed, shows that two are equal, or that one is monotone.
-abbrev alike : Trit → Trit → Bool
-alike a b = refines a b && refines b a
-
-pub equal₃ : (f g : Trit → Trit → Trit → Trit) → T (allT λ a. allT λ b. allT λ c. alike (f a b c) (g a b c))
+pub equal₃ : (f g : Trit → Trit → Trit → Trit) → T (allT λ a. allT λ b. allT λ c. same (f a b c) (g a b c))
     → (a b c : Trit) → f a b c ≡ g a b c
 equal₃ f g h a b c =
-    let ways = all₃ (λ a b c. alike (f a b c) (g a b c)) h a b c in
-    refines-antisym
-    (of-test (f a b c) (g a b c) (and-first (refines (f a b c) (g a b c)) (refines (g a b c) (f a b c)) ways))
-    (of-test (g a b c) (f a b c) (and-second (refines (f a b c) (g a b c)) (refines (g a b c) (f a b c)) ways))
+    let both = all₃ (λ a b c. same (f a b c) (g a b c)) h a b c in
+    refines-antisym (f a b c) (g a b c) (and-first (refines (f a b c) (g a b c)) (refines (g a b c) (f a b c)) both)
+    (and-second (refines (f a b c) (g a b c)) (refines (g a b c) (f a b c)) both)
 
+-- ---- Functions of single trits: a test of all trits, computed, makes them monotone.
 -- What f gives of X is refined by what it gives of any trit.
 abbrev pub lowestAtX : (Trit → Trit) → Bool
 lowestAtX f = allT λ t. refines (f Undef) (f t)
 
-pub monotone₁ : (f : Trit → Trit) → T (lowestAtX f) → {a b : Trit} → Refines a b → Refines (f a) (f b)
-monotone₁ f low same = same
-monotone₁ f low (fromX {b}) = of-test (f Undef) (f b) (all₁ (λ t. refines (f Undef) (f t)) low b)
+pub monotone₁ : (f : Trit → Trit) → T (lowestAtX f) → (a b : Trit) → Refines a b → Refines (f a) (f b)
+monotone₁ f low Undef b h = all₁ (λ t. refines (f Undef) (f t)) low b
+monotone₁ f low Zero Zero h = refines-same (f Zero)
+monotone₁ f low Zero One h = absurd h
+monotone₁ f low Zero Undef h = absurd h
+monotone₁ f low One Zero h = absurd h
+monotone₁ f low One One h = refines-same (f One)
+monotone₁ f low One Undef h = absurd h
 
 module _ (f : Trit → Trit → Trit) where
   pub monotone₂ : T (allT λ c. lowestAtX λ t. f t c) → T (allT λ b. lowestAtX λ t. f b t)
-      → {a b c d : Trit} → Refines a b → Refines c d → Refines (f a c) (f b d)
-  monotone₂ low₁ low₂ {b = b} {c = c} h k =
-      refines-trans (monotone₁ (λ t. f t c) (all₁ (λ c. lowestAtX λ t. f t c) low₁ c) h)
-      (monotone₁ (f b) (all₁ (λ b. lowestAtX (f b)) low₂ b) k)
+      → (a b c d : Trit) → Refines a b → Refines c d → Refines (f a c) (f b d)
+  monotone₂ low₁ low₂ a b c d h k =
+      refines-trans (f a c) (f b c) (f b d)
+      (monotone₁ (λ t. f t c) (all₁ (λ c. lowestAtX λ t. f t c) low₁ c) a b h)
+      (monotone₁ (f b) (all₁ (λ b. lowestAtX (f b)) low₂ b) c d k)
 
 module _ (f : Trit → Trit → Trit → Trit) where
   pub monotone₃ : T (allT λ c. allT λ e. lowestAtX λ t. f t c e)
       → T (allT λ b. allT λ e. lowestAtX λ t. f b t e) → T (allT λ b. allT λ d. lowestAtX λ t. f b d t)
-      → {a b c d e g : Trit} → Refines a b → Refines c d → Refines e g → Refines (f a c e) (f b d g)
-  monotone₃ low₁ low₂ low₃ {b = b} {c = c} {e = e} h k l =
-      refines-trans (monotone₁ (λ t. f t c e) (all₂ (λ c e. lowestAtX λ t. f t c e) low₁ c e) h)
+      → (a b c d e g : Trit) → Refines a b → Refines c d → Refines e g → Refines (f a c e) (f b d g)
+  monotone₃ low₁ low₂ low₃ a b c d e g h k l =
+      refines-trans (f a c e) (f b c e) (f b d g)
+      (monotone₁ (λ t. f t c e) (all₂ (λ c e. lowestAtX λ t. f t c e) low₁ c e) a b h)
       (monotone₂ (f b) (all₁ (λ b. allT λ e. lowestAtX λ t. f b t e) low₂ b)
-      (all₁ (λ b. allT λ d. lowestAtX (f b d)) low₃ b) k l)
+      (all₁ (λ b. allT λ d. lowestAtX (f b d)) low₃ b) c d e g k l)
 
 -- ---- Vectors.
 pub refine-same : (a : List Trit) → Refine a a
 refine-same [] = empty
-refine-same (x ∷ a) = both same (refine-same a)
+refine-same (x ∷ a) = both (refines-same x) (refine-same a)
 
 pub refine-antisym : {a b : List Trit} → Refine a b → Refine b a → a ≡ b
 refine-antisym empty empty = refl
-refine-antisym (both h r) (both k s) =
-    ap₂ (λ (t : Trit) (l : List Trit). t ∷ l) (refines-antisym h k) (refine-antisym r s)
+refine-antisym (both {x} {y} h r) (both k s) = ap₂ (λ (t : Trit) (l : List Trit). t ∷ l) (refines-antisym x y h k) (refine-antisym r s)
 
 pub refine-length : {a b : List Trit} → Refine a b → length a ≡ length b
 refine-length empty = refl
 refine-length (both h r) = ap suc (refine-length r)
 
-pub refine-at : {a b : List Trit} → Refine a b → (i : ℕ) {d e : Trit} → Refines d e → Refines (getD a i d) (getD b i e)
-refine-at empty i k = k
-refine-at (both h r) zero k = h
-refine-at (both h r) (suc i) k = refine-at r i k
+pub refine-at : {a b : List Trit} → Refine a b → (i : ℕ) (d e : Trit) → Refines d e → Refines (getD a i d) (getD b i e)
+refine-at empty i d e k = k
+refine-at (both h r) zero d e k = h
+refine-at (both h r) (suc i) d e k = refine-at r i d e k
 
 pub refine-take : {a b : List Trit} (n : ℕ) → Refine a b → Refine (take n a) (take n b)
 refine-take zero r = empty
@@ -127,18 +135,12 @@ unfolding tab
 refine-tab zero f g h = empty
 refine-tab (suc n) f g h = both (h zero) (refine-tab n (λ i. f (suc i)) (λ i. g (suc i)) (λ i. h (suc i)))
 
-module _ {A : Type 0} (f g : A → Trit) (below : (x : A) → Refines (f x) (g x)) where
-  pub refine-values : (l : List A) → Refine (map f l) (map g l)
-  refine-values [] = empty
-  refine-values (x ∷ l) = both (below x) (refine-values l)
-
 module _ (f : Trit → Trit) (monotone : (a b : Trit) → Refines a b → Refines (f a) (f b)) where
   pub refine-map : {a b : List Trit} → Refine a b → Refine (map f a) (map f b)
   refine-map empty = empty
   refine-map (both {x} {y} h r) = both (monotone x y h) (refine-map r)
 
-module _ (f g : Trit → Trit → Trit)
-    (monotone : (a b c d : Trit) → Refines a b → Refines c d → Refines (f a c) (g b d)) where
+module _ (f g : Trit → Trit → Trit) (monotone : (a b c d : Trit) → Refines a b → Refines c d → Refines (f a c) (g b d)) where
   pub refine-zip : {a b c d : List Trit} → Refine a b → Refine c d → Refine (zipWith f a c) (zipWith g b d)
   refine-zip empty s = empty
   refine-zip (both h r) empty = empty
@@ -147,7 +149,7 @@ module _ (f g : Trit → Trit → Trit)
 -- A vector of Xs is refined by every vector of its width; one without X by none but itself.
 pub refine-allX : (a : List Trit) → Refine (replicate (length a) Undef) a
 refine-allX [] = empty
-refine-allX (x ∷ a) = both fromX (refine-allX a)
+refine-allX (x ∷ a) = both tt (refine-allX a)
 
 pub neither : (u v : Bool) → (u || v) ≡ false → (u ≡ false) × (v ≡ false)
 neither true v e = absurd (true≢false e)
@@ -156,6 +158,6 @@ neither false v e = (refl, e)
 pub refine-defined : {a b : List Trit} → Refine a b → anyX a ≡ false → a ≡ b
 unfolding anyX
 refine-defined empty none = refl
-refine-defined (both {x} {a = a} h r) none =
+refine-defined (both {x} {y} {a} h r) none =
     let defined = neither (isX x) (anyX a) none in
-    ap₂ (λ (t : Trit) (l : List Trit). t ∷ l) (refines-defined h (defined .0)) (refine-defined r (defined .1))
+    ap₂ (λ (t : Trit) (l : List Trit). t ∷ l) (refines-defined x y h (defined .0)) (refine-defined r (defined .1))
