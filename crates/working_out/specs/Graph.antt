@@ -9,8 +9,8 @@ use Prim.Native.Nat.{ℕ, zero, suc, _+_, _-_, _≤_, _<_}
 use native.Mathlib.Omega.{arith}
 use native.Mathlib.Nat.{add-zero, add-suc}
 use native.Mathlib.Decide.{ℕ-discrete}
-use lib.Dec.{T, eqb, eqb→eq, eqb-refl}
-use Rattle.working_out.specs.Order.{option, lowest, Found, lowest-some, lowest-none, Twice, pigeon}
+use lib.Dec.{eqb, eqb→eq}
+use Rattle.working_out.specs.Order.{option, eqb-same, lowest, Found, lowest-some, lowest-none, Twice, pigeon}
 
 abbrev pub isSome : Option ℕ → Bool
 isSome none = false
@@ -22,11 +22,7 @@ mark done a b = eqb b a || done b
 
 pub mark-same : (done : ℕ → Bool) (a : ℕ) → mark done a a ≡ true
 unfolding mark
-mark-same done a = go (eqb a a) (eqb-refl a)
-  where
-    go : (b : Bool) → T b → (b || done a) ≡ true
-    go true t = refl
-    go false t = absurd t
+mark-same done a = rw (eqb-same a)
 
 pub mark-other : (done : ℕ → Bool) (a b : ℕ) → b ≢ a → mark done a b ≡ done b
 unfolding mark

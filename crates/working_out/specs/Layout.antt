@@ -12,14 +12,10 @@ use Rattle.logic.specs.Net.{Net}
 use Rattle.cell.specs.Cell.{Cell, outputLen, slotsOf}
 use Rattle.cell.specs.Cell as c
 use Rattle.cell.specs.Design.{Design, Placed, total}
-use Rattle.working_out.specs.Order.{none≢some, some-inj}
+use Rattle.working_out.specs.Order.{none≢some, some-inj, true-of}
 use Rattle.working_out.specs.System.{Owned}
 use Rattle.working_out.specs.Reading.{Each, isIn, cellIn, cellOf, Role, void, given, dff, other, role, isVoid, replacement, isNone, sourceBy, source, nodeOf}
 use Rattle.working_out.specs.Laid.{Run, Laid}
-
-true-of : (b : Bool) → T b → b ≡ true
-true-of true t = refl
-true-of false t = absurd t
 
 in-true : (p : Placed) (i : ℕ) → p .slot ≤ i → i < p .slot + slotsOf (p .cell) → isIn p i ≡ true
 in-true p i l h =

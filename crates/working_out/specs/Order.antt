@@ -19,6 +19,13 @@ none≢some {k} e = let z : _≡_ {A = ℕ} 0 1 = cc in omega arith
 pub some-inj : {j k : ℕ} → some j ≡ some k → j ≡ k
 some-inj {j} {k} e = cc
 
+pub true-of : (b : Bool) → T b → b ≡ true
+true-of true t = refl
+true-of false t = absurd t
+
+pub eqb-same : (n : ℕ) → eqb n n ≡ true
+eqb-same n = true-of (eqb n n) (eqb-refl n)
+
 -- The lowest number below n that passes a test.
 unfoldable pub lowest : ℕ → (ℕ → Bool) → Option ℕ
 lowest zero p = none
@@ -53,18 +60,6 @@ lowest-none (suc n) p e i h = go (λ d. lowest-none n p d) (lowest n p) refl (p 
     go rec none d true q f = absurd (none≢some (sym f))
     go rec none d false q f = last (ℕ-discrete i n) q (rec d)
     go rec (some k) d b q f = absurd (none≢some (sym f))
-
--- It is the lowest: none below it passes.
-pub lowest-first : (n : ℕ) (p : ℕ → Bool) (i : ℕ) → lowest n p ≡ some i → (j : ℕ) → j < i → p j ≡ false
-unfolding lowest
-lowest-first zero p i e j h = absurd (none≢some e)
-lowest-first (suc n) p i e j h = go (λ d. lowest-first n p i d j h) (lowest n p) refl (p n) refl e
-  where
-    go : (lowest n p ≡ some i → p j ≡ false) → (o : Option ℕ) → lowest n p ≡ o → (b : Bool) → p n ≡ b
-        → option o (cond b (some n) none) some ≡ some i → p j ≡ false
-    go rec none d true q f = let k : n ≡ i = cc in lowest-none n p d j (omega arith)
-    go rec none d false q f = absurd (none≢some f)
-    go rec (some k) d b q f = rec (d ∙ f)
 
 pub eqb-false : (m n : ℕ) → eqb m n ≡ false → m ≢ n
 eqb-false m n e q = let h : T (eqb m n) = rw q (eqb-refl n) in rw e at h

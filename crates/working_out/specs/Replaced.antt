@@ -6,7 +6,8 @@ use mathlib.Core.Option.{Option, none, some}
 use mathlib.Core.List.{List, [], _∷_}
 use Prim.Native.Nat.{ℕ, _+_, _<_}
 use native.Mathlib.Omega.{arith}
-use lib.Dec.{T, eqb, eqb→eq, eqb-refl}
+use lib.Dec.{eqb→eq}
+use Rattle.working_out.specs.Order.{eqb-same}
 use Rattle.logic.specs.Net.{Net, constant, slot, payloadOfNet}
 use Rattle.cell.specs.Design.{Design, NetPair}
 use Rattle.working_out.specs.Reading.{Each, cellOf, role, isVoid, isDff, sameNet, replacementIn, Pair, equal, ofVoid, ofDffs, ordinary, netRole, pairOf}
@@ -15,13 +16,6 @@ use Rattle.working_out.specs.Laid.{Ascending}
 same-slot : (n : Net) (i : ℕ) → sameNet n (slot i) ≡ true → n ≡ slot i
 same-slot (constant t) i e = absurd (false≢true e)
 same-slot (slot j) i e = ap slot (eqb→eq j i (rw e tt))
-
-slot-same : (i : ℕ) → sameNet (slot i) (slot i) ≡ true
-slot-same i = go (eqb i i) (eqb-refl i)
-  where
-    go : (b : Bool) → T b → b ≡ true
-    go true t = refl
-    go false t = absurd t
 
 -- The pair of a Void's net, of two nets that differ.
 void-pair : (d : Design) (p : NetPair) → pairOf d p ≡ ofVoid → (sameNet (p .from) (p .to) ≡ false) × (isVoid (netRole d (p .from)) ≡ true)
@@ -81,7 +75,7 @@ module _ (d : Design) (Q : ℕ → Net → Type 0) where
       here : OfPair p
       here e i from =
           let k = void-pair d p e in
-          let found : sameNet (p .from) (slot i) ≡ true = rw from (slot-same i) in
+          let found : sameNet (p .from) (slot i) ≡ true = rw from (eqb-same i) in
           h i (p .to) (rw from at (k .1)) (rw (found, k .0))
 
       later : (i : ℕ) (to : Net) → replacementIn pairs i ≡ some to → (a : Bool) → sameNet (p .from) (slot i) ≡ a → replacementIn (p ∷ pairs) i ≡ some to

@@ -9,8 +9,8 @@ use mathlib.Core.List.{List, [], _∷_, List·Memᴰ, List·Memᴰ·head, List·
 use Prim.Native.Nat.{ℕ, _<_}
 use native.Mathlib.Omega.{arith}
 use native.Mathlib.Decide.{ℕ-discrete}
-use lib.Dec.{T, eqb, eqb→eq, eqb-refl}
-use Rattle.working_out.specs.Order.{option, none≢some, some-inj}
+use lib.Dec.{eqb, eqb→eq}
+use Rattle.working_out.specs.Order.{option, none≢some, some-inj, eqb-same}
 use Rattle.working_out.specs.Graph.{mark, mark-same, mark-other, mark-keeps, Ready, Ordered}
 
 -- Does an element of a list pass a test?
@@ -35,11 +35,7 @@ module _ (owner : ℕ → Option ℕ) where
 
   pub owns-own : (a i : ℕ) → owner i ≡ some a → owns a i ≡ true
   unfolding owns
-  owns-own a i e = rw e (go (eqb a a) (eqb-refl a))
-    where
-      go : (b : Bool) → T b → b ≡ true
-      go true t = refl
-      go false t = absurd t
+  owns-own a i e = rw e (eqb-same a)
 
   pub own-owns : (a i : ℕ) → owns a i ≡ true → owner i ≡ some a
   unfolding owns
@@ -215,13 +211,6 @@ module _ {A : Type 0} (N : ℕ) (owner : ℕ → Option ℕ) (owned : Owned N ow
     where
       apart : (a : ℕ) → owner a ≡ some a → start owner a ≡ true → ⊥
       apart a e d = false≢true (rw (owns-own owner a a e) at d)
-
--- There is one solution.
-pub unique : {A : Type 0} (N : ℕ) (owner : ℕ → Option ℕ) → Owned N owner → (current : ℕ → List ℕ) (F : ℕ → (ℕ → A) → A)
-    → Local owner current F → (l : List ℕ) → Ordered N (reads owner current) (start owner) l → (given σ τ : ℕ → A)
-    → Solves owner F given σ → Solves owner F given τ → (i : ℕ) → σ i ≡ τ i
-unique N owner owned current F local l ord given σ τ s t =
-    related N owner owned current F F (λ a b. a ≡ b) local σ τ (s .nodes) (t .nodes) (λ i e. s .sources i e ∙ sym (t .sources i e)) l ord
 
 -- Nodes are below N, so that the decision of a loop (`no-loop`, `loop-found`) and the order (`ordered`) are right of the system.
 module _ (N : ℕ) (owner : ℕ → Option ℕ) (owned : Owned N owner) (current : ℕ → List ℕ) where

@@ -2,24 +2,26 @@
 -- only solution, and turning given Xs into 0 or 1 changes no trit that was 0 or 1.
 use mathlib.Core.Path.{_≡_, refl}
 use mathlib.Core.Bool.{Bool, true, false, false≢true}
+use mathlib.Core.List.{[], _∷_}
 use Prim.Native.Nat.{ℕ, _+_}
 use lib.ListN.{length}
+use Rattle.logic.specs.Net.{slot}
 use Rattle.logic.specs.Table.{length-tab}
 use Rattle.logic.specs.declared.Trit.{Trit}
 use Rattle.logic.specs.declared.Trit.the-variants.{Zero, One, Undef}
 use Rattle.cell.specs.Cell.{Cell, outputLen}
 use Rattle.cell.specs.Cell as c
-use Rattle.cell.specs.Design.{Design}
-use Rattle.rules.specs.CellRule.{Trits, outputs}
+use Rattle.cell.specs.Design.{Design, NetPair}
+use Rattle.rules.specs.CellRule.{Trits, outputs, read}
 use Rattle.rules.specs.Refine.{Refines, refine-at}
 use Rattle.rules.specs.Local.{cellRule-monotone, cellRule-local}
-use Rattle.working_out.specs.Reading.{readsPast, source, asserted}
+use Rattle.working_out.specs.Reading.{Each, each-map, readsPast, source, asserted, Pair, ofVoid, pairOf}
 use Rattle.working_out.specs.Laid.{Laid, MayReplace}
 use Rattle.working_out.specs.Width.{rule-width}
 use Rattle.working_out.specs.Loop.{hasLoop}
 use Rattle.working_out.specs.Equations.{Wide, CellKeeps, CellLocal}
 use Rattle.working_out.specs.Solutions.{related-by, worked-out-by, only-by}
-use Rattle.working_out.specs.WorkingOut.{tritRule, workedOut, Solves}
+use Rattle.working_out.specs.WorkingOut.{tritRule, workedOut, whole, Solves}
 
 -- An asserted cell has a rule, and is no IoBuf.
 asserted-rule : (a : Cell) → asserted a ≡ true → MayReplace a
@@ -63,6 +65,14 @@ trit-keeps d was was′ refined s a h σ τ k o =
 module _ (d : Design) (laid : Laid d) (no-loop : hasLoop d ≡ false) where
   pub worked-out : (g : Trits) → Solves d g (workedOut d g)
   worked-out g = worked-out-by d laid no-loop (tritRule d (g .was)) Undef (trit-wide d (g .was)) (trit-local d (g .was)) (g .now)
+
+  -- A replaced Void gets its replacement's `to` as read.
+  pub voids-as-read : (g : Trits) → Each (λ (p : NetPair). pairOf d p ≡ ofVoid → (i : ℕ) → p .from ≡ slot i
+      → workedOut d g i ≡ read (readsPast d) (whole d g) (p .to)) (d .netReps)
+  voids-as-read g = each-map (d .netReps) (λ p h v i from. first (h v i from)) ((worked-out g) .voids)
+    where
+      first : {t u : Trit} → t ∷ [] ≡ u ∷ [] → t ≡ u
+      first {t} {u} e = cc
 
   pub only : (g : Trits) (now : ℕ → Trit) → Solves d g now → (i : ℕ) → now i ≡ workedOut d g i
   only g now = only-by d laid no-loop (tritRule d (g .was)) Undef (trit-wide d (g .was)) (trit-local d (g .was)) (g .now) now
