@@ -1,7 +1,7 @@
 -- Finite search, and the pigeonhole: a walk of n + 1 places among n numbers meets a number twice.
 use mathlib.Core.Path.{_≡_, refl, sym, _∙_}
 use mathlib.Core.Logic.{_≢_}
-use mathlib.Core.Bool.{Bool, true, false, cond}
+use mathlib.Core.Bool.{Bool, true, false, not, cond, false≢true, true≢false}
 use mathlib.Core.Option.{Option, none, some}
 use Prim.Native.Nat.{ℕ, zero, suc, _+_, _-_, _≤_, _<_}
 use native.Mathlib.Omega.{arith}
@@ -13,6 +13,14 @@ abbrev pub option : {X : Type 0} → Option ℕ → X → (ℕ → X) → X
 option none x f = x
 option (some k) x f = f k
 
+abbrev pub isSome : Option ℕ → Bool
+isSome none = false
+isSome (some k) = true
+
+pub none-of : (o : Option ℕ) → isSome o ≡ false → o ≡ none
+none-of none e = refl
+none-of (some k) e = absurd (true≢false e)
+
 pub none≢some : {k : ℕ} → none ≡ some k → ⊥
 none≢some {k} e = let z : _≡_ {A = ℕ} 0 1 = cc in omega arith
 
@@ -22,6 +30,14 @@ some-inj {j} {k} e = cc
 pub true-of : (b : Bool) → T b → b ≡ true
 true-of true t = refl
 true-of false t = absurd t
+
+pub not-true : (b : Bool) → not b ≡ true → b ≡ false
+not-true true e = absurd (false≢true e)
+not-true false e = refl
+
+pub not-false : (b : Bool) → not b ≡ false → b ≡ true
+not-false true e = refl
+not-false false e = absurd (true≢false e)
 
 pub eqb-same : (n : ℕ) → eqb n n ≡ true
 eqb-same n = true-of (eqb n n) (eqb-refl n)
@@ -94,7 +110,7 @@ squash-inj c x y nx ny e = go (ltb x c) refl (ltb y c) refl e
     go false p true q e = let h = nltb→le x c (rw p tt) in let k = ltb→lt y c (rw q tt) in omega arith
     go false p false q e = let h = nltb→le x c (rw p tt) in let k = nltb→le y c (rw q tt) in omega arith
 
--- By induction on n: a place that meets the first again, or the rest of the walk among the numbers other than the first.
+-- By induction on n: a place that meets the first again, or the rest of the walk among the other numbers.
 abbrev pub Pigeonhole : ℕ → Type 0
 Pigeonhole n = (walk : ℕ → ℕ) → ((i : ℕ) → i ≤ n → walk i < n) → Twice n walk
 
