@@ -1,5 +1,5 @@
--- The equations of a design, for values of any type: trits, or the bits of an assignment. A rule says which values a cell at a slot
--- gives its outputs, of the current values of all slots.
+-- The equations of a design, for values of any type: trits, or the bits of an assignment. A rule says which values a
+-- cell at a slot gives its outputs, of the current values of all slots.
 use mathlib.Core.Path.{_≡_}
 use mathlib.Core.Bool.{Bool, true, false}
 use mathlib.Core.List.{List, [], _∷_, map, List·Memᴰ}
@@ -22,7 +22,8 @@ Rule A = ℕ → Cell → (ℕ → A) → List A
 module _ {A : Type 0} (rule : Rule A) (d : Design) where
   -- An asserted cell's outputs show what its rule gives.
   abbrev pub CellShown : (ℕ → A) → Placed → Type 0
-  CellShown now p = asserted (p .cell) ≡ true → map now (outputs (p .slot) (outputLen (p .cell))) ≡ rule (p .slot) (p .cell) now
+  CellShown now p =
+      asserted (p .cell) ≡ true → map now (outputs (p .slot) (outputLen (p .cell))) ≡ rule (p .slot) (p .cell) now
 
   -- A replaced Void shows what a Buf of its replacement's `to` gives.
   abbrev pub VoidShown : (ℕ → A) → NetPair → Type 0
@@ -47,16 +48,17 @@ module _ {A : Type 0} (rule : Rule A) (d : Design) where
     unfoldable pub workedOutBy : (ℕ → A) → ℕ → A
     workedOutBy given = workOut (nodeOf d) slotRule (order d) given
 
--- The rules of asserted cells keep a relation between values: where it holds of the slots that a cell reads currently, it holds of
--- what the rules give.
+-- The rules of asserted cells keep a relation between values: where it holds of the slots that a cell reads currently,
+-- it holds of what the rules give.
 module _ {A B : Type 0} (d : Design) (blank : A) (blank′ : B) where
   abbrev pub CellKeeps : Rule A → Rule B → (A → B → Type 0) → Type 0
   CellKeeps F G R =
-      (s : ℕ) (a : Cell) → asserted a ≡ true → (σ : ℕ → A) (τ : ℕ → B)
-      → ((j : ℕ) → List·Memᴰ j (currentReads (readsPast d) a) → R (σ j) (τ j)) → (o : ℕ) → R (getD (F s a σ) o blank) (getD (G s a τ) o blank′)
+      (s : ℕ) (a : Cell) → Shaped a → asserted a ≡ true → (σ : ℕ → A) (τ : ℕ → B)
+      → ((j : ℕ) → List·Memᴰ j (currentReads (readsPast d) a) → R (σ j) (τ j))
+      → (o : ℕ) → R (getD (F s a σ) o blank) (getD (G s a τ) o blank′)
 
 -- Rules that look only at what their cell reads.
 abbrev pub CellLocal : {A : Type 0} → Design → Rule A → Type 0
 CellLocal {A} d F =
-    (s : ℕ) (a : Cell) → asserted a ≡ true → (σ τ : ℕ → A)
+    (s : ℕ) (a : Cell) → Shaped a → asserted a ≡ true → (σ τ : ℕ → A)
     → ((j : ℕ) → List·Memᴰ j (currentReads (readsPast d) a) → σ j ≡ τ j) → F s a σ ≡ F s a τ

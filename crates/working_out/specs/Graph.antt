@@ -1,5 +1,6 @@
--- Nodes that read nodes: the order in which the lowest ready one is always next, and the decision whether there is a loop.
--- A node is a number below N; `done` says which have their values, and at the start also which numbers are no nodes.
+-- Nodes that read nodes: the order in which the lowest ready one is always next, and the decision whether there is a
+-- loop. A node is a number below N; `done` says which have their values, and at the start also which numbers are no
+-- nodes.
 use mathlib.Core.Path.{_≡_, refl, sym, _∙_}
 use mathlib.Core.Logic.{_≢_}
 use mathlib.Core.Bool.{Bool, true, false, not, cond, _&&_, _||_, false≢true, true≢false}
@@ -9,12 +10,9 @@ use Prim.Native.Nat.{ℕ, zero, suc, _+_, _-_, _≤_, _<_}
 use native.Mathlib.Omega.{arith}
 use native.Mathlib.Nat.{add-zero, add-suc}
 use native.Mathlib.Decide.{ℕ-discrete}
-use lib.Dec.{T, eqb, eqb→eq, eqb-refl}
-use Rattle.working_out.specs.Order.{option, lowest, Found, lowest-some, lowest-none, Twice, pigeon}
-
-abbrev pub isSome : Option ℕ → Bool
-isSome none = false
-isSome (some k) = true
+use lib.Dec.{eqb, eqb→eq}
+use Rattle.working_out.specs.Order.{option, isSome, none-of, not-true, not-false, eqb-same}
+use Rattle.working_out.specs.Order.{lowest, Found, lowest-some, lowest-none, Twice, pigeon}
 
 -- One more that is done.
 unfoldable pub mark : (ℕ → Bool) → ℕ → ℕ → Bool
@@ -22,11 +20,7 @@ mark done a b = eqb b a || done b
 
 pub mark-same : (done : ℕ → Bool) (a : ℕ) → mark done a a ≡ true
 unfolding mark
-mark-same done a = go (eqb a a) (eqb-refl a)
-  where
-    go : (b : Bool) → T b → (b || done a) ≡ true
-    go true t = refl
-    go false t = absurd t
+mark-same done a = rw (eqb-same a)
 
 pub mark-other : (done : ℕ → Bool) (a b : ℕ) → b ≢ a → mark done a b ≡ done b
 unfolding mark
@@ -55,8 +49,8 @@ unfolding undone
 none-undone zero done e a l = absurd (omega arith)
 none-undone (suc n) done e a l = go (none-undone n done) (done n) refl e (ℕ-discrete a n)
   where
-    go : (undone n done ≡ 0 → (a : ℕ) → a < n → done a ≡ true) → (b : Bool) → done n ≡ b → cond b 0 1 + undone n done ≡ 0
-        → Dec (a ≡ n) → done a ≡ true
+    go : (undone n done ≡ 0 → (a : ℕ) → a < n → done a ≡ true) → (b : Bool) → done n ≡ b
+        → cond b 0 1 + undone n done ≡ 0 → Dec (a ≡ n) → done a ≡ true
     go rec true d z (yes p) = rw p d
     go rec true d z (no p) = rec (omega arith) a (omega arith)
     go rec false d z p = absurd (omega arith)
@@ -90,9 +84,12 @@ module _ (N : ℕ) (reads : ℕ → ℕ → Bool) where
   unfoldable pub lacks : (ℕ → Bool) → ℕ → Option ℕ
   lacks done a = lowest N (λ b. reads a b && not (done b))
 
-  -- The lowest ready node: it is not done, and all that it reads are.
+  -- A node is ready when it is not done and all that it reads are.
+  abbrev pub isReady : (ℕ → Bool) → ℕ → Bool
+  isReady done a = not (done a) && not (isSome (lacks done a))
+
   unfoldable pub lowestReady : (ℕ → Bool) → Option ℕ
-  lowestReady done = lowest N (λ a. not (done a) && not (isSome (lacks done a)))
+  lowestReady done = lowest N (isReady done)
 
   -- The order of work: the lowest ready node is always next, for k nodes at most.
   unfoldable pub order : ℕ → (ℕ → Bool) → List ℕ
@@ -122,14 +119,11 @@ module _ (N : ℕ) (reads : ℕ → ℕ → Bool) where
   both true false e = (refl, refl)
   both false q e = absurd (false≢true e)
 
-  lacks-none : (done : ℕ → Bool) (a : ℕ) → isSome (lacks done a) ≡ false → (b : ℕ) → b < N → reads a b ≡ true → done b ≡ true
+  lacks-none : (done : ℕ → Bool) (a : ℕ) → isSome (lacks done a) ≡ false → (b : ℕ) → b < N → reads a b ≡ true
+      → done b ≡ true
   unfolding lacks
   lacks-none done a e b l r = sees (reads a b) (done b) r (lowest-none N _ (none-of (lacks done a) e) b l)
     where
-      none-of : (o : Option ℕ) → isSome o ≡ false → o ≡ none
-      none-of none e = refl
-      none-of (some k) e = absurd (true≢false e)
-
       sees : (r d : Bool) → r ≡ true → (r && not d) ≡ false → d ≡ true
       sees r true e h = refl
       sees true false e h = absurd (true≢false h)
@@ -139,8 +133,8 @@ module _ (N : ℕ) (reads : ℕ → ℕ → Bool) where
   unfolding lowestReady
   ready-is done a e = record { low = f .below; not-done = split .0; has = lacks-none done a (split .1) }
     where
-      f : Found N (λ a. not (done a) && not (isSome (lacks done a))) a
-      f = lowest-some N (λ a. not (done a) && not (isSome (lacks done a))) a e
+      f : Found N (isReady done) a
+      f = lowest-some N (isReady done) a e
 
       of-not : (p q : Bool) → (not p && not q) ≡ true → (p ≡ false) × (q ≡ false)
       of-not true q e = absurd (false≢true e)
@@ -154,56 +148,55 @@ module _ (N : ℕ) (reads : ℕ → ℕ → Bool) where
   snoc (one h) e = more h (one e)
   snoc (more h r) e = more h (snoc r e)
 
-  -- Where none is ready, each node that is not done reads one that is not done: the walk from node to the lowest such node
-  -- that it reads closes, by the pigeonhole.
+  -- Where none is ready, each node that is not done reads one that is not done: the walk from node to the lowest such
+  -- node that it reads closes, by the pigeonhole.
+  unfoldable pub walk : (ℕ → Bool) → ℕ → ℕ → ℕ
+  walk done a zero = a
+  walk done a (suc k) = option (lacks done (walk done a k)) 0 (λ b. b)
+
+  pub record Undone (done : ℕ → Bool) (a : ℕ) : Type 0 where
+    pub low : a < N
+    pub not-done : done a ≡ false
+
   module _ (done : ℕ → Bool) (stuck : lowestReady done ≡ none) where
-    unfoldable pub walk : ℕ → ℕ → ℕ
-    walk a zero = a
-    walk a (suc k) = option (lacks done (walk a k)) 0 (λ b. b)
-
-    pub record Undone (a : ℕ) : Type 0 where
-      pub low : a < N
-      pub not-done : done a ≡ false
-
     record Next (a b : ℕ) : Type 0 where
-      to : Undone b
+      to : Undone done b
       read : reads a b ≡ true
 
-    next : (a : ℕ) → Undone a → Next a (option (lacks done a) 0 (λ b. b))
+    next : (a : ℕ) → Undone done a → Next a (option (lacks done a) 0 (λ b. b))
     unfolding lowestReady lacks
     next a u = go (lacks done a) refl
       where
         go : (o : Option ℕ) → lacks done a ≡ o → Next a (option (lacks done a) 0 (λ b. b))
         go none e =
-            let h : (not (done a) && not (isSome (lacks done a))) ≡ false
-            = lowest-none N (λ a. not (done a) && not (isSome (lacks done a))) stuck a (u .low) in
+            let h : isReady done a ≡ false = lowest-none N (isReady done) stuck a (u .low) in
             absurd (true≢false (rw (u .not-done, e) at h))
         go (some b) e =
             let f = lowest-some N (λ b. reads a b && not (done b)) b e in
             let g = both (reads a b) (done b) (f .holds) in
             rw e (record { to = record { low = f .below; not-done = g .1 }; read = g .0 })
 
-    module _ (a : ℕ) (u : Undone a) where
-      walk-undone : (k : ℕ) → Undone (walk a k)
+    module _ (a : ℕ) (u : Undone done a) where
+      walk-undone : (k : ℕ) → Undone done (walk done a k)
       unfolding walk
       walk-undone zero = u
-      walk-undone (suc k) = (next (walk a k) (walk-undone k)) .to
+      walk-undone (suc k) = (next (walk done a k) (walk-undone k)) .to
 
-      walk-reads : (k : ℕ) → reads (walk a k) (walk a (suc k)) ≡ true
+      walk-reads : (k : ℕ) → reads (walk done a k) (walk done a (suc k)) ≡ true
       unfolding walk
-      walk-reads k = (next (walk a k) (walk-undone k)) .read
+      walk-reads k = (next (walk done a k) (walk-undone k)) .read
 
-      walk-chain : (i d : ℕ) → Chain (walk a i) (walk a (suc (i + d)))
+      walk-chain : (i d : ℕ) → Chain (walk done a i) (walk done a (suc (i + d)))
       walk-chain i zero = rw add-zero (one (walk-reads i))
       walk-chain i (suc d) = rw add-suc (snoc (walk-chain i d) (walk-reads (suc (i + d))))
 
       pub closes : Loop
       closes =
-          let t = pigeon N (walk a) (λ i _. (walk-undone i) .low) in
+          let t = pigeon N (walk done a) (λ i _. (walk-undone i) .low) in
           let b = t .before in
           let far : suc (t .i + (t .j - suc (t .i))) ≡ t .j = omega arith in
           let c = walk-chain (t .i) (t .j - suc (t .i)) in
-          (walk a (t .i), rw (t .same) (rw (far, t .same) at c))
+          (walk done a (t .i), rw (t .same) (rw (far, t .same) at c))
 
   -- The nodes of the order are ready when their turn comes; with steps enough none is ready after the last.
   abbrev pub Turns : (ℕ → Bool) → List ℕ → Type 0
@@ -215,7 +208,8 @@ module _ (N : ℕ) (reads : ℕ → ℕ → Bool) where
   order-turns zero done = tt
   order-turns (suc k) done = go (λ a. order-turns k (mark done a)) (lowestReady done) refl
     where
-      go : ((a : ℕ) → Turns (mark done a) (order k (mark done a))) → (o : Option ℕ) → lowestReady done ≡ o → Turns done (order (suc k) done)
+      go : ((a : ℕ) → Turns (mark done a) (order k (mark done a))) → (o : Option ℕ) → lowestReady done ≡ o
+          → Turns done (order (suc k) done)
       go rec none e = rw e tt
       go rec (some a) e = rw e (ready-is done a e, rec a)
 
@@ -225,7 +219,9 @@ module _ (N : ℕ) (reads : ℕ → ℕ → Bool) where
     where
       go : (o : Option ℕ) → lowestReady done ≡ o → lowestReady done ≡ none
       go none e = e
-      go (some a) e = let r = ready-is done a e in absurd (true≢false (sym (none-undone N done (omega arith) a (r .low)) ∙ r .not-done))
+      go (some a) e =
+          let r = ready-is done a e in
+          absurd (true≢false (sym (none-undone N done (omega arith) a (r .low)) ∙ r .not-done))
   order-ends (suc k) done h = go (λ a. order-ends k (mark done a)) (lowestReady done) refl
     where
       go : ((a : ℕ) → undone N (mark done a) ≤ k → lowestReady (marks (mark done a) (order k (mark done a))) ≡ none)
@@ -236,7 +232,8 @@ module _ (N : ℕ) (reads : ℕ → ℕ → Bool) where
           let u = undone-mark N done a (r .low) (r .not-done) in
           rw e (rec a (omega arith))
 
-  turns-ordered : (l : List ℕ) (done : ℕ → Bool) → Turns done l → ((a : ℕ) → a < N → marks done l a ≡ true) → Ordered done l
+  turns-ordered : (l : List ℕ) (done : ℕ → Bool) → Turns done l → ((a : ℕ) → a < N → marks done l a ≡ true)
+      → Ordered done l
   unfolding marks
   turns-ordered [] done t h = h
   turns-ordered (a ∷ l) done t h = (t .0, turns-ordered l (mark done a) (t .1) h)
@@ -262,21 +259,20 @@ module _ (N : ℕ) (reads : ℕ → ℕ → Bool) where
         go (yes p) = ready .has b l (rw p at r)
         go (no p) = closed a b l r (rw (mark-other done i a p) at d)
 
-    no-loop-mark : (done : ℕ → Bool) (i : ℕ) → Ready done i → Closed done → Free done
-        → Free (mark done i)
+    no-loop-mark : (done : ℕ → Bool) (i : ℕ) → Ready done i → Closed done → Free done → Free (mark done i)
     unfolding Free
     no-loop-mark done i ready closed free a d = go (ℕ-discrete a i)
       where
         back : {b : ℕ} → Chain i b → b ≡ i → ⊥
         back {b} (one r) e = true≢false (sym (ready .has b (low i b r .1) r) ∙ (rw e (ready .not-done)))
-        back (more {b = c} r ch) e = true≢false (sym (along done closed ch (ready .has c (low i c r .1) r)) ∙ (rw e (ready .not-done)))
+        back (more {b = c} r ch) e =
+            true≢false (sym (along done closed ch (ready .has c (low i c r .1) r)) ∙ (rw e (ready .not-done)))
 
         go : Dec (a ≡ i) → Chain a a → ⊥
         go (yes p) ch = back (rw p at ch) refl
         go (no p) ch = free a (rw (mark-other done i a p) at d) ch
 
-    ordered-none : (l : List ℕ) (done : ℕ → Bool) → Ordered done l → Closed done → Free done
-        → (a : ℕ) → Chain a a → ⊥
+    ordered-none : (l : List ℕ) (done : ℕ → Bool) → Ordered done l → Closed done → Free done → (a : ℕ) → Chain a a → ⊥
     unfolding Free
     ordered-none [] done ord closed free a ch = free a (ord a (first ch)) ch
       where
@@ -284,29 +280,26 @@ module _ (N : ℕ) (reads : ℕ → ℕ → Bool) where
         first {b} (one r) = low a b r .0
         first (more {b = c} r ch) = low a c r .0
     ordered-none (i ∷ l) done ord closed free a ch =
-        ordered-none l (mark done i) (ord .1) (closed-mark done i (ord .0) closed) (no-loop-mark done i (ord .0) closed free) a ch
+        ordered-none l (mark done i) (ord .1) (closed-mark done i (ord .0) closed)
+        (no-loop-mark done i (ord .0) closed free) a ch
 
-    -- The decision: from a start at which just the numbers that are no nodes are done, a node that never gets ready is there
-    -- exactly where there is a loop; otherwise the order has all nodes, each after all that it reads.
+    -- The decision: from a start at which just the numbers that are no nodes are done, a node that never gets ready is
+    -- there exactly where there is a loop; otherwise the order has all nodes, each after all that it reads.
     module _ (start : ℕ → Bool) (nodes : (a b : ℕ) → reads a b ≡ true → start a ≡ false) where
       abbrev pub whole : List ℕ
       whole = order (undone N start) start
 
       pub ordered : isSome (neverReady start) ≡ false → Ordered start whole
       unfolding neverReady
-      ordered e = turns-ordered whole start (order-turns (undone N start) start) (λ a l. of-not _ (lowest-none N _ (none-of _ e) a l))
-        where
-          none-of : (o : Option ℕ) → isSome o ≡ false → o ≡ none
-          none-of none e = refl
-          none-of (some k) e = absurd (true≢false e)
-
-          of-not : (b : Bool) → not b ≡ false → b ≡ true
-          of-not true e = refl
-          of-not false e = absurd (true≢false e)
+      ordered e =
+          turns-ordered whole start (order-turns (undone N start) start)
+          (λ a l. not-false (marks start whole a) (lowest-none N _ (none-of (neverReady start) e) a l))
 
       pub no-loop : isSome (neverReady start) ≡ false → Loop → ⊥
       unfolding Closed Free
-      no-loop e loop = ordered-none whole start (ordered e) (λ a b l r d. absurd (apart a b r d)) (λ a d ch. first a d ch) (loop .0) (loop .1)
+      no-loop e loop =
+          ordered-none whole start (ordered e) (λ a b l r d. absurd (apart a b r d)) (λ a d ch. first a d ch)
+          (loop .0) (loop .1)
         where
           apart : (a b : ℕ) → reads a b ≡ true → start a ≡ true → ⊥
           apart a b r d = true≢false (sym d ∙ nodes a b r)
@@ -323,8 +316,5 @@ module _ (N : ℕ) (reads : ℕ → ℕ → Bool) where
           go none q = absurd (false≢true (rw q at e))
           go (some a) q =
               let f = lowest-some N (λ a. not (marks start whole a)) a q in
-              closes (marks start whole) (order-ends (undone N start) start (omega arith)) a (record { low = f .below; not-done = of-not _ (f .holds) })
-            where
-              of-not : (b : Bool) → not b ≡ true → b ≡ false
-              of-not true e = absurd (false≢true e)
-              of-not false e = refl
+              closes (marks start whole) (order-ends (undone N start) start (omega arith)) a
+              (record { low = f .below; not-done = not-true (marks start whole a) (f .holds) })

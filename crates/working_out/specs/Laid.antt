@@ -1,5 +1,5 @@
--- What the list reader guarantees of an accepted list (document 01, "Words" and faults 6, 7, 9, 11, 12, 13): the layout on which
--- reading nets and working out rely.
+-- What the list reader guarantees of an accepted list (document 01, "Words" and faults 6, 7, 9, 11, 12, 13): the layout
+-- on which reading nets and working out rely.
 use mathlib.Core.Path.{_≡_, refl}
 use mathlib.Core.Bool.{Bool, true, false}
 use mathlib.Core.List.{List, [], _∷_, _++_}

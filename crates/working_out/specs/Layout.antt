@@ -1,5 +1,5 @@
--- Laws of the layout of an accepted list: the cell that a slot belongs to holds it, and is the cell of each slot that it holds;
--- the first slot of a node belongs to the node.
+-- Laws of the layout of an accepted list: the cell that a slot belongs to holds it, and is the cell of each slot that
+-- it holds; the first slot of a node belongs to the node.
 use mathlib.Core.Path.{_≡_, refl, sym, ap, _∙_}
 use mathlib.Core.Bool.{Bool, true, false, not, cond, _&&_, false≢true, true≢false}
 use mathlib.Core.Option.{Option, none, some}
@@ -12,14 +12,11 @@ use Rattle.logic.specs.Net.{Net}
 use Rattle.cell.specs.Cell.{Cell, outputLen, slotsOf}
 use Rattle.cell.specs.Cell as c
 use Rattle.cell.specs.Design.{Design, Placed, total}
-use Rattle.working_out.specs.Order.{none≢some, some-inj}
+use Rattle.working_out.specs.Order.{none≢some, some-inj, true-of}
 use Rattle.working_out.specs.System.{Owned}
-use Rattle.working_out.specs.Reading.{Each, isIn, cellIn, cellOf, Role, void, given, dff, other, role, isVoid, replacement, isNone, sourceBy, source, nodeOf}
+use Rattle.working_out.specs.Reading.{Each, isIn, cellIn, cellOf, Role, void, given, dff, other, role, isVoid}
+use Rattle.working_out.specs.Reading.{replacement, isNone, sourceBy, source, nodeOf}
 use Rattle.working_out.specs.Laid.{Run, Laid}
-
-true-of : (b : Bool) → T b → b ≡ true
-true-of true t = refl
-true-of false t = absurd t
 
 in-true : (p : Placed) (i : ℕ) → p .slot ≤ i → i < p .slot + slotsOf (p .cell) → isIn p i ≡ true
 in-true p i l h =
@@ -51,13 +48,14 @@ run-le (p ∷ cells) s e r = let h = run-le cells (s + slotsOf (p .cell)) e (r .
 pub located : (cells : List Placed) (s e i : ℕ) → Run s cells e → s ≤ i → i < e → Located s e cells i (cellIn cells i)
 unfolding cellIn
 located [] s e i r l h = absurd (omega arith)
-located (p ∷ cells) s e i r l h = go (located cells (s + slotsOf (p .cell)) e i (r .1)) (decLt i (s + slotsOf (p .cell)))
+located (p ∷ cells) s e i r l h =
+    go (located cells (s + slotsOf (p .cell)) e i (r .1)) (decLt i (s + slotsOf (p .cell)))
   where
     rest : s + slotsOf (p .cell) ≤ e
     rest = run-le cells (s + slotsOf (p .cell)) e (r .1)
 
-    go : (s + slotsOf (p .cell) ≤ i → i < e → Located (s + slotsOf (p .cell)) e cells i (cellIn cells i)) → Dec (i < s + slotsOf (p .cell))
-        → Located s e (p ∷ cells) i (cellIn (p ∷ cells) i)
+    go : (s + slotsOf (p .cell) ≤ i → i < e → Located (s + slotsOf (p .cell)) e cells i (cellIn cells i))
+        → Dec (i < s + slotsOf (p .cell)) → Located s e (p ∷ cells) i (cellIn (p ∷ cells) i)
     go rec (yes y) = rw (in-true p i (omega arith) (omega arith)) here
       where
         here : Located s e (p ∷ cells) i p
@@ -79,7 +77,8 @@ located (p ∷ cells) s e i r l h = go (located cells (s + slotsOf (p .cell)) e 
           whole = λ j a b. let f = q .after in rw (in-false p j (omega arith)) (q .whole j a b);
         }
 
-pub beyond : (cells : List Placed) (s e i : ℕ) → Run s cells e → e ≤ i → cellIn cells i ≡ record { slot = i; cell = c.note }
+pub beyond : (cells : List Placed) (s e i : ℕ) → Run s cells e → e ≤ i
+    → cellIn cells i ≡ record { slot = i; cell = c.note }
 unfolding cellIn
 beyond [] s e i r h = refl
 beyond (p ∷ cells) s e i r h =
@@ -88,7 +87,8 @@ beyond (p ∷ cells) s e i r h =
     rw (in-false p i (omega arith)) (beyond cells (s + slotsOf (p .cell)) e i (r .1) h)
 
 -- What holds of each cell holds of the cell of each slot, and the other way round.
-pub each-at : (P : Placed → Type 0) (cells : List Placed) (s e i : ℕ) → Run s cells e → s ≤ i → i < e → Each P cells → P (cellIn cells i)
+pub each-at : (P : Placed → Type 0) (cells : List Placed) (s e i : ℕ) → Run s cells e → s ≤ i → i < e → Each P cells
+    → P (cellIn cells i)
 unfolding cellIn
 each-at P [] s e i r l h each = absurd (omega arith)
 each-at P (p ∷ cells) s e i r l h each =
@@ -144,7 +144,7 @@ unfolding nodeOf
 source-some d i e = rw e
 
 pub record Belongs (d : Design) (i a : ℕ) : Type 0 where
-  pub asserted : source d i ≡ false
+  pub node : source d i ≡ false
   pub named : cellOf d i .slot ≡ a
 
 pub belongs : (d : Design) (i a : ℕ) → nodeOf d i ≡ some a → Belongs d i a
@@ -153,7 +153,7 @@ belongs d i a e = go (source d i) refl e
   where
     go : (b : Bool) → source d i ≡ b → cond b none (some (cellOf d i .slot)) ≡ some a → Belongs d i a
     go true q f = absurd (none≢some f)
-    go false q f = record { asserted = q; named = some-inj f }
+    go false q f = record { node = q; named = some-inj f }
 
 pub none-source : (d : Design) (i : ℕ) → nodeOf d i ≡ none → source d i ≡ true
 unfolding nodeOf
@@ -172,13 +172,14 @@ module _ (d : Design) (laid : Laid d) where
       go (yes y) = y
       go (no n) =
           let b : source d i ≡ true = rw (beyond (d .cells) 0 (total d) i (laid .run) (omega arith)) in
-          absurd (true≢false (sym b ∙ (belongs d i a e) .asserted))
+          absurd (true≢false (sym b ∙ (belongs d i a e) .node))
 
   pub at : (i : ℕ) → i < total d → Located 0 (total d) (d .cells) i (cellOf d i)
   at i l = located (d .cells) 0 (total d) i (laid .run) (omega arith) l
 
   -- The slots of one cell are all sources, or all of one node.
-  pub source-same : (i j : ℕ) → i < total d → cellOf d i .slot ≤ j → j < cellOf d i .slot + slotsOf (cellOf d i .cell) → source d j ≡ source d i
+  pub source-same : (i j : ℕ) → i < total d → cellOf d i .slot ≤ j → j < cellOf d i .slot + slotsOf (cellOf d i .cell)
+      → source d j ≡ source d i
   source-same i j l low high = rw (at i l .whole j low high) (go (isVoid (role (cellOf d i .cell))) refl)
     where
       go : (b : Bool) → isVoid (role (cellOf d i .cell)) ≡ b
@@ -189,8 +190,10 @@ module _ (d : Design) (laid : Laid d) where
           let b = at i l .high in
           let same : j ≡ i = omega arith in
           rw same
-      go false e = source-plain (role (cellOf d i .cell)) (outputLen (cellOf d i .cell)) (replacement d j) (replacement d i) e
+      go false e =
+          source-plain (role (cellOf d i .cell)) (outputLen (cellOf d i .cell)) (replacement d j) (replacement d i) e
 
+  -- The first slot of a node belongs to the node.
   pub node-first : (i a : ℕ) → nodeOf d i ≡ some a → nodeOf d a ≡ some a
   node-first i a e =
       let b = belongs d i a e in
@@ -199,8 +202,8 @@ module _ (d : Design) (laid : Laid d) where
       let name = b .named in
       let low = p .low in
       let same : cellOf d a ≡ cellOf d i = p .whole a (omega arith) (let h = p .high in omega arith) in
-      let plain : source d a ≡ false = source-same i a l (omega arith) (let h = p .high in omega arith) ∙ b .asserted in
-      source-some d a plain ∙ ap some (ap (λ (q : Placed). q .slot) same ∙ name)
+      let node : source d a ≡ false = source-same i a l (omega arith) (let h = p .high in omega arith) ∙ b .node in
+      source-some d a node ∙ ap some (ap (λ (q : Placed). q .slot) same ∙ name)
 
   pub owned : Owned (total d) (nodeOf d)
   owned = record { low = belongs-low; first = node-first }

@@ -1,5 +1,5 @@
--- Document 01, "Reading nets": a current loop is a cycle of current reads among asserted cells, each taken whole and named by its
--- first slot, and replaced Voids.
+-- Document 01, "Reading nets": a current loop is a cycle of current reads among asserted cells, each taken whole and
+-- named by its first slot, and replaced Voids.
 use mathlib.Core.Path.{_≡_, refl}
 use mathlib.Core.Bool.{Bool, true, false, cond}
 use mathlib.Core.Option.{Option, none, some}
@@ -11,12 +11,13 @@ use Rattle.cell.specs.Cell as c
 use Rattle.cell.specs.Design.{Design, total}
 use Rattle.rules.specs.Reads.{currentReads}
 use Rattle.working_out.specs.Graph as g
-use Rattle.working_out.specs.Graph.{isSome, undone}
+use Rattle.working_out.specs.Graph.{undone}
+use Rattle.working_out.specs.Order.{isSome}
 use Rattle.working_out.specs.System as s
 use Rattle.working_out.specs.Reading.{role, isVoid, cellOf, readsPast, replacement, nodeOf}
 
--- The cell by whose rule a node gets its trits: an asserted cell itself; for a replaced Void, which gets its replacement's `to`
--- as read, a Buf of `to`.
+-- The cell by whose rule a node gets its trits: an asserted cell itself; for a replaced Void, which gets its
+-- replacement's `to` as read, a Buf of `to`.
 abbrev pub bufOf : Net → Cell
 bufOf to = c.unary c.buf (to ∷ [])
 

@@ -1,4 +1,5 @@
--- Laws of nodes: each is an asserted cell or a replaced Void, its slots are those of its outputs, and all its slots have one rule.
+-- Laws of nodes: each is an asserted cell or a replaced Void, its slots are those of its outputs, and all its slots
+-- have one rule.
 use mathlib.Core.Path.{_≡_, refl, sym, ap, _∙_}
 use mathlib.Core.Bool.{Bool, true, false, not, cond, false≢true, true≢false}
 use mathlib.Core.Option.{Option, none, some}
@@ -11,9 +12,11 @@ use Rattle.cell.specs.Cell.{Cell, outputLen, slotsOf}
 use Rattle.cell.specs.Cell as c
 use Rattle.cell.specs.Design.{Design, Placed, total}
 use Rattle.working_out.specs.Order.{eqb-false}
-use Rattle.working_out.specs.Reading.{cellOf, Role, void, given, dff, other, role, isVoid, replacement, sourceBy, source, assertedBy, asserted, nodeOf}
+use Rattle.working_out.specs.Reading.{cellOf, Role, void, given, dff, other, role, isVoid, replacement, sourceBy}
+use Rattle.working_out.specs.Reading.{source, assertedBy, asserted, nodeOf}
 use Rattle.working_out.specs.Laid.{Laid, CellLaid, Shaped}
-use Rattle.working_out.specs.Layout.{Located, Belongs, belongs, belongs-low, at, void-one, node-first, source-some, source-same, each-at}
+use Rattle.working_out.specs.Layout.{Located, Belongs, belongs, belongs-low, at, void-one, node-first}
+use Rattle.working_out.specs.Layout.{source-some, source-same, each-at}
 use Rattle.working_out.specs.Loop.{bufOf, ruleCell, nodeCell}
 
 -- ---- Roles.
@@ -24,7 +27,8 @@ asserted-plain dff w o v e = rw e
 asserted-plain other w o v e = rw e
 
 -- A Void that is no source has a replacement.
-pub replaced : (r : Role) (w : ℕ) (o : Option Net) → isVoid r ≡ true → sourceBy r w o ≡ false → (to : Net) × (o ≡ some to)
+pub replaced : (r : Role) (w : ℕ) (o : Option Net) → isVoid r ≡ true → sourceBy r w o ≡ false
+    → (to : Net) × (o ≡ some to)
 replaced void w none v e = absurd (true≢false e)
 replaced void w (some to) v e = (to, refl)
 replaced given w o v e = absurd (false≢true v)
@@ -67,14 +71,17 @@ module _ (d : Design) (i : ℕ) where
       go none = refl
       go (some to) = rw v
 
-  pub node-void : (to : Net) → isVoid (role (cellOf d i .cell)) ≡ true → replacement d i ≡ some to → nodeCell d i ≡ bufOf to
+  pub node-void : (to : Net) → isVoid (role (cellOf d i .cell)) ≡ true → replacement d i ≡ some to
+      → nodeCell d i ≡ bufOf to
   unfolding nodeCell
   node-void to v r = rw (r, v)
 
   -- A node is an asserted cell, or a replaced Void.
   pub data Kind : Type 0 where
-    ofCell : isVoid (role (cellOf d i .cell)) ≡ false → asserted (cellOf d i .cell) ≡ true → nodeCell d i ≡ cellOf d i .cell → Kind
-    ofReplaced : (to : Net) → isVoid (role (cellOf d i .cell)) ≡ true → replacement d i ≡ some to → nodeCell d i ≡ bufOf to → Kind
+    ofCell : isVoid (role (cellOf d i .cell)) ≡ false → asserted (cellOf d i .cell) ≡ true
+        → nodeCell d i ≡ cellOf d i .cell → Kind
+    ofReplaced : (to : Net) → isVoid (role (cellOf d i .cell)) ≡ true → replacement d i ≡ some to
+        → nodeCell d i ≡ bufOf to → Kind
 
   pub kind : source d i ≡ false → Kind
   kind node = go (isVoid (role (cellOf d i .cell))) refl
@@ -84,7 +91,8 @@ module _ (d : Design) (i : ℕ) where
           let to = replaced (role (cellOf d i .cell)) (outputLen (cellOf d i .cell)) (replacement d i) v node in
           ofReplaced (to .0) v (to .1) (node-void (to .0) v (to .1))
       go false v =
-          ofCell v (asserted-plain (role (cellOf d i .cell)) (outputLen (cellOf d i .cell)) (replacement d i) v node) (node-plain v)
+          ofCell v (asserted-plain (role (cellOf d i .cell)) (outputLen (cellOf d i .cell)) (replacement d i) v node)
+          (node-plain v)
 
   pub node-asserted : source d i ≡ false → asserted (nodeCell d i) ≡ true
   node-asserted node = go (kind node)
@@ -98,7 +106,8 @@ module _ (d : Design) (i : ℕ) where
   node-slots node = go (kind node)
     where
       go : Kind → outputLen (nodeCell d i) ≡ slotsOf (cellOf d i .cell)
-      go (ofCell v a e) = let wide = asserted-is (role (cellOf d i .cell)) (outputLen (cellOf d i .cell)) a .wide in rw e (omega arith)
+      go (ofCell v a e) =
+          let wide = asserted-is (role (cellOf d i .cell)) (outputLen (cellOf d i .cell)) a .wide in rw e (omega arith)
       go (ofReplaced to v r e) = rw e (sym (void-one (cellOf d i .cell) v))
 
 module _ (d : Design) (laid : Laid d) where
@@ -106,7 +115,8 @@ module _ (d : Design) (laid : Laid d) where
   node-shaped i l node = go (kind d i node)
     where
       go : Kind d i → Shaped (nodeCell d i)
-      go (ofCell v a e) = rw e ((each-at (CellLaid d) (d .cells) 0 (total d) i (laid .run) (omega arith) l (laid .cells)) .shaped)
+      go (ofCell v a e) =
+          rw e ((each-at (CellLaid d) (d .cells) 0 (total d) i (laid .run) (omega arith) l (laid .cells)) .shaped)
       go (ofReplaced to v r e) = rw e tt
 
   -- Slot i of node a.
@@ -140,7 +150,7 @@ module _ (d : Design) (laid : Laid d) where
         let name = (belongs d i a e) .named in
         let low = p .low in
         let high = p .high in
-        let wide = node-slots d i ((belongs d i a e) .asserted) in
+        let wide = node-slots d i ((belongs d i a e) .node) in
         omega arith
 
     -- And every output of the node belongs to the node.
@@ -148,9 +158,10 @@ module _ (d : Design) (laid : Laid d) where
     outputs-belong o l =
         let b = belongs d i a e in
         let name = b .named in
-        let wide = node-slots d i (b .asserted) in
+        let wide = node-slots d i (b .node) in
         let same : cellOf d (a + o) ≡ cellOf d i = p .whole (a + o) (omega arith) (omega arith) in
-        let node : source d (a + o) ≡ false = source-same d laid i (a + o) (belongs-low d laid i a e) (omega arith) (omega arith) ∙ b .asserted in
+        let node : source d (a + o) ≡ false =
+        source-same d laid i (a + o) (belongs-low d laid i a e) (omega arith) (omega arith) ∙ b .node in
         source-some d (a + o) node ∙ ap some (ap (λ (q : Placed). q .slot) same ∙ name)
 
   -- An asserted cell is the node of its first slot.
@@ -162,7 +173,8 @@ module _ (d : Design) (laid : Laid d) where
       (node-first d laid i (cellOf d i .slot) e, same-node i (cellOf d i .slot) e ∙ node-plain d i (h .plain))
 
   -- A replaced Void is the node of its slot.
-  pub void-is-node : (i : ℕ) (to : Net) → isVoid (role (cellOf d i .cell)) ≡ true → replacement d i ≡ some to → nodeOf d i ≡ some i
+  pub void-is-node : (i : ℕ) (to : Net) → isVoid (role (cellOf d i .cell)) ≡ true → replacement d i ≡ some to
+      → nodeOf d i ≡ some i
   void-is-node i to v r =
       let node : source d i ≡ false = rw r (void-node (role (cellOf d i .cell)) (outputLen (cellOf d i .cell)) to v) in
       let e = source-some d i node in

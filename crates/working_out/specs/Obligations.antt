@@ -1,5 +1,4 @@
 -- Document 01, "Reading nets": the obligations, in the Rust's order, and when one is broken.
-use mathlib.Core.Path.{_≡_}
 use mathlib.Core.Bool.{Bool, true, false, not, cond, _&&_}
 use mathlib.Core.List.{List, [], _∷_, _++_, map}
 use lib.Dec.{eqb}
@@ -55,7 +54,8 @@ toOf d θ (asRead p) = read (readsPast d) θ (p .to) ∷ []
 
 -- From refines to: wherever from is defined, to is the same trit.
 unfoldable pub allRefine : List Trit → List Trit → Bool
-allRefine [] b = true
+allRefine [] [] = true
+allRefine [] (y ∷ b) = false
 allRefine (x ∷ a) [] = false
 allRefine (x ∷ a) (y ∷ b) = refines x y && allRefine a b
 

@@ -1,7 +1,7 @@
 -- Finite search, and the pigeonhole: a walk of n + 1 places among n numbers meets a number twice.
 use mathlib.Core.Path.{_≡_, refl, sym, _∙_}
 use mathlib.Core.Logic.{_≢_}
-use mathlib.Core.Bool.{Bool, true, false, cond}
+use mathlib.Core.Bool.{Bool, true, false, not, cond, false≢true, true≢false}
 use mathlib.Core.Option.{Option, none, some}
 use Prim.Native.Nat.{ℕ, zero, suc, _+_, _-_, _≤_, _<_}
 use native.Mathlib.Omega.{arith}
@@ -13,11 +13,34 @@ abbrev pub option : {X : Type 0} → Option ℕ → X → (ℕ → X) → X
 option none x f = x
 option (some k) x f = f k
 
+abbrev pub isSome : Option ℕ → Bool
+isSome none = false
+isSome (some k) = true
+
+pub none-of : (o : Option ℕ) → isSome o ≡ false → o ≡ none
+none-of none e = refl
+none-of (some k) e = absurd (true≢false e)
+
 pub none≢some : {k : ℕ} → none ≡ some k → ⊥
 none≢some {k} e = let z : _≡_ {A = ℕ} 0 1 = cc in omega arith
 
 pub some-inj : {j k : ℕ} → some j ≡ some k → j ≡ k
 some-inj {j} {k} e = cc
+
+pub true-of : (b : Bool) → T b → b ≡ true
+true-of true t = refl
+true-of false t = absurd t
+
+pub not-true : (b : Bool) → not b ≡ true → b ≡ false
+not-true true e = absurd (false≢true e)
+not-true false e = refl
+
+pub not-false : (b : Bool) → not b ≡ false → b ≡ true
+not-false true e = refl
+not-false false e = absurd (true≢false e)
+
+pub eqb-same : (n : ℕ) → eqb n n ≡ true
+eqb-same n = true-of (eqb n n) (eqb-refl n)
 
 -- The lowest number below n that passes a test.
 unfoldable pub lowest : ℕ → (ℕ → Bool) → Option ℕ
@@ -54,18 +77,6 @@ lowest-none (suc n) p e i h = go (λ d. lowest-none n p d) (lowest n p) refl (p 
     go rec none d false q f = last (ℕ-discrete i n) q (rec d)
     go rec (some k) d b q f = absurd (none≢some (sym f))
 
--- It is the lowest: none below it passes.
-pub lowest-first : (n : ℕ) (p : ℕ → Bool) (i : ℕ) → lowest n p ≡ some i → (j : ℕ) → j < i → p j ≡ false
-unfolding lowest
-lowest-first zero p i e j h = absurd (none≢some e)
-lowest-first (suc n) p i e j h = go (λ d. lowest-first n p i d j h) (lowest n p) refl (p n) refl e
-  where
-    go : (lowest n p ≡ some i → p j ≡ false) → (o : Option ℕ) → lowest n p ≡ o → (b : Bool) → p n ≡ b
-        → option o (cond b (some n) none) some ≡ some i → p j ≡ false
-    go rec none d true q f = let k : n ≡ i = cc in lowest-none n p d j (omega arith)
-    go rec none d false q f = absurd (none≢some f)
-    go rec (some k) d b q f = rec (d ∙ f)
-
 pub eqb-false : (m n : ℕ) → eqb m n ≡ false → m ≢ n
 eqb-false m n e q = let h : T (eqb m n) = rw q (eqb-refl n) in rw e at h
 
@@ -99,7 +110,7 @@ squash-inj c x y nx ny e = go (ltb x c) refl (ltb y c) refl e
     go false p true q e = let h = nltb→le x c (rw p tt) in let k = ltb→lt y c (rw q tt) in omega arith
     go false p false q e = let h = nltb→le x c (rw p tt) in let k = nltb→le y c (rw q tt) in omega arith
 
--- By induction on n: a place that meets the first again, or the rest of the walk among the numbers other than the first.
+-- By induction on n: a place that meets the first again, or the rest of the walk among the other numbers.
 abbrev pub Pigeonhole : ℕ → Type 0
 Pigeonhole n = (walk : ℕ → ℕ) → ((i : ℕ) → i ≤ n → walk i < n) → Twice n walk
 

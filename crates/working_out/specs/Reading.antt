@@ -1,9 +1,9 @@
--- Document 01, "Reading nets": which slots read their past trit, which nets are sources, which Voids are replaced, and which
--- flip-flops are joined. Every slot that is no source belongs to a node: an asserted cell, or a replaced Void.
+-- Document 01, "Reading nets": which slots read their past trit, which nets are sources, which Voids are replaced, and
+-- which flip-flops are joined. Every slot that is no source belongs to a node: an asserted cell, or a replaced Void.
 use mathlib.Core.Path.{_≡_}
 use mathlib.Core.Bool.{Bool, true, false, not, cond, _&&_, _||_}
 use mathlib.Core.Option.{Option, none, some}
-use mathlib.Core.List.{List, [], _∷_}
+use mathlib.Core.List.{List, [], _∷_, _++_}
 use Prim.Native.Nat.{ℕ, _+_}
 use lib.Dec.{eqb, ltb, leb}
 use Rattle.logic.specs.Trit.{tritNumber}
@@ -17,6 +17,14 @@ use Rattle.rules.specs.CellRule.{Trits, ofNet}
 abbrev pub Each : {A : Type 0} → (A → Type 0) → List A → Type 0
 Each P [] = Unit {0}
 Each P (x ∷ l) = P x × Each P l
+
+pub each-map : {A : Type 0} {P Q : A → Type 0} (l : List A) → ((x : A) → P x → Q x) → Each P l → Each Q l
+each-map [] f h = tt
+each-map (x ∷ l) f h = (f x (h .0), each-map l f (h .1))
+
+pub each-append : {A : Type 0} (P : A → Type 0) (a b : List A) → Each P a → Each P b → Each P (a ++ b)
+each-append P [] b h k = k
+each-append P (x ∷ a) b h k = (h .0, each-append P a b (h .1) k)
 
 -- ---- The cell that a slot belongs to; a slot past the last cell counts as a Note's.
 abbrev pub isIn : Placed → ℕ → Bool
@@ -60,7 +68,7 @@ isDff given = false
 isDff dff = true
 isDff other = false
 
--- ---- A slot of a base Dff, of width 0 too, reads its past trit; every other slot its current one, an added Dff included.
+-- ---- A slot of a base Dff, of width 0 too, reads its past trit; every other slot its current one.
 abbrev pub readsPast : Design → ℕ → Bool
 readsPast d i = ltb i (d .base) && isDff (role (cellOf d i .cell))
 
@@ -84,8 +92,8 @@ abbrev pub isNone : {A : Type 0} → Option A → Bool
 isNone none = true
 isNone (some x) = false
 
--- ---- Sources: outputs of Input and IoBuf, of width 0 too, Voids without replacement, slots of other cells of output width 0.
--- The past nets are sources too.
+-- ---- Sources: outputs of Input and IoBuf, of width 0 too, Voids without replacement, slots of other cells of output
+-- width 0. (And all past nets.)
 abbrev pub sourceBy : Role → ℕ → Option Net → Bool
 sourceBy void width to = isNone to
 sourceBy given width to = true
@@ -109,7 +117,8 @@ asserted a = assertedBy (role a) (outputLen a)
 unfoldable pub nodeOf : Design → ℕ → Option ℕ
 nodeOf d i = cond (source d i) none (some (cellOf d i .slot))
 
--- ---- What a net replacement is: of equal nets, of a Void's, of a Dff's by a Dff's (base or added, by the old cell), or any other.
+-- ---- What a net replacement is: of equal nets, of a Void's, of a Dff's by a Dff's (base or added), or any other.
+-- Cell replacements do not count: a net is of the old cell.
 pub data Pair : Type 0 where
   equal ofVoid ofDffs ordinary : Pair
 

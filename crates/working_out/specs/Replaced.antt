@@ -1,41 +1,40 @@
--- Laws of net replacements: what replaces a Void's slot, looked up, is what the list's pair of that slot says. Froms ascend, so that
--- a slot has one pair.
+-- Laws of net replacements: what replaces a Void's slot, looked up, is what the list's pair of that slot says. Froms
+-- ascend, so that a slot has one pair.
 use mathlib.Core.Path.{_≡_, refl, sym, ap, _∙_}
 use mathlib.Core.Bool.{Bool, true, false, not, cond, _&&_, false≢true, true≢false}
 use mathlib.Core.Option.{Option, none, some}
 use mathlib.Core.List.{List, [], _∷_}
 use Prim.Native.Nat.{ℕ, _+_, _<_}
 use native.Mathlib.Omega.{arith}
-use lib.Dec.{T, eqb, eqb→eq, eqb-refl}
+use lib.Dec.{eqb→eq}
+use Rattle.working_out.specs.Order.{eqb-same}
 use Rattle.logic.specs.Net.{Net, constant, slot, payloadOfNet}
 use Rattle.cell.specs.Design.{Design, NetPair}
-use Rattle.working_out.specs.Reading.{Each, cellOf, role, isVoid, isDff, sameNet, replacementIn, Pair, equal, ofVoid, ofDffs, ordinary, netRole, pairOf}
+use Rattle.working_out.specs.Reading.{Each, cellOf, role, isVoid, isDff, sameNet, replacementIn, Pair, equal}
+use Rattle.working_out.specs.Reading.{ofVoid, ofDffs, ordinary, netRole, pairOf}
 use Rattle.working_out.specs.Laid.{Ascending}
 
 same-slot : (n : Net) (i : ℕ) → sameNet n (slot i) ≡ true → n ≡ slot i
 same-slot (constant t) i e = absurd (false≢true e)
 same-slot (slot j) i e = ap slot (eqb→eq j i (rw e tt))
 
-slot-same : (i : ℕ) → sameNet (slot i) (slot i) ≡ true
-slot-same i = go (eqb i i) (eqb-refl i)
-  where
-    go : (b : Bool) → T b → b ≡ true
-    go true t = refl
-    go false t = absurd t
-
 -- The pair of a Void's net, of two nets that differ.
-void-pair : (d : Design) (p : NetPair) → pairOf d p ≡ ofVoid → (sameNet (p .from) (p .to) ≡ false) × (isVoid (netRole d (p .from)) ≡ true)
+void-pair : (d : Design) (p : NetPair) → pairOf d p ≡ ofVoid
+    → (sameNet (p .from) (p .to) ≡ false) × (isVoid (netRole d (p .from)) ≡ true)
 void-pair d p e =
-    go (sameNet (p .from) (p .to)) refl (isVoid (netRole d (p .from))) refl (isDff (netRole d (p .from)) && isDff (netRole d (p .to))) e
+    go (sameNet (p .from) (p .to)) refl (isVoid (netRole d (p .from))) refl
+    (isDff (netRole d (p .from)) && isDff (netRole d (p .to))) e
   where
     go : (a : Bool) → sameNet (p .from) (p .to) ≡ a → (b : Bool) → isVoid (netRole d (p .from)) ≡ b → (c : Bool)
-        → cond a equal (cond b ofVoid (cond c ofDffs ordinary)) ≡ ofVoid → (sameNet (p .from) (p .to) ≡ false) × (isVoid (netRole d (p .from)) ≡ true)
+        → cond a equal (cond b ofVoid (cond c ofDffs ordinary)) ≡ ofVoid
+        → (sameNet (p .from) (p .to) ≡ false) × (isVoid (netRole d (p .from)) ≡ true)
     go false q true r c e = (q, r)
     go true q b r c e = absurd (let z : _≡_ {A = ℕ} 0 1 = cc in omega arith)
     go false q false r true e = absurd (let z : _≡_ {A = ℕ} 0 1 = cc in omega arith)
     go false q false r false e = absurd (let z : _≡_ {A = ℕ} 0 1 = cc in omega arith)
 
-pair-void : (d : Design) (p : NetPair) → sameNet (p .from) (p .to) ≡ false → isVoid (netRole d (p .from)) ≡ true → pairOf d p ≡ ofVoid
+pair-void : (d : Design) (p : NetPair) → sameNet (p .from) (p .to) ≡ false → isVoid (netRole d (p .from)) ≡ true
+    → pairOf d p ≡ ofVoid
 pair-void d p e v = rw (e, v)
 
 -- What is looked up stands in the list.
@@ -64,7 +63,8 @@ module _ (d : Design) (Q : ℕ → Net → Type 0) where
   slot-of-pairs (p ∷ pairs) each i to v e =
       go (slot-of-pairs pairs (each .1) i to v) (sameNet (p .from) (slot i)) refl (sameNet (p .from) (p .to)) refl e
     where
-      go : (replacementIn pairs i ≡ some to → Q i to) → (a : Bool) → sameNet (p .from) (slot i) ≡ a → (b : Bool) → sameNet (p .from) (p .to) ≡ b
+      go : (replacementIn pairs i ≡ some to → Q i to) → (a : Bool) → sameNet (p .from) (slot i) ≡ a
+          → (b : Bool) → sameNet (p .from) (p .to) ≡ b
           → cond (a && not b) (some (p .to)) (replacementIn pairs i) ≡ some to → Q i to
       go rec true q true r f = rec f
       go rec true q false r f =
@@ -73,18 +73,21 @@ module _ (d : Design) (Q : ℕ → Net → Type 0) where
           rw same at (each .0 (pair-void d p r (rw from v)) i from)
       go rec false q b r f = rec f
 
-  pub pairs-of-slot : (pairs : List NetPair) → Ascending (λ (p : NetPair). payloadOfNet (p .from)) pairs → OfSlot pairs → Each OfPair pairs
+  pub pairs-of-slot : (pairs : List NetPair) → Ascending (λ (p : NetPair). payloadOfNet (p .from)) pairs → OfSlot pairs
+      → Each OfPair pairs
   unfolding replacementIn
   pairs-of-slot [] low h = tt
-  pairs-of-slot (p ∷ pairs) low h = (here, pairs-of-slot pairs (low .1) (λ i to v e. h i to v (later i to e (sameNet (p .from) (slot i)) refl)))
+  pairs-of-slot (p ∷ pairs) low h =
+      (here, pairs-of-slot pairs (low .1) (λ i to v e. h i to v (later i to e (sameNet (p .from) (slot i)) refl)))
     where
       here : OfPair p
       here e i from =
           let k = void-pair d p e in
-          let found : sameNet (p .from) (slot i) ≡ true = rw from (slot-same i) in
+          let found : sameNet (p .from) (slot i) ≡ true = rw from (eqb-same i) in
           h i (p .to) (rw from at (k .1)) (rw (found, k .0))
 
-      later : (i : ℕ) (to : Net) → replacementIn pairs i ≡ some to → (a : Bool) → sameNet (p .from) (slot i) ≡ a → replacementIn (p ∷ pairs) i ≡ some to
+      later : (i : ℕ) (to : Net) → replacementIn pairs i ≡ some to → (a : Bool) → sameNet (p .from) (slot i) ≡ a
+          → replacementIn (p ∷ pairs) i ≡ some to
       later i to e false q = rw q e
       later i to e true q =
           let over = above (payloadOfNet (p .from)) pairs i to (low .0) e in

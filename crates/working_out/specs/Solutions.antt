@@ -1,6 +1,6 @@
--- For an accepted list without a current loop, and any rules that look only at what their cells read: working out ends with a value
--- on every node and is the one solution; a relation that the rules keep holds between two solutions. The design's equations, cell by
--- cell, are those of the system over its slots.
+-- For an accepted list without a current loop, and any rules that look only at what their cells read: working out ends
+-- with a value on every node and is the one solution; a relation that the rules keep holds between two solutions. The
+-- design's equations, cell by cell, are those of the system over its slots.
 use mathlib.Core.Path.{_≡_, refl, sym, ap, _∙_}
 use mathlib.Core.Logic.{_↔_}
 use mathlib.Core.Bool.{Bool, true, false}
@@ -18,13 +18,17 @@ use Rattle.rules.specs.CellRule.{outputs}
 use Rattle.working_out.specs.Graph as g
 use Rattle.working_out.specs.System as s
 use Rattle.working_out.specs.System.{Keeps, Local, Solves, start}
-use Rattle.working_out.specs.Reading.{cellOf, role, isVoid, replacement, sourceBy, source, asserted, nodeOf}
+use Rattle.working_out.specs.Reading.{Each, cellOf, role, isVoid, replacement, sourceBy, source, asserted, nodeOf}
 use Rattle.working_out.specs.Laid.{Laid}
-use Rattle.working_out.specs.Layout.{Belongs, belongs, belongs-low, at, owned, node-first, source-none, source-some, none-source, each-at, at-each, void-one, Located}
+use Rattle.working_out.specs.Layout.{Belongs, belongs, belongs-low, at, owned, node-first, source-none}
+use Rattle.working_out.specs.Layout.{source-some, none-source, each-at, at-each, void-one, Located}
 use Rattle.working_out.specs.Replaced.{OfPair, OfSlot, slot-of-pairs, pairs-of-slot}
-use Rattle.working_out.specs.Nodes.{Kind, ofCell, ofReplaced, kind, node-void, void-node, replaced, node-asserted, node-shaped, node-plain, same-node, inside, outputs-belong, cell-node, void-is-node}
+use Rattle.working_out.specs.Nodes.{Kind, ofCell, ofReplaced, kind, node-void, void-node, replaced, node-asserted}
+use Rattle.working_out.specs.Nodes.{node-shaped, node-plain, same-node, inside, outputs-belong, cell-node}
+use Rattle.working_out.specs.Nodes.{void-is-node}
 use Rattle.working_out.specs.Loop.{bufOf, nodeCell, current, reads, Loop, order, hasLoop}
-use Rattle.working_out.specs.Equations.{Rule, CellShown, Solution, Wide, slotRule, workedOutBy, CellKeeps, CellLocal}
+use Rattle.working_out.specs.Equations.{Rule, CellShown, Solution, Wide, slotRule, workedOutBy, CellKeeps}
+use Rattle.working_out.specs.Equations.{CellLocal}
 
 at-tab : {A : Type 0} (blank : A) (n : ℕ) (f : ℕ → A) (o : ℕ) → o < n → getD (tab n f) o blank ≡ f o
 unfolding tab
@@ -69,10 +73,12 @@ module _ {A : Type 0} (d : Design) (laid : Laid d) (rule : Rule A) (blank : A) (
       let wide : i - a < outputLen (nodeCell d a) = rw same (omega arith) in
       let table = sym (map-tab now (outputLen (nodeCell d a)) (λ o. a + o)) ∙ shown in
       rw ((belongs d i a e) .named, ← same)
-      (sym (ap now here) ∙ sym (at-tab blank (outputLen (nodeCell d a)) (λ o. now (a + o)) (i - a) wide) ∙ ap (λ (l : List A). getD l (i - a) blank) table)
+      (sym (ap now here) ∙ sym (at-tab blank (outputLen (nodeCell d a)) (λ o. now (a + o)) (i - a) wide)
+      ∙ ap (λ (l : List A). getD l (i - a) blank) table)
 
   module _ (wide : Wide rule d) where
-    node-shown : ((i a : ℕ) → nodeOf d i ≡ some a → now i ≡ slotRule rule d blank i now) → (a : ℕ) → nodeOf d a ≡ some a → Shown a
+    node-shown : ((i a : ℕ) → nodeOf d i ≡ some a → now i ≡ slotRule rule d blank i now)
+        → (a : ℕ) → nodeOf d a ≡ some a → Shown a
     unfolding slotRule
     node-shown slots a e =
         map-tab now (outputLen (nodeCell d a)) (λ o. a + o)
@@ -80,10 +86,11 @@ module _ {A : Type 0} (d : Design) (laid : Laid d) (rule : Rule A) (blank : A) (
         ∙ sym (as-tab (outputLen (nodeCell d a)) (rule a (nodeCell d a) now) blank width)
       where
         node : source d a ≡ false
-        node = (belongs d a a e) .asserted
+        node = (belongs d a a e) .node
 
         width : length (rule a (nodeCell d a) now) ≡ outputLen (nodeCell d a)
-        width = wide a (nodeCell d a) (node-shaped d laid a (belongs-low d laid a a e) node) (node-asserted d a node) now
+        width =
+            wide a (nodeCell d a) (node-shaped d laid a (belongs-low d laid a a e) node) (node-asserted d a node) now
 
         each : (o : ℕ) → o < outputLen (nodeCell d a) → now (a + o) ≡ getD (rule a (nodeCell d a) now) o blank
         each o l =
@@ -96,6 +103,9 @@ module _ {A : Type 0} (d : Design) (laid : Laid d) (rule : Rule A) (blank : A) (
     unfolding tab
     one i = rw add-zero
 
+    cells-at : (i : ℕ) → i < total d → Each (CellShown rule d now) (d .cells) → CellShown rule d now (cellOf d i)
+    cells-at i l = each-at (CellShown rule d now) (d .cells) 0 (total d) i (laid .run) (omega arith) l
+
     to-system : (given : ℕ → A) → Solution rule d given now → Solves (nodeOf d) (slotRule rule d blank) given now
     to-system given sol = record {
       sources = λ i e. sol .sources i (none-source d i e);
@@ -106,12 +116,13 @@ module _ {A : Type 0} (d : Design) (laid : Laid d) (rule : Rule A) (blank : A) (
         voids = slot-of-pairs d (λ i to. now i ∷ [] ≡ rule i (bufOf to) now) (d .netReps) (sol .voids)
 
         node : (a : ℕ) → nodeOf d a ≡ some a → Shown a
-        node a e = go (kind d a ((belongs d a a e) .asserted))
+        node a e = go (kind d a ((belongs d a a e) .node))
           where
             go : Kind d a → Shown a
             go (ofCell v h same) =
-                let here = each-at (CellShown rule d now) (d .cells) 0 (total d) a (laid .run) (omega arith) (belongs-low d laid a a e) (sol .cells) h in
-                rw same (rw ((belongs d a a e) .named) at here)
+                let low = belongs-low d laid a a e in
+                let shown = cells-at a low (sol .cells) in
+                rw same (rw ((belongs d a a e) .named) at (shown h))
             go (ofReplaced to v r same) = rw same (one a ∙ voids a to v r)
 
     of-system : (given : ℕ → A) → Solves (nodeOf d) (slotRule rule d blank) given now → Solution rule d given now
@@ -130,12 +141,16 @@ module _ {A : Type 0} (d : Design) (laid : Laid d) (rule : Rule A) (blank : A) (
             sym (one i) ∙ rw (node-void d i to v r) at (node-shown (sol .nodes) i n)
 
 -- ---- What the rules of cells keep, the equations of slots keep.
-module _ {A B : Type 0} (d : Design) (laid : Laid d) (F : Rule A) (G : Rule B) (blank : A) (blank′ : B) (R : A → B → Type 0) where
-  slots-keep : CellKeeps d blank blank′ F G R → Keeps (nodeOf d) (current d) (slotRule F d blank) (slotRule G d blank′) R
+module _ {A B : Type 0} (d : Design) (laid : Laid d) (F : Rule A) (G : Rule B) (blank : A) (blank′ : B)
+    (R : A → B → Type 0) where
+  slots-keep : CellKeeps d blank blank′ F G R
+      → Keeps (nodeOf d) (current d) (slotRule F d blank) (slotRule G d blank′) R
   unfolding slotRule current
   slots-keep h i a e σ τ k =
-      h (cellOf d i .slot) (nodeCell d i) (node-asserted d i ((belongs d i a e) .asserted)) σ τ
-      (λ j m. k j (rw (same-node d laid i a e) m)) (i - cellOf d i .slot)
+      let node = (belongs d i a e) .node in
+      h (cellOf d i .slot) (nodeCell d i) (node-shaped d laid i (belongs-low d laid i a e) node)
+      (node-asserted d i node)
+      σ τ (λ j m. k j (rw (same-node d laid i a e) m)) (i - cellOf d i .slot)
 
   -- A relation that the rules keep holds between two solutions, on every slot.
   pub related-by : hasLoop d ≡ false → Wide F d → Wide G d → CellKeeps d blank blank′ F G R
@@ -144,25 +159,27 @@ module _ {A B : Type 0} (d : Design) (laid : Laid d) (F : Rule A) (G : Rule B) (
   related-by no-loop wide wide′ keeps given σ given′ τ s-sol t-sol sources =
       let f = to-system d laid F blank σ wide given s-sol in
       let g = to-system d laid G blank′ τ wide′ given′ t-sol in
-      s.related (total d) (nodeOf d) (owned d laid) (current d) (slotRule F d blank) (slotRule G d blank′) R (slots-keep keeps)
-      σ τ (f .nodes) (g .nodes) (λ i e. rw (f .sources i e, g .sources i e) (sources i (none-source d i e))) (order d) (ordered d laid no-loop)
+      s.related (total d) (nodeOf d) (owned d laid) (current d) (slotRule F d blank) (slotRule G d blank′) R
+      (slots-keep keeps) σ τ (f .nodes) (g .nodes)
+      (λ i e. rw (f .sources i e, g .sources i e) (sources i (none-source d i e))) (order d) (ordered d laid no-loop)
 
 -- ---- Working out by a rule that looks only at what its cells read.
-module _ {A : Type 0} (d : Design) (laid : Laid d) (no-loop : hasLoop d ≡ false) (rule : Rule A) (blank : A) (wide : Wide rule d)
-    (local : CellLocal d rule) where
+module _ {A : Type 0} (d : Design) (laid : Laid d) (no-loop : hasLoop d ≡ false)
+    (rule : Rule A) (blank : A) (wide : Wide rule d) (local : CellLocal d rule) where
+  keeps-equal : CellKeeps d blank blank rule rule (λ a b. a ≡ b)
+  keeps-equal s a shaped h σ τ k o = ap (λ (l : List A). getD l o blank) (local s a shaped h σ τ k)
+
   -- It gives a solution.
   pub worked-out-by : (given : ℕ → A) → Solution rule d given (workedOutBy rule d blank given)
   unfolding workedOutBy
   worked-out-by given =
+      let slots = slots-keep d laid rule rule blank blank (λ a b. a ≡ b) keeps-equal in
       of-system d laid rule blank (workedOutBy rule d blank given) wide given
-      (s.solves (total d) (nodeOf d) (owned d laid) (current d) (slotRule rule d blank) slots-local given (order d) (ordered d laid no-loop))
-    where
-      slots-local : Local (nodeOf d) (current d) (slotRule rule d blank)
-      slots-local = slots-keep d laid rule rule blank blank (λ a b. a ≡ b) (λ s a h σ τ k o. ap (λ (l : List A). getD l o blank) (local s a h σ τ k))
+      (s.solves (total d) (nodeOf d) (owned d laid) (current d) (slotRule rule d blank) slots given
+      (order d) (ordered d laid no-loop))
 
   -- It is the only one.
   pub only-by : (given now : ℕ → A) → Solution rule d given now → (i : ℕ) → now i ≡ workedOutBy rule d blank given i
   only-by given now sol =
-      related-by d laid rule rule blank blank (λ a b. a ≡ b) no-loop wide wide
-      (λ s a h σ τ k o. ap (λ (l : List A). getD l o blank) (local s a h σ τ k))
+      related-by d laid rule rule blank blank (λ a b. a ≡ b) no-loop wide wide keeps-equal
       given now given (workedOutBy rule d blank given) sol (worked-out-by given) (λ i e. refl)

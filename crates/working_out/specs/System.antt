@@ -1,6 +1,6 @@
--- A system of equations over slots, for any type of values: a slot is a source, or belongs to a node, named by its first slot.
--- Working out fills the nodes in the order of their reads. It solves the equations; and a relation that every equation keeps
--- holds between two solutions, so that the solution is the only one (≡), and monotone (refinement).
+-- A system of equations over slots, for any type of values: a slot is a source, or belongs to a node, named by its
+-- first slot. Working out fills the nodes in the order of their reads. It solves the equations; and a relation that
+-- every equation keeps holds between two solutions: equality (there is one solution), or refinement (it is monotone).
 use mathlib.Core.Path.{_≡_, refl, sym, ap, _∙_}
 use mathlib.Core.Logic.{_≢_}
 use mathlib.Core.Bool.{Bool, true, false, not, cond, _&&_, _||_, false≢true, true≢false}
@@ -9,8 +9,8 @@ use mathlib.Core.List.{List, [], _∷_, List·Memᴰ, List·Memᴰ·head, List·
 use Prim.Native.Nat.{ℕ, _<_}
 use native.Mathlib.Omega.{arith}
 use native.Mathlib.Decide.{ℕ-discrete}
-use lib.Dec.{T, eqb, eqb→eq, eqb-refl}
-use Rattle.working_out.specs.Order.{option, none≢some, some-inj}
+use lib.Dec.{eqb, eqb→eq}
+use Rattle.working_out.specs.Order.{option, none≢some, some-inj, eqb-same}
 use Rattle.working_out.specs.Graph.{mark, mark-same, mark-other, mark-keeps, Ready, Ordered}
 
 -- Does an element of a list pass a test?
@@ -35,11 +35,7 @@ module _ (owner : ℕ → Option ℕ) where
 
   pub owns-own : (a i : ℕ) → owner i ≡ some a → owns a i ≡ true
   unfolding owns
-  owns-own a i e = rw e (go (eqb a a) (eqb-refl a))
-    where
-      go : (b : Bool) → T b → b ≡ true
-      go true t = refl
-      go false t = absurd t
+  owns-own a i e = rw e (eqb-same a)
 
   pub own-owns : (a i : ℕ) → owns a i ≡ true → owner i ≡ some a
   unfolding owns
@@ -49,11 +45,11 @@ module _ (owner : ℕ → Option ℕ) where
       go none q = absurd (false≢true (rw q at e))
       go (some b) q = rw (eqb→eq b a (let t : eqb b a ≡ true = rw q at e in rw t tt)) at q
 
-  -- Is a number a node: does the slot of that number belong to the node of that name?
+  -- A number is a node where the slot of that number belongs to the node of that name.
   abbrev pub isNode : ℕ → Bool
   isNode a = owns a a
 
-  -- A number below N that is no node has nothing to be worked out.
+  -- At the start just the numbers that are no nodes are done.
   abbrev pub start : ℕ → Bool
   start a = not (isNode a)
 
@@ -113,7 +109,8 @@ module _ (N : ℕ) (owner : ℕ → Option ℕ) (owned : Owned N owner) (current
 -- A relation that the equations keep holds between two solutions.
 module _ {A B : Type 0} (N : ℕ) (owner : ℕ → Option ℕ) (owned : Owned N owner) (current : ℕ → List ℕ)
     (F : ℕ → (ℕ → A) → A) (G : ℕ → (ℕ → B) → B) (R : A → B → Type 0) (keeps : Keeps owner current F G R)
-    (σ : ℕ → A) (τ : ℕ → B) (σ-solves : (i a : ℕ) → owner i ≡ some a → σ i ≡ F i σ) (τ-solves : (i a : ℕ) → owner i ≡ some a → τ i ≡ G i τ)
+    (σ : ℕ → A) (τ : ℕ → B)
+    (σ-solves : (i a : ℕ) → owner i ≡ some a → σ i ≡ F i σ) (τ-solves : (i a : ℕ) → owner i ≡ some a → τ i ≡ G i τ)
     (sources : (i : ℕ) → owner i ≡ none → R (σ i) (τ i)) where
   from : (l : List ℕ) (done : ℕ → Bool) → Ordered N (reads owner current) done l
       → ((i a : ℕ) → owner i ≡ some a → done a ≡ true → R (σ i) (τ i)) → (i a : ℕ) → owner i ≡ some a → R (σ i) (τ i)
@@ -122,7 +119,8 @@ module _ {A B : Type 0} (N : ℕ) (owner : ℕ → Option ℕ) (owned : Owned N 
     where
       step : (i a : ℕ) → owner i ≡ some a → mark done b a ≡ true → Dec (a ≡ b) → R (σ i) (τ i)
       step i a e d (yes p) =
-          let all = ready-all N owner owned current (λ j. R (σ j) (τ j)) sources done b (rw p at (owned .first i a e)) (ord .0) h in
+          let own = rw p at (owned .first i a e) in
+          let all = ready-all N owner owned current (λ j. R (σ j) (τ j)) sources done b own (ord .0) h in
           rw (σ-solves i a e, τ-solves i a e) (keeps i b (rw p at e) σ τ all)
       step i a e d (no p) = h i a e (rw (mark-other done b a p) at d)
 
@@ -150,7 +148,8 @@ module _ {A : Type 0} (N : ℕ) (owner : ℕ → Option ℕ) (owned : Owned N ow
     own : (i a : ℕ) → owner i ≡ some a → done a ≡ true → val i ≡ F i val
     closed : (a : ℕ) → owner a ≡ some a → done a ≡ true → AllSettled done a
 
-  module _ (done : ℕ → Bool) (val : ℕ → A) (v : Inv done val) (b : ℕ) (ready : Ready N (reads owner current) done b) where
+  module _ (done : ℕ → Bool) (val : ℕ → A) (v : Inv done val) (b : ℕ)
+      (ready : Ready N (reads owner current) done b) where
     fill-own : (i : ℕ) → owner i ≡ some b → fill owner F b val i ≡ F i val
     unfolding fill
     fill-own i e = rw (owns-own owner b i e)
@@ -178,7 +177,8 @@ module _ {A : Type 0} (N : ℕ) (owner : ℕ → Option ℕ) (owned : Owned N ow
     settled : owner b ≡ some b → AllSettled done b
     unfolding Settled AllSettled
     settled e =
-        ready-all N owner owned current (Settled done) (λ j q c e. absurd (none≢some (sym q ∙ e))) done b e ready (λ j b q d c e. rw (some-inj (sym q ∙ e)) at d)
+        ready-all N owner owned current (Settled done) (λ j q c e. absurd (none≢some (sym q ∙ e))) done b e ready
+        (λ j b q d c e. rw (some-inj (sym q ∙ e)) at d)
 
     next : Inv (mark done b) (fill owner F b val)
     unfolding AllSettled
@@ -192,21 +192,25 @@ module _ {A : Type 0} (N : ℕ) (owner : ℕ → Option ℕ) (owned : Owned N ow
         closed a e d (yes p) = rw p (settled (rw p at e))
         closed a e d (no p) = v .closed a e (rw (mark-other done b a p) at d)
 
-        own : (i a : ℕ) → owner i ≡ some a → mark done b a ≡ true → Dec (a ≡ b) → fill owner F b val i ≡ F i (fill owner F b val)
+        own : (i a : ℕ) → owner i ≡ some a → mark done b a ≡ true → Dec (a ≡ b)
+            → fill owner F b val i ≡ F i (fill owner F b val)
         own i a e d (yes p) =
             let q : owner i ≡ some b = rw p at e in
             fill-own i q ∙ same i b q (settled (owned .first i b q))
         own i a e d (no p) =
             let da : done a ≡ true = rw (mark-other done b a p) at d in
-            sym (fill-other i (λ q. p (some-inj (sym e ∙ q)))) ∙ v .own i a e da ∙ same i a e (v .closed a (owned .first i a e) da)
+            sym (fill-other i (λ q. p (some-inj (sym e ∙ q)))) ∙ v .own i a e da
+            ∙ same i a e (v .closed a (owned .first i a e) da)
 
-  end : (l : List ℕ) (done : ℕ → Bool) (val : ℕ → A) → Ordered N (reads owner current) done l → Inv done val → Solves owner F given (workOut owner F l val)
+  end : (l : List ℕ) (done : ℕ → Bool) (val : ℕ → A) → Ordered N (reads owner current) done l → Inv done val
+      → Solves owner F given (workOut owner F l val)
   unfolding workOut
   end [] done val ord v =
       record { sources = v .sources; nodes = λ i a e. v .own i a e (ord a (owned .low a a (owned .first i a e))) }
   end (b ∷ l) done val ord v = end l (mark done b) (fill owner F b val) (ord .1) (next done val v b (ord .0))
 
-  pub solves : (l : List ℕ) → Ordered N (reads owner current) (start owner) l → Solves owner F given (workOut owner F l given)
+  pub solves : (l : List ℕ) → Ordered N (reads owner current) (start owner) l
+      → Solves owner F given (workOut owner F l given)
   solves l ord = end l (start owner) given ord (record {
     sources = λ i e. refl;
     own = λ i a e d. absurd (apart a (owned .first i a e) d);
@@ -216,21 +220,15 @@ module _ {A : Type 0} (N : ℕ) (owner : ℕ → Option ℕ) (owned : Owned N ow
       apart : (a : ℕ) → owner a ≡ some a → start owner a ≡ true → ⊥
       apart a e d = false≢true (rw (owns-own owner a a e) at d)
 
--- There is one solution.
-pub unique : {A : Type 0} (N : ℕ) (owner : ℕ → Option ℕ) → Owned N owner → (current : ℕ → List ℕ) (F : ℕ → (ℕ → A) → A)
-    → Local owner current F → (l : List ℕ) → Ordered N (reads owner current) (start owner) l → (given σ τ : ℕ → A)
-    → Solves owner F given σ → Solves owner F given τ → (i : ℕ) → σ i ≡ τ i
-unique N owner owned current F local l ord given σ τ s t =
-    related N owner owned current F F (λ a b. a ≡ b) local σ τ (s .nodes) (t .nodes) (λ i e. s .sources i e ∙ sym (t .sources i e)) l ord
-
--- Nodes are below N, so that the decision of a loop (`no-loop`, `loop-found`) and the order (`ordered`) are right of the system.
+-- Only nodes read, and only nodes are read: what the decision of a loop asks of the reads (`no-loop`, `loop-found`).
 module _ (N : ℕ) (owner : ℕ → Option ℕ) (owned : Owned N owner) (current : ℕ → List ℕ) where
   any-owned : (b : ℕ) (l : List ℕ) → any (owns owner b) l ≡ true → b < N
   unfolding any
   any-owned b [] e = absurd (false≢true e)
   any-owned b (j ∷ l) e = go (any-owned b l) (owns owner b j) refl e
     where
-      go : (any (owns owner b) l ≡ true → b < N) → (t : Bool) → owns owner b j ≡ t → (t || any (owns owner b) l) ≡ true → b < N
+      go : (any (owns owner b) l ≡ true → b < N) → (t : Bool) → owns owner b j ≡ t → (t || any (owns owner b) l) ≡ true
+          → b < N
       go rec true q h = owned .low b b (owned .first j b (own-owns owner b j q))
       go rec false q h = rec h
 

@@ -20,7 +20,8 @@ use Rattle.rules.specs.CellRule.{Trits, asRead, read, flipFlopInputs, cellRule}
 use Rattle.working_out.specs.Reading.{Each}
 use Rattle.working_out.specs.Laid.{Shaped, BinaryWide, MayReplace}
 
-zip-length : (f : Trit → Trit → Trit) (a b : List Trit) (n : ℕ) → length a ≡ n → length b ≡ n → length (zipWith f a b) ≡ n
+zip-length : (f : Trit → Trit → Trit) (a b : List Trit) (n : ℕ) → length a ≡ n → length b ≡ n
+    → length (zipWith f a b) ≡ n
 zip-length f [] b n e g = e
 zip-length f (x ∷ a) [] n e g = absurd (suc-ne-zero _ (e ∙ sym g))
 zip-length f (x ∷ a) (y ∷ b) zero e g = absurd (suc-ne-zero _ e)
@@ -33,10 +34,12 @@ cond-length false x y n e f = f
 mux-length : (s : Trit) (a b : List Trit) (n : ℕ) → length a ≡ n → length b ≡ n → length (r.mux s a b) ≡ n
 mux-length s a b n e f = zip-length (t.mux s) a b n e f
 
-defined-length : (a b : List Trit) (n : ℕ) (result : List Trit) → length result ≡ n → length (r.defined a b n result) ≡ n
+defined-length : (a b : List Trit) (n : ℕ) (result : List Trit) → length result ≡ n
+    → length (r.defined a b n result) ≡ n
 defined-length a b n result e = cond-length (anyX a || anyX b) (replicate n Undef) result n (length-replicate n Undef) e
 
-binary-length : (op : Binary) (a b : List Trit) → length b ≡ length a → length (r.binary op a b) ≡ binaryWidth op (length a)
+binary-length : (op : Binary) (a b : List Trit) → length b ≡ length a
+    → length (r.binary op a b) ≡ binaryWidth op (length a)
 binary-length c.and a b e = zip-length t.and a b (length a) refl e
 binary-length c.or a b e = zip-length t.or a b (length a) refl e
 binary-length c.xor a b e = zip-length t.xor a b (length a) refl e
@@ -44,12 +47,14 @@ binary-length c.eq a b e = refl
 binary-length c.ult a b e = defined-length a b 1 (t.trit (r.less a b) ∷ []) refl
 binary-length c.slt a b e = defined-length a b 1 (t.trit (r.signedLess a b) ∷ []) refl
 binary-length c.mul a b e =
-    defined-length a b (length a) (r.trits (length a) (number a * number b)) (length-tab (length a) (bitAt (number a * number b)))
+    defined-length a b (length a) (r.trits (length a) (number a * number b))
+    (length-tab (length a) (bitAt (number a * number b)))
 
 first-hot-length : (k i : ℕ) (ms : List Trit) → length (r.firstHot k i ms) ≡ k
 unfolding r.firstHot
 first-hot-length k i [] = length-replicate k Zero
-first-hot-length k i (m ∷ ms) = mux-length m (r.oneHot k i) (r.firstHot k (suc i) ms) k (length-tab k _) (first-hot-length k (suc i) ms)
+first-hot-length k i (m ∷ ms) =
+    mux-length m (r.oneHot k i) (r.firstHot k (suc i) ms) k (length-tab k _) (first-hot-length k (suc i) ms)
 
 overwrite-length : (value update : List Trit) (offset : ℕ) → offset + length update ≤ length value
     → length (r.overwrite value offset update) ≡ length value
@@ -58,7 +63,8 @@ overwrite-length value update offset h = simp (length-append, length-take, lengt
 module _ (f : r.FlipFlopInputs) (n : ℕ) (d : length (f .dat) ≡ n) (p : length (f .past) ≡ n)
     (c : length (f .clearValue) ≡ n) (v : length (f .resetValue) ≡ n) where
   loaded-length : length (r.loaded f) ≡ n
-  loaded-length = cond-length (f .resetOverEnable) (r.mux (f .reset) (f .resetValue) held) (r.mux (f .enable) reset (f .past)) n
+  loaded-length =
+      cond-length (f .resetOverEnable) (r.mux (f .reset) (f .resetValue) held) (r.mux (f .enable) reset (f .past)) n
       (mux-length (f .reset) (f .resetValue) held n v (mux-length (f .enable) (f .dat) (f .past) n d p))
       (mux-length (f .enable) reset (f .past) n (mux-length (f .reset) (f .resetValue) (f .dat) n v d) p)
     where
@@ -93,17 +99,22 @@ module _ (readsPast : ℕ → Bool) (θ : Trits) where
   rule-width out (c.unary c.not a) s m e = length-map (values a) t.not ∙ width a
   rule-width out (c.binary op a b) s m e =
       binary-length op (values a) (values b) (width b ∙ s .0 ∙ sym (width a)) ∙ ap (binaryWidth op) (width a)
-  rule-width out (c.mux x a b) s m e = mux-length (read readsPast θ x) (values a) (values b) (length a) (width a) (width b ∙ s)
+  rule-width out (c.mux x a b) s m e =
+      mux-length (read readsPast θ x) (values a) (values b) (length a) (width a) (width b ∙ s)
   rule-width out (c.adc a b carry) s m e = length-tab (length (values a) + 1) _ ∙ ap (λ (n : ℕ). n + 1) (width a)
   rule-width out (c.aig a b) s m e = refl
-  rule-width out (c.shift op value amount stride) s m e = shift-length op (values value) (values amount) stride ∙ width value
+  rule-width out (c.shift op value amount stride) s m e =
+      shift-length op (values value) (values amount) stride ∙ width value
   rule-width out (c.match value enable patterns) s m e =
       let hot = map (r.matches (values value)) patterns in
-      mux-length (read readsPast θ enable) (r.firstHot (length patterns) 0 hot) (replicate (length patterns) Zero) (length patterns)
+      mux-length (read readsPast θ enable) (r.firstHot (length patterns) 0 hot) (replicate (length patterns) Zero)
+      (length patterns)
       (first-hot-length (length patterns) 0 hot) (length-replicate (length patterns) Zero)
   rule-width out (c.assign value enable update offset) s m e =
       let fits : offset + length (values update) ≤ length (values value) = rw (width value, width update) s in
-      mux-length (read readsPast θ enable) (r.overwrite (values value) offset (values update)) (values value) (length value)
+      mux-length (read readsPast θ enable) (r.overwrite (values value) offset (values update)) (values value)
+      (length value)
       (overwrite-length (values value) (values update) offset fits ∙ width value) (width value)
   rule-width out (c.dff f) s m e =
-      dff-length (flipFlopInputs readsPast θ f out) (length (f .dat)) (width (f .dat)) (length-map out (θ .was) ∙ e) (s .0) (s .1)
+      dff-length (flipFlopInputs readsPast θ f out) (length (f .dat)) (width (f .dat)) (length-map out (θ .was) ∙ e)
+      (s .0) (s .1)

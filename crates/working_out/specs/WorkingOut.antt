@@ -1,5 +1,5 @@
--- Document 01, "Reading nets": working out. While a cell or replaced Void lacks current trits, one whose current reads all have
--- theirs gets them: what its rule gives, or for a Void its replacement's `to` as read.
+-- Document 01, "Reading nets": working out. While a cell or replaced Void lacks current trits, one whose current reads
+-- all have theirs gets them: what its rule gives, or for a Void its replacement's `to` as read.
 use Prim.Native.Nat.{ℕ}
 use Rattle.logic.specs.declared.Trit.{Trit}
 use Rattle.logic.specs.declared.Trit.the-variants.{Zero, One, Undef}
