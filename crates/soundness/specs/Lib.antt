@@ -5,3 +5,4 @@ pub mod CellBits
 pub mod Shows
 pub mod ShowsNumber
 pub mod ShowsShift
+pub mod CellShows

@@ -205,13 +205,13 @@ append-shows {m = m} (lane {n = n} a b p) q = rw (suc-add n m) (lane a b (append
 -- Single trits joined.
 pub data Singles : List TritBits → List Trit → Type 0 where
   none : Singles [] []
-  one : {a : TritBits} {rest : List TritBits} {u : Trit} {us : List Trit} → Shows 1 a (u ∷ []) → Singles rest us
+  more : {a : TritBits} {rest : List TritBits} {u : Trit} {us : List Trit} → Shows 1 a (u ∷ []) → Singles rest us
       → Singles (a ∷ rest) (u ∷ us)
 
 pub concat-shows : {l : List TritBits} {us : List Trit} → Singles l us → Shows (length l) (concatBits l) us
 unfolding concatBits
 concat-shows none = empty
-concat-shows (one p ps) = joined p (concat-shows ps)
+concat-shows (more p ps) = joined p (concat-shows ps)
   where
     joined : {n : ℕ} {x y u v : Bits} {s : Trit} {ts : List Trit} → Shown 1 x y (s ∷ []) → Shown n u v ts
         → Shown (suc n) (x ++ u) (y ++ v) (s ∷ ts)

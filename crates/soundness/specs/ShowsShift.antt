@@ -24,7 +24,7 @@ use Rattle.rules.specs.Trits.{anyX, number, digit, isX}
 use Rattle.rules.specs.Rules as r
 use Rattle.smt.specs.Builder.{ones, ilog2, halvings, shiftWidth}
 use Rattle.soundness.specs.Formula.{TritBits, tb}
-use Rattle.soundness.specs.Shows.{Shown, empty, lane, shown-x, shown-y, shown-at, getD-any}
+use Rattle.soundness.specs.Shows.{Shown, empty, lane, shown-x, shown-y, shown-ts, shown-at, getD-any}
 use Rattle.soundness.specs.ShowsNumber.{number-defined, ones-shows, shown-tab}
 
 -- ---- the shifts, bit by bit
@@ -72,19 +72,19 @@ ashr-at s t i h = go (msb s)
         ∙ ap not (List·getD-map not s (i + bv2nat t) true) ∙ Bool·not-not (getD s (i + bv2nat t) true)
     go false = lshr-at s t i
 
--- The top bit of a vector filled up with a bit that is its top bit.
-pub msb-pad : (s : Bits) (m : ℕ) (d : Bool) → 0 < length s → getD s (length s - 1) false ≡ d → msb (s ++ replicate m d) ≡ d
-msb-pad s m d some e =
-    rw (length-append s (replicate m d), length-replicate m d)
-    (getD-any (s ++ replicate m d) (length s + m - 1) false d (simp (length-append, length-replicate) (omega arith))
-    ∙ getD-pad s m d (length s + m - 1) ∙ go m)
+-- The top of a list that is filled up with its top.
+pub top-pad : {A : Type 0} (l : List A) (m : ℕ) (d e : A) → 0 < length l → getD l (length l - 1) d ≡ d
+    → getD (l ++ replicate m d) (length l + m - 1) e ≡ d
+top-pad l m d e some top =
+    getD-any (l ++ replicate m d) (length l + m - 1) e d (simp (length-append, length-replicate) (omega arith))
+    ∙ getD-pad l m d (length l + m - 1) ∙ go m
   where
-    go : (m : ℕ) → getD s (length s + m - 1) d ≡ d
-    go zero = ap (λ (j : ℕ). getD s j d) same-place ∙ getD-any s (length s - 1) d false (omega arith) ∙ e
+    go : (m : ℕ) → getD l (length l + m - 1) d ≡ d
+    go zero = ap (λ (j : ℕ). getD l j d) same-place ∙ top
       where
-        same-place : length s + 0 - 1 ≡ length s - 1
+        same-place : length l + 0 - 1 ≡ length l - 1
         same-place = omega arith
-    go (suc m) = List·getD-eq-default s d {n = length s + suc m - 1} (omega arith)
+    go (suc m) = List·getD-eq-default l d {n = length l + suc m - 1} (omega arith)
 
 -- ---- the places to shift by
 
@@ -124,7 +124,7 @@ number-zeros [] zero = refl
 number-zeros [] (suc k) = rw (number-zeros [] k)
 number-zeros (u ∷ us) k = rw (number-zeros us k)
 
-anyX-zeros : (us : List Trit) (k : ℕ) → anyX (us ++ replicate k Zero) ≡ anyX us
+pub anyX-zeros : (us : List Trit) (k : ℕ) → anyX (us ++ replicate k Zero) ≡ anyX us
 unfolding anyX
 anyX-zeros [] zero = refl
 anyX-zeros [] (suc k) = anyX-zeros [] k
@@ -185,3 +185,54 @@ moved-shows n w p q u f some le lp lq h = rw (extract-low n (cond (not u) p (one
     go false h =
         shown-tab n (take n p) (take n q) f (cut p lp) (cut q lq)
         λ i l. rw (getD-take n p i false l, getD-take n q i false l) (h refl i l)
+
+-- ---- in each lane
+
+module _ {w : ℕ} {x y : Bits} (ts : List Trit) (j : ℕ) where
+  pub shl-lanes : Shown w x y (ts ++ replicate j Zero) → (by : Bits) (i : ℕ) → i < w
+      → shows (getD (bvshl x by) i false) (getD (bvshl y by) i false) ≡ cond (ltb i (bv2nat by)) Zero (getD ts (i - bv2nat by) Zero)
+  shl-lanes p by i h =
+      rw (shl-at x by i (rw (shown-x p) h), shl-at y by i (rw (shown-y p) h)) (go (ltb i (bv2nat by)) (i - bv2nat by))
+    where
+      go : (u : Bool) (k : ℕ) → shows (cond u false (getD x k false)) (cond u false (getD y k false)) ≡ cond u Zero (getD ts k Zero)
+      go true k = refl
+      go false k = shown-at p k false false ∙ getD-pad ts j Zero k
+
+  pub lshr-lanes : Shown w x y (ts ++ replicate j Zero) → (by : Bits) (i : ℕ) → i < w
+      → shows (getD (bvlshr x by) i false) (getD (bvlshr y by) i false) ≡ getD ts (i + bv2nat by) Zero
+  lshr-lanes p by i h =
+      rw (lshr-at x by i, lshr-at y by i) (shown-at p (i + bv2nat by) false false ∙ getD-pad ts j Zero (i + bv2nat by))
+
+  -- The top trit, where the fill is the top.
+  top-shows : (top : Trit) → Shown w x y (ts ++ replicate j top) → 0 < length ts → getD ts (length ts - 1) top ≡ top
+      → shows (msb x) (msb y) ≡ top
+  top-shows top p some e =
+      rw (shown-x p, shown-y p)
+      (shown-at p (w - 1) false false ∙ ap (λ (k : ℕ). getD (ts ++ replicate j top) k Zero) last ∙ top-pad ts j top Zero some e)
+    where
+      last : w - 1 ≡ length ts + j - 1
+      last = ap (λ (k : ℕ). k - 1) (sym (shown-ts p) ∙ length-append ts (replicate j top) ∙ ap (λ (k : ℕ). length ts + k) (length-replicate j top))
+
+  pub ashr-lanes : (top : Trit) → Shown w x y (ts ++ replicate j top) → 0 < length ts → getD ts (length ts - 1) top ≡ top
+      → (by : Bits) (i : ℕ) → i < w
+      → shows (getD (bvashr x by) i false) (getD (bvashr y by) i false) ≡ getD ts (i + bv2nat by) top
+  ashr-lanes top p some e by i h =
+      rw (ashr-at x by i (rw (shown-x p) h), ashr-at y by i (rw (shown-y p) h))
+      (shown-at p (i + bv2nat by) (msb x) (msb y)
+      ∙ ap (λ (u : Trit). getD (ts ++ replicate j top) (i + bv2nat by) u) (top-shows top p some e)
+      ∙ getD-pad ts j top (i + bv2nat by))
+
+  -- XShr: x is filled with its top, y with 0.
+  pub xshr-lanes : Shown w x y (ts ++ replicate j Undef) → 0 < length ts → getD ts (length ts - 1) Undef ≡ Undef
+      → (by : Bits) (i : ℕ) → i < w
+      → shows (getD (bvashr x by) i false) (getD (bvlshr y by) i false) ≡ getD ts (i + bv2nat by) Undef
+  xshr-lanes p some e by i h =
+      rw (ashr-at x by i (rw (shown-x p) h), lshr-at y by i)
+      (shown-at p (i + bv2nat by) (msb x) false
+      ∙ ap (λ (u : Trit). getD (ts ++ replicate j Undef) (i + bv2nat by) u) (hidden (msb x) (msb y) (top-shows Undef p some e))
+      ∙ getD-pad ts j Undef (i + bv2nat by))
+    where
+      hidden : (a d : Bool) → shows a d ≡ Undef → shows a false ≡ Undef
+      hidden true d e = refl
+      hidden false true e = let z : _≡_ {A = ℕ} 0 1 = cc in absurd (omega arith)
+      hidden false false e = e

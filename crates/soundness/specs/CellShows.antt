@@ -1,0 +1,232 @@
+-- Requirement 2: the bits of a cell's terms show the rule of the cell on what its nets show, whatever their hidden bits.
+use mathlib.Core.Path.{_≡_, refl, sym, ap, ap₂, _∙_}
+use mathlib.Core.Bool.{Bool, true, false, not, cond, _&&_, _||_}
+use mathlib.Core.List.{List, [], _∷_, _++_, map, map-append}
+use Prim.Native.Nat.{ℕ, zero, suc, _+_, _-_, _*_, _≤_, _<_, max}
+use native.Mathlib.Omega.{arith}
+use lib.Dec.{ltb}
+use lib.ListN.{length, getD, take, drop, replicate, length-map, length-append, length-replicate, List·getD-map, List·getD-eq-default}
+use Rattle.logic.specs.Net.{Net, constant, slot}
+use Rattle.logic.specs.Table.{zipWith, tab, length-tab, map-tab}
+use Rattle.logic.specs.Trit.{shows, xOf, yOf}
+use Rattle.logic.specs.declared.Trit.{Trit}
+use Rattle.logic.specs.declared.Trit.the-variants.{Zero, One, Undef}
+use Rattle.bitvec.specs.Bits.{Bits, bv2nat, nat2bv}
+use Rattle.bitvec.specs.Ops.{bvmul, msb}
+use Rattle.bitvec.specs.Laws.{length-bvshl, length-bvlshr, length-bvashr}
+use Rattle.engine.specs.Call.{BinaryOp}
+use Rattle.engine.specs.Call as c
+use Rattle.engine.specs.Meaning.{denoteOp}
+use Rattle.cell.specs.Cell.{Cell, Control, FlipFlop, Shift, Binary, outputLen}
+use Rattle.cell.specs.Cell as cells
+use Rattle.rules.specs.Trits as t
+use Rattle.rules.specs.Trits.{anyX, number}
+use Rattle.rules.specs.Rules as r
+use Rattle.rules.specs.CellRule.{Trits, ofNet, asRead, control, inactive, outputs, read, edge, flipFlopInputs, cellRule}
+use Rattle.rules.specs.CellRule as rule
+use Rattle.working_out.specs.Laid.{Shaped, BinaryWide, MayReplace}
+use Rattle.smt.specs.Prog.{Age, curr, past, Half, isUndef, isOne}
+use Rattle.smt.specs.Builder.{outputNets, oneHot, overwritten, hasClear, isAlwaysInactive, shiftWidth, ilog2, zext, sext, extended}
+use Rattle.soundness.specs.Formula.{
+  TritBits, tb, one, NetBits, bitOf, readBits, litBits, concatBits, extractBits, notBits, andBits, orBits, xorBits, muxBits, invertBits,
+  isZero, adcBits, shiftBits, binaryBits,
+}
+use Rattle.soundness.specs.CellBits.{
+  firstBits, ageOf, valueBits, netBit, pastBits, currBits, controlBits, clockBits, shiftedBits, shiftCellBits, comparedBits, productBits,
+  sumBits, matchesBits, matchBits, loadedBits, clockedBits, clearedBits, adcCellBits, cellBits, wide,
+}
+use Rattle.soundness.specs.Shows.{
+  Shown, empty, lane, Shows, shown-is, shown-x, shown-y, shown-ts, one-more, getD-any, not-shows, and-shows, or-shows, xor-shows, mux-shows, lit-shows,
+  invert-shows, append-shows, Singles, none, more, concat-shows, shown-at, extract-shows,
+}
+use Rattle.soundness.specs.ShowsNumber.{zero-x, equals-shows, ult-shows, slt-shows, mul-shows, adc-shows}
+use Rattle.soundness.specs.ShowsShift.{getD-pad, by-number, anyX-zeros, moved-shows, shl-lanes, lshr-lanes, ashr-lanes, xshr-lanes}
+
+-- The trits that the bits of the nets show.
+abbrev pub tritsOf : NetBits → Trits
+tritsOf b = record {
+  now = λ i. shows (b curr i isUndef) (b curr i isOne);
+  was = λ i. shows (b past i isUndef) (b past i isOne);
+}
+
+-- ---- nets
+
+constant-shows : (u : Trit) → shows (xOf u) (yOf u) ≡ u
+constant-shows Zero = refl
+constant-shows One = refl
+constant-shows Undef = refl
+
+-- The trits of nets, each slot read at its age.
+read-shows : (b : NetBits) (age : ℕ → Age) (f : ℕ → Trit) → ((i : ℕ) → shows (b (age i) i isUndef) (b (age i) i isOne) ≡ f i)
+    → (nets : List Net) → Shows (length nets) (readBits b age nets) (map (ofNet f) nets)
+unfolding readBits
+read-shows b age f h [] = empty
+read-shows b age f h (constant u ∷ nets) = one-more (xOf u) (yOf u) u (constant-shows u) (read-shows b age f h nets)
+read-shows b age f h (slot i ∷ nets) = one-more _ _ (f i) (h i) (read-shows b age f h nets)
+
+map-replicate : {A B : Type 0} (f : A → B) (n : ℕ) (a : A) → map f (replicate n a) ≡ replicate n (f a)
+map-replicate f zero a = refl
+map-replicate f (suc n) a = ap (λ l. f a ∷ l) (map-replicate f n a)
+
+module _ (readsPast : ℕ → Bool) (b : NetBits) where
+  abbrev θ : Trits
+  θ = tritsOf b
+
+  abbrev value : List Net → TritBits
+  value = valueBits readsPast b
+
+  abbrev reading : Net → Trit
+  reading = read readsPast θ
+
+  value-shows : (nets : List Net) → Shows (length nets) (value nets) (map reading nets)
+  value-shows = read-shows b (ageOf readsPast b) (asRead readsPast θ) at-age
+    where
+      by-age : (p : Bool) (i : ℕ) → shows (b (cond p past curr) i isUndef) (b (cond p past curr) i isOne) ≡ cond p (θ .was i) (θ .now i)
+      by-age true i = refl
+      by-age false i = refl
+
+      at-age : (i : ℕ) → shows (b (ageOf readsPast b i) i isUndef) (b (ageOf readsPast b i) i isOne) ≡ asRead readsPast θ i
+      at-age i = by-age (readsPast i) i
+
+  past-shows : (nets : List Net) → Shows (length nets) (pastBits readsPast b nets) (map (ofNet (θ .was)) nets)
+  past-shows = read-shows b (λ i. past) (θ .was) (λ i. refl)
+
+  curr-shows : (nets : List Net) → Shows (length nets) (currBits readsPast b nets) (map (ofNet (θ .now)) nets)
+  curr-shows = read-shows b (λ i. curr) (θ .now) (λ i. refl)
+
+  control-shows : (w : Control) → Shows 1 (controlBits readsPast b w) (control reading w ∷ [])
+  control-shows w = invert-shows (w .inverted) (value-shows (w .net ∷ []))
+
+  clock-shows : (w : Control) → Shows 1 (clockBits readsPast b w) (edge readsPast θ w ∷ [])
+  clock-shows w =
+      and-shows (invert-shows (w .inverted) (curr-shows (w .net ∷ [])))
+      (not-shows (invert-shows (w .inverted) (past-shows (w .net ∷ []))))
+
+  -- A cell of two operands.
+  binary-shows : (o : Binary) {n : ℕ} {x y u v : Bits} {ts us : List Trit} → Shown n x y ts → Shown n u v us
+      → Shows (cells.binaryWidth o n) (binaryBits o (tb x y) (tb u v) n) (r.binary o ts us)
+  binary-shows cells.and p q = and-shows p q
+  binary-shows cells.or p q = or-shows p q
+  binary-shows cells.xor p q = xor-shows p q
+  binary-shows cells.eq p q = equals-shows p q
+  binary-shows cells.ult p q = ult-shows p q
+  binary-shows cells.slt p q = slt-shows p q
+  binary-shows cells.mul p q = mul-shows p q
+
+  -- ---- shifts
+
+  -- Nets filled up with one net.
+  padded-shows : (nets : List Net) (j : ℕ) (fill : Net) (w : ℕ) → length nets + j ≡ w
+      → Shows w (value (nets ++ replicate j fill)) (map reading nets ++ replicate j (reading fill))
+  padded-shows nets j fill w e =
+      rw (width, map-append reading nets (replicate j fill) ∙ ap (λ (l : List Trit). map reading nets ++ l) (map-replicate reading j fill))
+      at (value-shows (nets ++ replicate j fill))
+    where
+      width : length (nets ++ replicate j fill) ≡ w
+      width = length-append nets (replicate j fill) ∙ ap (λ (k : ℕ). length nets + k) (length-replicate j fill) ∙ e
+
+  -- A shift whose lanes, k places off, are f k.
+  module _ (onX onY : BinaryOp) (signed : Bool) (n : ℕ) (nets amount : List Net) (stride : ℕ) where
+    abbrev w : ℕ
+    w = shiftWidth (length nets) (length amount) stride
+
+    abbrev wider : TritBits
+    wider = value (extended signed nets w)
+
+    abbrev places : List Trit
+    places = map reading amount
+
+    wide-enough : (length nets ≤ w) × (length amount + ilog2 (max stride 1) + 1 ≤ w)
+    unfolding shiftWidth
+    wide-enough = omega arith
+
+    pub shifted-shows : (ts : List Trit) (f : ℕ → ℕ → Trit) → 0 < n → n ≤ length nets → Shows w wider ts
+        → ((s by : Bits) → length (denoteOp onX s by) ≡ length s) → ((s by : Bits) → length (denoteOp onY s by) ≡ length s)
+        → ((by : Bits) (i : ℕ) → i < n
+        → shows (getD (denoteOp onX (wider .x) by) i false) (getD (denoteOp onY (wider .y) by) i false) ≡ f (bv2nat by) i)
+        → Shows n (shiftedBits readsPast b onX onY signed n nets amount stride)
+        (cond (anyX places) (replicate n Undef) (tab n (f (number places * stride))))
+    unfolding shiftedBits shiftBits extractBits
+    shifted-shows ts f some le p lx ly h =
+        let e = wide-enough in
+        let j = w - length amount in
+        let amountBits = value (zext amount w) in
+        let by = bvmul (amountBits .y) (nat2bv w stride) in
+        let q = padded-shows amount j (constant Zero) w (omega arith) in
+        rw (zero-x q, anyX-zeros places j)
+        (moved-shows n w (denoteOp onX (wider .x) by) (denoteOp onY (wider .y) by) (anyX places) (f (number places * stride)) some (omega arith)
+        (lx (wider .x) by ∙ shown-x p) (ly (wider .y) by ∙ shown-y p)
+        λ u i l. h by i l ∙ ap (λ (k : ℕ). f k i)
+        (by-number w (amountBits .x) (amountBits .y) places j stride q (rw (length-map amount reading) (e .1)) u))
+
+  module _ (nets amount : List Net) (stride : ℕ) (some : 0 < length nets) where
+    abbrev n : ℕ
+    n = length nets
+
+    abbrev top : ℕ
+    top = shiftWidth n (length amount) stride
+
+    abbrev ts : List Trit
+    ts = map reading nets
+
+    abbrev by-rule : Shift → Type 0
+    by-rule o = Shows n (shiftCellBits readsPast b o nets amount stride) (r.shift o ts (map reading amount) stride)
+
+    filled : n + (top - n) ≡ top
+    filled = let e = wide-enough c.bvshl c.bvshl false n nets amount stride in omega arith
+
+    below : (i : ℕ) → i < n → i < top
+    below i h = let e = filled in omega arith
+
+    shl-shows : by-rule cells.shl
+    unfolding shiftCellBits
+    shl-shows =
+        let p = padded-shows nets (top - n) (constant Zero) top filled in
+        rw (length-map nets reading)
+        (shifted-shows c.bvshl c.bvshl false n nets amount stride _ (λ k i. cond (ltb i k) Zero (getD ts (i - k) Zero)) some (omega arith) p
+        length-bvshl length-bvshl λ by i h. shl-lanes ts (top - n) p by i (below i h))
+
+    ushr-shows : by-rule cells.ushr
+    unfolding shiftCellBits
+    ushr-shows =
+        let p = padded-shows nets (top - n) (constant Zero) top filled in
+        rw (length-map nets reading)
+        (shifted-shows c.bvlshr c.bvlshr false n nets amount stride _ (λ k i. getD ts (i + k) Zero) some (omega arith) p
+        length-bvlshr length-bvlshr λ by i h. lshr-lanes ts (top - n) p by i (below i h))
+
+    sshr-shows : by-rule cells.sshr
+    unfolding shiftCellBits
+    sshr-shows =
+        let fill = getD nets (n - 1) (constant Undef) in
+        let p = padded-shows nets (top - n) fill top filled in
+        let e : getD ts (n - 1) Undef ≡ reading fill = List·getD-map reading nets (n - 1) (constant Undef) in
+        let same : getD ts (length ts - 1) (reading fill) ≡ reading fill =
+        ap (λ (k : ℕ). getD ts (k - 1) (reading fill)) (length-map nets reading)
+        ∙ getD-any ts (n - 1) (reading fill) Undef (rw (length-map nets reading) (omega arith)) ∙ e in
+        rw (length-map nets reading, e)
+        (shifted-shows c.bvashr c.bvashr true n nets amount stride _ (λ k i. getD ts (i + k) (reading fill)) some (omega arith) p
+        length-bvashr length-bvashr λ by i h. ashr-lanes ts (top - n) (reading fill) p (rw (length-map nets reading) some) same by i (below i h))
+
+  -- XShr has an X on top of its value.
+  xshr-shows : (nets amount : List Net) (stride : ℕ) → 0 < length nets
+      → Shows (length nets) (shiftCellBits readsPast b cells.xshr nets amount stride) (r.shift cells.xshr (map reading nets) (map reading amount) stride)
+  unfolding shiftCellBits
+  xshr-shows nets amount stride some =
+      let topped = nets ++ (constant Undef ∷ []) in
+      let trits = map reading nets in
+      let w = shiftWidth (length topped) (length amount) stride in
+      let e = wide-enough c.bvashr c.bvlshr true (length nets) topped amount stride in
+      let l : length topped ≡ length nets + 1 = length-append nets (constant Undef ∷ []) in
+      let last : getD topped (length topped - 1) (constant Undef) ≡ constant Undef = on-top nets (constant Undef) in
+      let p : Shows w (value (extended true topped w)) ((trits ++ (Undef ∷ [])) ++ replicate (w - length topped) Undef) =
+      rw last (rw (map-append reading nets (constant Undef ∷ [])) at (padded-shows topped (w - length topped) (constant Undef) w (omega arith))) in
+      rw (length-map nets reading)
+      (shifted-shows c.bvashr c.bvlshr true (length nets) topped amount stride _ (λ k i. getD trits (i + k) Undef) some (omega arith) p
+      length-bvashr length-bvlshr λ by i h.
+      xshr-lanes (trits ++ (Undef ∷ [])) (w - length topped) p (simp length-append (omega arith)) (on-top trits Undef) by i (omega arith)
+      ∙ getD-pad trits 1 Undef (i + bv2nat by))
+    where
+      on-top : {A : Type 0} (l : List A) (d : A) → getD (l ++ (d ∷ [])) (length (l ++ (d ∷ [])) - 1) d ≡ d
+      on-top l d =
+          getD-pad l 1 d (length (l ++ (d ∷ [])) - 1)
+          ∙ List·getD-eq-default l d {n = length (l ++ (d ∷ [])) - 1} (simp length-append (omega arith))
