@@ -4,8 +4,9 @@ use mathlib.Core.Bool.{Bool, true, false, not, cond, _&&_, _||_}
 use mathlib.Core.List.{List, [], _∷_, _++_, map, map-append}
 use Prim.Native.Nat.{ℕ, zero, suc, _+_, _-_, _*_, _≤_, _<_, max}
 use native.Mathlib.Omega.{arith}
-use lib.Dec.{ltb}
-use lib.ListN.{length, getD, take, drop, replicate, length-map, length-append, length-replicate, List·getD-map, List·getD-eq-default}
+use lib.Dec.{ltb, eqb}
+use lib.ListN.{length, getD, take, drop, replicate, length-map, length-append, length-replicate, List·getD-map, List·getD-eq-default, drop-of-length-le}
+use lib.Seq.{drop-cons}
 use Rattle.logic.specs.Net.{Net, constant, slot}
 use Rattle.logic.specs.Table.{zipWith, tab, length-tab, map-tab}
 use Rattle.logic.specs.Trit.{shows, xOf, yOf}
@@ -67,6 +68,46 @@ read-shows b age f h (slot i ∷ nets) = one-more _ _ (f i) (h i) (read-shows b 
 map-replicate : {A B : Type 0} (f : A → B) (n : ℕ) (a : A) → map f (replicate n a) ≡ replicate n (f a)
 map-replicate f zero a = refl
 map-replicate f (suc n) a = ap (λ l. f a ∷ l) (map-replicate f n a)
+
+-- Kleene's And and Or, as the builder folds them and as the rule does.
+and-one : (u : Trit) → t.and u One ≡ u
+and-one Zero = refl
+and-one One = refl
+and-one Undef = refl
+
+or-zero : (u : Trit) → t.or u Zero ≡ u
+or-zero Zero = refl
+or-zero One = refl
+or-zero Undef = refl
+
+and-assoc : (u v w : Trit) → t.and (t.and u v) w ≡ t.and u (t.and v w)
+and-assoc Zero v w = refl
+and-assoc One v w = refl
+and-assoc Undef Zero w = refl
+and-assoc Undef One w = refl
+and-assoc Undef Undef Zero = refl
+and-assoc Undef Undef One = refl
+and-assoc Undef Undef Undef = refl
+
+or-assoc : (u v w : Trit) → t.or (t.or u v) w ≡ t.or u (t.or v w)
+or-assoc Zero v w = refl
+or-assoc One v w = refl
+or-assoc Undef Zero w = refl
+or-assoc Undef One w = refl
+or-assoc Undef Undef Zero = refl
+or-assoc Undef Undef One = refl
+or-assoc Undef Undef Undef = refl
+
+-- A compared position.
+not-xor-zero : (u : Trit) → t.not (t.xor u Zero) ≡ t.not u
+not-xor-zero Zero = refl
+not-xor-zero One = refl
+not-xor-zero Undef = refl
+
+not-xor-one : (u : Trit) → t.not (t.xor u One) ≡ u
+not-xor-one Zero = refl
+not-xor-one One = refl
+not-xor-one Undef = refl
 
 module _ (readsPast : ℕ → Bool) (b : NetBits) where
   abbrev θ : Trits
@@ -230,3 +271,61 @@ module _ (readsPast : ℕ → Bool) (b : NetBits) where
       on-top l d =
           getD-pad l 1 d (length (l ++ (d ∷ [])) - 1)
           ∙ List·getD-eq-default l d {n = length (l ++ (d ∷ [])) - 1} (simp length-append (omega arith))
+
+  shift-shows : (o : Shift) (nets amount : List Net) (stride : ℕ) → 0 < length nets
+      → Shows (length nets) (shiftCellBits readsPast b o nets amount stride) (r.shift o (map reading nets) (map reading amount) stride)
+  shift-shows cells.shl = shl-shows
+  shift-shows cells.ushr = ushr-shows
+  shift-shows cells.sshr = sshr-shows
+  shift-shows cells.xshr = xshr-shows
+
+  -- ---- Match
+
+  -- The product so far, and the rest of the pattern.
+  product-shows : (nets : List Net) (pattern : List Trit) {p : TritBits} (u : Trit) → Shows 1 p (u ∷ [])
+      → Shows 1 (productBits readsPast b nets pattern p) (t.and u (r.alternate (map reading nets) pattern) ∷ [])
+  unfolding productBits r.alternate
+  product-shows [] pattern u h = rw (and-one u) h
+  product-shows (v ∷ nets) [] u h = rw (and-one u) h
+  product-shows (v ∷ nets) (Undef ∷ pattern) u h = product-shows nets pattern u h
+  product-shows (v ∷ nets) (Zero ∷ pattern) u h =
+      rw (not-xor-zero (reading v), and-assoc u (t.not (reading v)) (r.alternate (map reading nets) pattern))
+      at (product-shows nets pattern _ (and-shows h (not-shows (xor-shows (value-shows (v ∷ [])) (value-shows (constant Zero ∷ []))))))
+  product-shows (v ∷ nets) (One ∷ pattern) u h =
+      rw (not-xor-one (reading v), and-assoc u (reading v) (r.alternate (map reading nets) pattern))
+      at (product-shows nets pattern _ (and-shows h (not-shows (xor-shows (value-shows (v ∷ [])) (value-shows (constant One ∷ []))))))
+
+  -- The sum so far, and the other alternates.
+  sum-shows : (nets : List Net) (alternates : List (List Trit)) {p : TritBits} (u : Trit) → Shows 1 p (u ∷ [])
+      → Shows 1 (sumBits readsPast b nets alternates p) (t.or u (r.matches (map reading nets) alternates) ∷ [])
+  unfolding sumBits r.matches
+  sum-shows nets [] u h = rw (or-zero u) h
+  sum-shows nets (pattern ∷ alternates) u h =
+      rw (or-assoc u (r.alternate (map reading nets) pattern) (r.matches (map reading nets) alternates))
+      at (sum-shows nets alternates _ (or-shows h (product-shows nets pattern One (lit-shows (One ∷ [])))))
+
+  matches-show : (nets : List Net) (patterns : List (List (List Trit)))
+      → Singles (map (λ alternates. sumBits readsPast b nets alternates (litBits (Zero ∷ []))) patterns) (map (r.matches (map reading nets)) patterns)
+  matches-show nets [] = none
+  matches-show nets (alternates ∷ patterns) = more (sum-shows nets alternates Zero (lit-shows (Zero ∷ []))) (matches-show nets patterns)
+
+  -- From the index-th pattern down to the first.
+  first-shows : (k : ℕ) (ms : List Trit) {m : TritBits} → Shows k m ms → (index : ℕ) {p : TritBits} → index ≤ k
+      → Shows k p (r.firstHot k index (drop index ms)) → Shows k (firstBits m k index p) (r.firstHot k 0 ms)
+  unfolding firstBits r.firstHot
+  first-shows k ms hm zero l h = h
+  first-shows k ms hm (suc index) l h =
+      first-shows k ms hm index (omega arith)
+      (rw (drop-cons ms index Zero (let e = shown-ts hm in omega arith))
+      (mux-shows (extract-shows hm index Zero (omega arith)) (rw (length-tab k (λ j. t.trit (eqb j index))) at (lit-shows (oneHot k index))) h))
+
+  match-shows : (nets : List Net) (enable : Net) (patterns : List (List (List Trit)))
+      → Shows (length patterns) (matchBits readsPast b nets enable patterns) (r.match (map reading nets) (reading enable) patterns)
+  unfolding matchBits r.firstHot
+  match-shows nets enable patterns =
+      let k = length patterns in
+      let ms = map (r.matches (map reading nets)) patterns in
+      let cold : Shows k (litBits (replicate k Zero)) (replicate k Zero) = rw (length-replicate k Zero) at (lit-shows (replicate k Zero)) in
+      let m = rw (length-map patterns (λ alternates. sumBits readsPast b nets alternates (litBits (Zero ∷ [])))) at (concat-shows (matches-show nets patterns)) in
+      let none-left : drop k ms ≡ [] = drop-of-length-le ms {i = k} (rw (length-map patterns (r.matches (map reading nets))) (omega arith)) in
+      mux-shows (value-shows (enable ∷ [])) (first-shows k ms m k (omega arith) (rw none-left cold)) cold
