@@ -3,6 +3,7 @@ use mathlib.Core.Path.{_≡_, refl, sym, ap, ap₂, _∙_}
 use mathlib.Core.Bool.{Bool, true, false, not, cond, _&&_, _||_}
 use mathlib.Core.List.{List, [], _∷_, _++_, map, map-append}
 use Prim.Native.Nat.{ℕ, zero, suc, _+_, _-_, _*_, _≤_, _<_, max}
+use native.Mathlib.Numerals.{add-one}
 use native.Mathlib.Omega.{arith}
 use lib.Dec.{ltb, eqb}
 use lib.ListN.{length, getD, take, drop, replicate, length-map, length-append, length-replicate, List·getD-map, List·getD-eq-default, drop-of-length-le}
@@ -34,7 +35,7 @@ use Rattle.soundness.specs.Formula.{
 }
 use Rattle.soundness.specs.CellBits.{
   firstBits, ageOf, valueBits, netBit, pastBits, currBits, controlBits, clockBits, shiftedBits, shiftCellBits, comparedBits, productBits,
-  sumBits, matchesBits, matchBits, loadedBits, clockedBits, clearedBits, adcCellBits, cellBits, wide,
+  sumBits, matchesBits, matchBits, loadedBits, clockedBits, clearedBits, adcCellBits, cellBits, wide, length-overwritten,
 }
 use Rattle.soundness.specs.Shows.{
   Shown, empty, lane, Shows, shown-is, shown-x, shown-y, shown-ts, one-more, getD-any, not-shows, and-shows, or-shows, xor-shows, mux-shows, lit-shows,
@@ -68,6 +69,16 @@ read-shows b age f h (slot i ∷ nets) = one-more _ _ (f i) (h i) (read-shows b 
 map-replicate : {A B : Type 0} (f : A → B) (n : ℕ) (a : A) → map f (replicate n a) ≡ replicate n (f a)
 map-replicate f zero a = refl
 map-replicate f (suc n) a = ap (λ l. f a ∷ l) (map-replicate f n a)
+
+map-take : {A B : Type 0} (f : A → B) (n : ℕ) (l : List A) → map f (take n l) ≡ take n (map f l)
+map-take f zero l = refl
+map-take f (suc n) [] = refl
+map-take f (suc n) (a ∷ l) = ap (λ r. f a ∷ r) (map-take f n l)
+
+map-drop : {A B : Type 0} (f : A → B) (n : ℕ) (l : List A) → map f (drop n l) ≡ drop n (map f l)
+map-drop f zero l = refl
+map-drop f (suc n) [] = refl
+map-drop f (suc n) (a ∷ l) = map-drop f n l
 
 -- Kleene's And and Or, as the builder folds them and as the rule does.
 and-one : (u : Trit) → t.and u One ≡ u
@@ -128,6 +139,10 @@ module _ (readsPast : ℕ → Bool) (b : NetBits) where
 
       at-age : (i : ℕ) → shows (b (ageOf readsPast b i) i isUndef) (b (ageOf readsPast b i) i isOne) ≡ asRead readsPast θ i
       at-age i = by-age (readsPast i) i
+
+  net-shows : (n : Net) → shows (bitOf b (ageOf readsPast b) isUndef n) (bitOf b (ageOf readsPast b) isOne n) ≡ reading n
+  unfolding readBits
+  net-shows n = shown-at (value-shows (n ∷ [])) 0 false false
 
   past-shows : (nets : List Net) → Shows (length nets) (pastBits readsPast b nets) (map (ofNet (θ .was)) nets)
   past-shows = read-shows b (λ i. past) (θ .was) (λ i. refl)
@@ -329,3 +344,97 @@ module _ (readsPast : ℕ → Bool) (b : NetBits) where
       let m = rw (length-map patterns (λ alternates. sumBits readsPast b nets alternates (litBits (Zero ∷ [])))) at (concat-shows (matches-show nets patterns)) in
       let none-left : drop k ms ≡ [] = drop-of-length-le ms {i = k} (rw (length-map patterns (r.matches (map reading nets))) (omega arith)) in
       mux-shows (value-shows (enable ∷ [])) (first-shows k ms m k (omega arith) (rw none-left cold)) cold
+
+  -- ---- Assign and Dff
+
+  mux-nets : (sel : Net) (x y : List Net) (n : ℕ) → length x ≡ n → length y ≡ n
+      → Shows n (muxBits (netBit readsPast b sel) (value x) (value y)) (r.mux (reading sel) (map reading x) (map reading y))
+  mux-nets sel x y n ex ey = mux-shows (value-shows (sel ∷ [])) (rw ex at (value-shows x)) (rw ey at (value-shows y))
+
+  overwritten-read : (nets : List Net) (offset : ℕ) (update : List Net)
+      → map reading (overwritten nets offset update) ≡ r.overwrite (map reading nets) offset (map reading update)
+  overwritten-read nets offset update =
+      rw (map-append reading (take offset nets) (update ++ drop (offset + length update) nets),
+          map-append reading update (drop (offset + length update) nets), map-take reading offset nets,
+          map-drop reading (offset + length update) nets, length-map update reading)
+
+  -- The past trits of the output's slots.
+  output-shows : (s w : ℕ) → Shows w (pastBits readsPast b (outputNets s w)) (map (θ .was) (outputs s w))
+  output-shows s w =
+      rw (length-tab w (λ i. slot (s + i)), map-tab (ofNet (θ .was)) w (λ i. slot (s + i)) ∙ sym (map-tab (θ .was) w (λ i. s + i)))
+      at (past-shows (outputNets s w))
+
+  module _ (f : FlipFlop) (s : ℕ) (ec : length (f .clearValue) ≡ length (f .dat)) (er : length (f .resetValue) ≡ length (f .dat)) where
+    abbrev width : ℕ
+    width = length (f .dat)
+
+    abbrev given : r.FlipFlopInputs
+    given = flipFlopInputs readsPast θ f (outputs s width)
+
+    loaded-shows : (flag : Bool) → Shows width (loadedBits readsPast b flag f (outputNets s width))
+        (cond flag (r.mux (given .reset) (given .resetValue) (r.mux (given .enable) (given .dat) (given .past)))
+        (r.mux (given .enable) (r.mux (given .reset) (given .resetValue) (given .dat)) (given .past)))
+    loaded-shows true =
+        mux-shows (control-shows (f .reset)) (rw er at (lit-shows (f .resetValue)))
+        (mux-shows (control-shows (f .enable)) (value-shows (f .dat)) (output-shows s width))
+    loaded-shows false =
+        mux-shows (control-shows (f .enable))
+        (mux-shows (control-shows (f .reset)) (rw er at (lit-shows (f .resetValue))) (value-shows (f .dat))) (output-shows s width)
+
+    clocked-shows : Shows width (clockedBits readsPast b f (outputNets s width)) (r.clocked given)
+    clocked-shows = mux-shows (clock-shows (f .clock)) (loaded-shows (f .resetOverEnable)) (output-shows s width)
+
+    cleared-shows : (flag : Bool) {p : TritBits} {ts : List Trit} → Shows width p ts
+        → Shows width (clearedBits readsPast b flag f p) (cond flag (r.mux (given .clear) (given .clearValue) ts) ts)
+    cleared-shows true h = mux-shows (control-shows (f .clear)) (rw ec at (lit-shows (f .clearValue))) h
+    cleared-shows false h = h
+
+    dff-shows : Shows width (clearedBits readsPast b (hasClear f) f (clockedBits readsPast b f (outputNets s width))) (r.dff given)
+    dff-shows = rw (ap not (never (f .clear .inverted) (f .clear .net))) (cleared-shows (rule.hasClear f) clocked-shows)
+      where
+        never : (inverted : Bool) (n : Net) → isAlwaysInactive inverted n ≡ inactive inverted n
+        never true (constant Zero) = refl
+        never true (constant One) = refl
+        never true (constant Undef) = refl
+        never true (slot i) = refl
+        never false (constant Zero) = refl
+        never false (constant One) = refl
+        never false (constant Undef) = refl
+        never false (slot i) = refl
+
+  -- ---- every cell
+
+  -- With no operand bits the carry is all there is.
+  adc-none : (u : Trit) → r.adc [] [] u ≡ u ∷ []
+  unfolding tab number anyX
+  adc-none Zero = refl
+  adc-none One = refl
+  adc-none Undef = refl
+
+  adc-cell-shows : (x y : List Net) (carry : Net) → length y ≡ length x
+      → Shows (length x + 1) (adcCellBits readsPast b x y carry) (r.adc (map reading x) (map reading y) (reading carry))
+  adc-cell-shows [] [] carry e = rw (adc-none (reading carry)) (value-shows (carry ∷ []))
+  adc-cell-shows [] (m ∷ y) carry e = absurd (omega arith)
+  adc-cell-shows (n ∷ x) y carry e =
+      rw (add-one (length (n ∷ x)), ← (net-shows carry)) (adc-shows _ _ (value-shows (n ∷ x)) (rw e at (value-shows y)))
+
+  pub cell-bits-show : (s : ℕ) (d : Cell) → Shaped d → MayReplace d → 0 < outputLen d
+      → Shows (outputLen d) (cellBits readsPast b s (outputLen d) d) (cellRule readsPast θ (outputs s (outputLen d)) d)
+  cell-bits-show s cells.void h new some = absurd new
+  cell-bits-show s cells.note h new some = absurd new
+  cell-bits-show s (cells.input n) h new some = absurd new
+  cell-bits-show s (cells.ioBuf n) h new some =
+      rw (length-tab n (λ i. slot (s + i)), map-tab reading n (λ i. slot (s + i)) ∙ sym (map-tab (asRead readsPast θ) n (λ i. s + i)))
+      at (value-shows (outputNets s n))
+  cell-bits-show s (cells.unary cells.buf x) h new some = value-shows x
+  cell-bits-show s (cells.unary cells.not x) h new some = not-shows (value-shows x)
+  cell-bits-show s (cells.binary o x y) h new some = binary-shows o (value-shows x) (rw (h .0) at (value-shows y))
+  cell-bits-show s (cells.mux sel x y) h new some = mux-nets sel x y (length x) refl h
+  cell-bits-show s (cells.adc x y carry) h new some = adc-cell-shows x y carry h
+  cell-bits-show s (cells.aig x y) h new some = and-shows (control-shows x) (control-shows y)
+  cell-bits-show s (cells.shift o nets amount stride) h new some = shift-shows o nets amount stride some
+  cell-bits-show s (cells.match nets enable patterns) h new some = match-shows nets enable patterns
+  cell-bits-show s (cells.assign nets enable update offset) h new some =
+      rw (← (overwritten-read nets offset update))
+      (mux-nets enable (overwritten nets offset update) nets (length nets) (length-overwritten nets offset update h) refl)
+  cell-bits-show s (cells.dff f) h new some = dff-shows f s (h .0) (h .1)
