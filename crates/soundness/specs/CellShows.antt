@@ -18,7 +18,8 @@ use Rattle.bitvec.specs.Ops.{bvmul, msb}
 use Rattle.bitvec.specs.Laws.{length-bvshl, length-bvlshr, length-bvashr}
 use Rattle.engine.specs.Call.{BinaryOp}
 use Rattle.engine.specs.Call as c
-use Rattle.engine.specs.Meaning.{denoteOp}
+use Rattle.engine.specs.Call.{Call}
+use Rattle.engine.specs.Meaning.{Value, asBits, Assignment, Holds, denoteOp}
 use Rattle.cell.specs.Cell.{Cell, Control, FlipFlop, Shift, Binary, outputLen}
 use Rattle.cell.specs.Cell as cells
 use Rattle.rules.specs.Trits as t
@@ -27,15 +28,18 @@ use Rattle.rules.specs.Rules as r
 use Rattle.rules.specs.CellRule.{Trits, ofNet, asRead, control, inactive, outputs, read, edge, flipFlopInputs, cellRule}
 use Rattle.rules.specs.CellRule as rule
 use Rattle.working_out.specs.Laid.{Shaped, BinaryWide, MayReplace}
-use Rattle.smt.specs.Prog.{Age, curr, past, Half, isUndef, isOne}
-use Rattle.smt.specs.Builder.{outputNets, oneHot, overwritten, hasClear, isAlwaysInactive, shiftWidth, ilog2, zext, sext, extended}
+use Rattle.smt.specs.Prog.{Age, curr, past, Half, isUndef, isOne, TritVec}
+use Rattle.smt.specs.Emit.{St, emit}
+use Rattle.smt.specs.Builder.{outputNets, oneHot, overwritten, hasClear, isAlwaysInactive, shiftWidth, ilog2, zext, sext, extended, cell}
+use Rattle.soundness.specs.Wp.{wp-mono, wp-sound, Known, Sound}
+use Rattle.soundness.specs.Terms.{Is}
 use Rattle.soundness.specs.Formula.{
-  TritBits, tb, one, NetBits, bitOf, readBits, litBits, concatBits, extractBits, notBits, andBits, orBits, xorBits, muxBits, invertBits,
+  TritBits, tb, one, NetBits, netBits, bitOf, readBits, litBits, concatBits, extractBits, notBits, andBits, orBits, xorBits, muxBits, invertBits,
   isZero, adcBits, shiftBits, binaryBits,
 }
 use Rattle.soundness.specs.CellBits.{
   firstBits, ageOf, valueBits, netBit, pastBits, currBits, controlBits, clockBits, shiftedBits, shiftCellBits, comparedBits, productBits,
-  sumBits, matchesBits, matchBits, loadedBits, clockedBits, clearedBits, adcCellBits, cellBits, wide, length-overwritten,
+  sumBits, matchesBits, matchBits, loadedBits, clockedBits, clearedBits, adcCellBits, cellBits, wide, length-overwritten, cell-wp,
 }
 use Rattle.soundness.specs.Shows.{
   Shown, empty, lane, Shows, shown-is, shown-x, shown-y, shown-ts, one-more, getD-any, not-shows, and-shows, or-shows, xor-shows, mux-shows, lit-shows,
@@ -438,3 +442,36 @@ module _ (readsPast : ℕ → Bool) (b : NetBits) where
       rw (← (overwritten-read nets offset update))
       (mux-nets enable (overwritten nets offset update) nets (length nets) (length-overwritten nets offset update h) refl)
   cell-bits-show s (cells.dff f) h new some = dff-shows f s (h .0) (h .1)
+
+-- ---- the calls
+
+-- A pair of terms shows these trits: its bits have their width, and the trits are those that its bits show.
+pub record TermsShow (v : ℕ → Value) (r : TritVec) (ts : List Trit) : Type 0 where
+  pub x-width : length (asBits (v (r .x .term))) ≡ length ts
+  pub y-width : length (asBits (v (r .y .term))) ≡ length ts
+  pub trits : zipWith shows (asBits (v (r .x .term))) (asBits (v (r .y .term))) ≡ ts
+
+terms-show : (ρ : Assignment) (v : ℕ → Value) (n : ℕ) (r : TritVec) (a : TritBits) (ts : List Trit) → Is ρ v r a → Shows n a ts
+    → TermsShow v r ts
+terms-show ρ v n r a ts is shown =
+    let ex : asBits (v (r .x .term)) ≡ a .x = ap asBits (is .0) in
+    let ey : asBits (v (r .y .term)) ≡ a .y = ap asBits (is .1) in
+    record {
+      x-width = ap length ex ∙ shown-x shown ∙ sym (shown-ts shown);
+      y-width = ap length ey ∙ shown-y shown ∙ sym (shown-ts shown);
+      trits = ap₂ (zipWith shows) ex ey ∙ shown-is shown;
+    }
+
+-- Requirement 2, for a cell of any operation and every width: whatever the assignment is, the terms of the cell show the trits of
+-- the cell's rule on the trits that the names of its nets show. The calls may stand anywhere in a list, after any state of the
+-- builder whose known names have their terms.
+pub cell-shows : (readsPast : ℕ → Bool) (s : ℕ) (d : Cell) → Shaped d → MayReplace d → 0 < outputLen d
+    → (ρ : Assignment) (v : ℕ → Value) (st : St) (rest : List Call) → Known ρ v (st .names)
+    → Holds ρ v (st .next) ((emit (cell readsPast s (outputLen d) d) st) .calls ++ rest)
+    → Sound ρ v ((emit (cell readsPast s (outputLen d) d) st) .res) ((emit (cell readsPast s (outputLen d) d) st) .st) rest
+    (λ r. TermsShow v r (cellRule readsPast (tritsOf (netBits ρ)) (outputs s (outputLen d)) d))
+cell-shows readsPast s d shaped has some ρ v st rest names holds =
+    wp-sound ρ v (cell readsPast s (outputLen d) d) st _ rest names holds
+    (wp-mono ρ v (cell readsPast s (outputLen d) d) _ _
+    (λ r is. terms-show ρ v (outputLen d) r _ _ is (cell-bits-show readsPast (netBits ρ) s d shaped has some))
+    (cell-wp readsPast ρ v s d shaped has some))
