@@ -64,7 +64,7 @@ use Rattle.smt.specs.Builder.{
   tvBinary,
   cell,
 }
-use Rattle.working_out.specs.Laid.{Shaped, BinaryWide, MayReplace}
+use Rattle.rules.specs.Shape.{Shaped, Wide}
 use Rattle.soundness.specs.Wp.{wp, wp-seq, wp-mono}
 use Rattle.soundness.specs.Formula.{
   TritBits,
@@ -212,8 +212,12 @@ module _ (readsPast : ℕ → Bool) (b : NetBits) where
 
 -- ---- the calls
 
+-- An Input has no terms; nor have a Void and a Note, which have no output.
+abbrev pub NotInput : Cell → Type 0
+NotInput d = (n : ℕ) → d ≡ cells.input n → ⊥
+
 -- A cell of two operands with an output has operands.
-pub wide : (o : Binary) (n : ℕ) → BinaryWide o n → 0 < binaryWidth o n → 0 < n
+pub wide : (o : Binary) (n : ℕ) → Wide o n → 0 < binaryWidth o n → 0 < n
 wide cells.and n h some = some
 wide cells.or n h some = some
 wide cells.xor n h some = some
@@ -440,29 +444,29 @@ module _ (readsPast : ℕ → Bool) (ρ : Assignment) (v : ℕ → Value) where
       wp-seq ρ v (valueOf (net readsPast) y) _ _ _ (value-wp y m) λ q hq.
       tvMux-wp ρ v s p q w _ _ _ hs hp hq
 
-  pub cell-wp : (s : ℕ) (d : Cell) → Shaped d → MayReplace d → 0 < outputLen d
+  pub cell-wp : (s : ℕ) (d : Cell) → Shaped d → NotInput d → 0 < outputLen d
       → wp ρ v (cell readsPast s (outputLen d) d) (λ r. Is ρ v r (cellBits readsPast b s (outputLen d) d))
   unfolding cell
-  cell-wp s cells.void h new some = absurd new
-  cell-wp s cells.note h new some = absurd new
-  cell-wp s (cells.input n) h new some = absurd new
-  cell-wp s (cells.ioBuf n) h new some = value-wp (outputNets s n) (simp length-tab some)
-  cell-wp s (cells.unary cells.buf x) h new some = value-wp x some
-  cell-wp s (cells.unary cells.not x) h new some =
+  cell-wp s cells.void h terms some = absurd (omega arith)
+  cell-wp s cells.note h terms some = absurd (omega arith)
+  cell-wp s (cells.input n) h terms some = absurd (terms n refl)
+  cell-wp s (cells.ioBuf n) h terms some = value-wp (outputNets s n) (simp length-tab some)
+  cell-wp s (cells.unary cells.buf x) h terms some = value-wp x some
+  cell-wp s (cells.unary cells.not x) h terms some =
       wp-seq ρ v (valueOf (net readsPast) x) _ _ _ (value-wp x some) λ p hp. tvNot-wp ρ v p _ hp
-  cell-wp s (cells.binary o x y) h new some =
+  cell-wp s (cells.binary o x y) h terms some =
       let n = wide o (length x) (h .1) some in
       wp-seq ρ v (valueOf (net readsPast) x) _ _ _ (value-wp x n) λ p hp.
       wp-seq ρ v (valueOf (net readsPast) y) _ _ _ (value-wp y (rw (h .0) n)) λ q hq.
       tvBinary-wp ρ v o p q (length x) (outputLen (cells.binary o x y)) _ _ hp hq
-  cell-wp s (cells.mux sel x y) h new some = mux-wp sel x y (length x) some (rw h some)
-  cell-wp s (cells.adc x y carry) h new some = adcCell-wp x y carry h
-  cell-wp s (cells.aig x y) h new some =
+  cell-wp s (cells.mux sel x y) h terms some = mux-wp sel x y (length x) some (rw h some)
+  cell-wp s (cells.adc x y carry) h terms some = adcCell-wp x y carry h
+  cell-wp s (cells.aig x y) h terms some =
       wp-seq ρ v (controlNet readsPast x) _ _ _ (controlNet-wp x) λ p hp.
       wp-seq ρ v (controlNet readsPast y) _ _ _ (controlNet-wp y) λ q hq.
       tvAnd-wp ρ v p q 1 _ _ hp hq
-  cell-wp s (cells.shift o nets amount stride) h new some = shiftCell-wp o nets amount stride some
-  cell-wp s (cells.match nets enable patterns) h new some = matchCell-wp nets enable patterns some
-  cell-wp s (cells.assign nets enable update offset) h new some =
+  cell-wp s (cells.shift o nets amount stride) h terms some = shiftCell-wp o nets amount stride some
+  cell-wp s (cells.match nets enable patterns) h terms some = matchCell-wp nets enable patterns some
+  cell-wp s (cells.assign nets enable update offset) h terms some =
       mux-wp enable (overwritten nets offset update) nets (length nets) (rw (length-overwritten nets offset update h) some) some
-  cell-wp s (cells.dff f) h new some = dffCell-wp f s (length (f .dat)) some some
+  cell-wp s (cells.dff f) h terms some = dffCell-wp f s (length (f .dat)) some some

@@ -27,7 +27,7 @@ use Rattle.rules.specs.Trits.{anyX, number}
 use Rattle.rules.specs.Rules as r
 use Rattle.rules.specs.CellRule.{Trits, ofNet, asRead, control, inactive, outputs, read, edge, flipFlopInputs, cellRule}
 use Rattle.rules.specs.CellRule as rule
-use Rattle.working_out.specs.Laid.{Shaped, BinaryWide, MayReplace}
+use Rattle.rules.specs.Shape.{Shaped}
 use Rattle.smt.specs.Prog.{Age, curr, past, Half, isUndef, isOne, TritVec}
 use Rattle.smt.specs.Emit.{St, emit}
 use Rattle.smt.specs.Builder.{outputNets, oneHot, overwritten, hasClear, isAlwaysInactive, shiftWidth, ilog2, zext, sext, extended, cell}
@@ -39,7 +39,7 @@ use Rattle.soundness.specs.Formula.{
 }
 use Rattle.soundness.specs.CellBits.{
   firstBits, ageOf, valueBits, netBit, pastBits, currBits, controlBits, clockBits, shiftedBits, shiftCellBits, comparedBits, productBits,
-  sumBits, matchesBits, matchBits, loadedBits, clockedBits, clearedBits, adcCellBits, cellBits, wide, length-overwritten, cell-wp,
+  sumBits, matchesBits, matchBits, loadedBits, clockedBits, clearedBits, adcCellBits, cellBits, wide, length-overwritten, NotInput, cell-wp,
 }
 use Rattle.soundness.specs.Shows.{
   Shown, empty, lane, Shows, shown-is, shown-x, shown-y, shown-ts, one-more, getD-any, not-shows, and-shows, or-shows, xor-shows, mux-shows, lit-shows,
@@ -422,26 +422,26 @@ module _ (readsPast : ℕ → Bool) (b : NetBits) where
   adc-cell-shows (n ∷ x) y carry e =
       rw (add-one (length (n ∷ x)), ← (net-shows carry)) (adc-shows _ _ (value-shows (n ∷ x)) (rw e at (value-shows y)))
 
-  pub cell-bits-show : (s : ℕ) (d : Cell) → Shaped d → MayReplace d → 0 < outputLen d
+  pub cell-bits-show : (s : ℕ) (d : Cell) → Shaped d → NotInput d → 0 < outputLen d
       → Shows (outputLen d) (cellBits readsPast b s (outputLen d) d) (cellRule readsPast θ (outputs s (outputLen d)) d)
-  cell-bits-show s cells.void h new some = absurd new
-  cell-bits-show s cells.note h new some = absurd new
-  cell-bits-show s (cells.input n) h new some = absurd new
-  cell-bits-show s (cells.ioBuf n) h new some =
+  cell-bits-show s cells.void h terms some = absurd (omega arith)
+  cell-bits-show s cells.note h terms some = absurd (omega arith)
+  cell-bits-show s (cells.input n) h terms some = absurd (terms n refl)
+  cell-bits-show s (cells.ioBuf n) h terms some =
       rw (length-tab n (λ i. slot (s + i)), map-tab reading n (λ i. slot (s + i)) ∙ sym (map-tab (asRead readsPast θ) n (λ i. s + i)))
       at (value-shows (outputNets s n))
-  cell-bits-show s (cells.unary cells.buf x) h new some = value-shows x
-  cell-bits-show s (cells.unary cells.not x) h new some = not-shows (value-shows x)
-  cell-bits-show s (cells.binary o x y) h new some = binary-shows o (value-shows x) (rw (h .0) at (value-shows y))
-  cell-bits-show s (cells.mux sel x y) h new some = mux-nets sel x y (length x) refl h
-  cell-bits-show s (cells.adc x y carry) h new some = adc-cell-shows x y carry h
-  cell-bits-show s (cells.aig x y) h new some = and-shows (control-shows x) (control-shows y)
-  cell-bits-show s (cells.shift o nets amount stride) h new some = shift-shows o nets amount stride some
-  cell-bits-show s (cells.match nets enable patterns) h new some = match-shows nets enable patterns
-  cell-bits-show s (cells.assign nets enable update offset) h new some =
+  cell-bits-show s (cells.unary cells.buf x) h terms some = value-shows x
+  cell-bits-show s (cells.unary cells.not x) h terms some = not-shows (value-shows x)
+  cell-bits-show s (cells.binary o x y) h terms some = binary-shows o (value-shows x) (rw (h .0) at (value-shows y))
+  cell-bits-show s (cells.mux sel x y) h terms some = mux-nets sel x y (length x) refl h
+  cell-bits-show s (cells.adc x y carry) h terms some = adc-cell-shows x y carry h
+  cell-bits-show s (cells.aig x y) h terms some = and-shows (control-shows x) (control-shows y)
+  cell-bits-show s (cells.shift o nets amount stride) h terms some = shift-shows o nets amount stride some
+  cell-bits-show s (cells.match nets enable patterns) h terms some = match-shows nets enable patterns
+  cell-bits-show s (cells.assign nets enable update offset) h terms some =
       rw (← (overwritten-read nets offset update))
       (mux-nets enable (overwritten nets offset update) nets (length nets) (length-overwritten nets offset update h) refl)
-  cell-bits-show s (cells.dff f) h new some = dff-shows f s (h .0) (h .1)
+  cell-bits-show s (cells.dff f) h terms some = dff-shows f s (h .0) (h .1)
 
 -- ---- the calls
 
@@ -465,13 +465,13 @@ terms-show ρ v n r a ts is shown =
 -- Requirement 2, for a cell of any operation and every width: whatever the assignment is, the terms of the cell show the trits of
 -- the cell's rule on the trits that the names of its nets show. The calls may stand anywhere in a list, after any state of the
 -- builder whose known names have their terms.
-pub cell-shows : (readsPast : ℕ → Bool) (s : ℕ) (d : Cell) → Shaped d → MayReplace d → 0 < outputLen d
+pub cell-shows : (readsPast : ℕ → Bool) (s : ℕ) (d : Cell) → Shaped d → NotInput d → 0 < outputLen d
     → (ρ : Assignment) (v : ℕ → Value) (st : St) (rest : List Call) → Known ρ v (st .names)
     → Holds ρ v (st .next) ((emit (cell readsPast s (outputLen d) d) st) .calls ++ rest)
     → Sound ρ v ((emit (cell readsPast s (outputLen d) d) st) .res) ((emit (cell readsPast s (outputLen d) d) st) .st) rest
     (λ r. TermsShow v r (cellRule readsPast (tritsOf (netBits ρ)) (outputs s (outputLen d)) d))
-cell-shows readsPast s d shaped has some ρ v st rest names holds =
+cell-shows readsPast s d shaped terms some ρ v st rest names holds =
     wp-sound ρ v (cell readsPast s (outputLen d) d) st _ rest names holds
     (wp-mono ρ v (cell readsPast s (outputLen d) d) _ _
-    (λ r is. terms-show ρ v (outputLen d) r _ _ is (cell-bits-show readsPast (netBits ρ) s d shaped has some))
-    (cell-wp readsPast ρ v s d shaped has some))
+    (λ r is. terms-show ρ v (outputLen d) r _ _ is (cell-bits-show readsPast (netBits ρ) s d shaped terms some))
+    (cell-wp readsPast ρ v s d shaped terms some))
