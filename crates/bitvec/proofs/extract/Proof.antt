@@ -3,6 +3,8 @@
 use borrow.Author.Needs.{needs}
 use borrow.Author.Tests.{le-leb, lt-leb, lt-ltb, le-ltb}
 use mathlib.Core.Path.{_∙_}
+use Prim.Native.Nat.{_<_, _≤_}
+use native.Mathlib.Omega.{arith}
 use Rattle.bitvec.specs.Words.{extractAt}
 use Rattle.bitvec.proofs.Lemmas.{word-extract}
 use Rattle.bitvec.proofs.extract.Statement.{statement}
@@ -14,13 +16,15 @@ returns c = rw (lt-leb _ _ (c .if1 .taken))
 
 returns-2 : tie.Need-returns-2
 unfolding extractAt
-returns-2 c = rw (le-leb _ _ (c .before .if1 .left), le-ltb _ _ (c .if2 .taken))
+returns-2 c =
+    let a = c .before .before .args in
+    rw (le-leb (a .width) 64 (omega arith), le-ltb (a .i) (a .width) (omega arith))
 
 returns-3 : tie.Need-returns-3
 unfolding extractAt
 returns-3 c =
-    let second = c .before in
-    rw (le-leb _ _ (second .before .if1 .left), lt-ltb _ _ (second .if2 .left), lt-leb _ _ (c .if3 .taken))
+    let a = c .before .before .before .args in
+    rw (le-leb (a .width) 64 (omega arith), lt-ltb (a .i) (a .width) (omega arith), lt-leb (a .j) (a .i) (omega arith))
 
 add-reduce : tie.Need-add-reduce
 add-reduce c = search needs
@@ -35,11 +39,10 @@ returns-4 : tie.Need-returns-4
 unfolding extractAt
 returns-4 c =
     let third = c .before in
-    let second = third .before in
-    let a = second .before .before .args in
-    let small = second .before .if1 .left in
-    let inside = second .if2 .left in
-    let ordered = third .if3 .left in
+    let a = third .before .before .before .args in
+    let small : a .width ≤ 64 = omega arith in
+    let inside : a .i < a .width = omega arith in
+    let ordered : a .j ≤ a .i = omega arith in
     rw (le-leb _ _ small, lt-ltb _ _ inside, le-leb _ _ ordered)
     (c .reduce .ensures ∙ word-extract (a .width) (a .i) (a .j) (a .s) small inside ordered)
 
