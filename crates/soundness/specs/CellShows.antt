@@ -34,16 +34,78 @@ use Rattle.smt.specs.Builder.{outputNets, oneHot, overwritten, hasClear, isAlwa
 use Rattle.soundness.specs.Wp.{wp-mono, wp-sound, Known, Sound}
 use Rattle.soundness.specs.Terms.{Is}
 use Rattle.soundness.specs.Formula.{
-  TritBits, tb, one, NetBits, netBits, bitOf, readBits, litBits, concatBits, extractBits, notBits, andBits, orBits, xorBits, muxBits, invertBits,
-  isZero, adcBits, shiftBits, binaryBits,
+  TritBits,
+  tb,
+  one,
+  NetBits,
+  netBits,
+  bitOf,
+  readBits,
+  litBits,
+  concatBits,
+  extractBits,
+  notBits,
+  andBits,
+  orBits,
+  xorBits,
+  muxBits,
+  invertBits,
+  isZero,
+  adcBits,
+  shiftBits,
+  binaryBits,
 }
 use Rattle.soundness.specs.CellBits.{
-  firstBits, ageOf, valueBits, netBit, pastBits, currBits, controlBits, clockBits, shiftedBits, shiftCellBits, comparedBits, productBits,
-  sumBits, matchesBits, matchBits, loadedBits, clockedBits, clearedBits, adcCellBits, cellBits, wide, length-overwritten, NotInput, cell-wp,
+  firstBits,
+  ageOf,
+  valueBits,
+  netBit,
+  pastBits,
+  currBits,
+  controlBits,
+  clockBits,
+  shiftedBits,
+  shiftCellBits,
+  comparedBits,
+  productBits,
+  sumBits,
+  matchesBits,
+  matchBits,
+  loadedBits,
+  clockedBits,
+  clearedBits,
+  adcCellBits,
+  cellBits,
+  wide,
+  length-overwritten,
+  NotInput,
+  cell-wp,
 }
 use Rattle.soundness.specs.Shows.{
-  Shown, empty, lane, Shows, shown-is, shown-x, shown-y, shown-ts, one-more, getD-any, not-shows, and-shows, or-shows, xor-shows, mux-shows, lit-shows,
-  invert-shows, append-shows, Singles, none, more, concat-shows, shown-at, extract-shows,
+  Shown,
+  empty,
+  lane,
+  Shows,
+  shown-is,
+  shown-x,
+  shown-y,
+  shown-ts,
+  one-more,
+  getD-any,
+  not-shows,
+  and-shows,
+  or-shows,
+  xor-shows,
+  mux-shows,
+  lit-shows,
+  invert-shows,
+  append-shows,
+  Singles,
+  none,
+  more,
+  concat-shows,
+  shown-at,
+  extract-shows,
 }
 use Rattle.soundness.specs.ShowsNumber.{zero-x, equals-shows, ult-shows, slt-shows, mul-shows, adc-shows}
 use Rattle.soundness.specs.ShowsShift.{getD-pad, by-number, anyX-zeros, moved-shows, shl-lanes, lshr-lanes, ashr-lanes, xshr-lanes}
@@ -358,9 +420,13 @@ module _ (readsPast : ℕ → Bool) (b : NetBits) where
   overwritten-read : (nets : List Net) (offset : ℕ) (update : List Net)
       → map reading (overwritten nets offset update) ≡ r.overwrite (map reading nets) offset (map reading update)
   overwritten-read nets offset update =
-      rw (map-append reading (take offset nets) (update ++ drop (offset + length update) nets),
-          map-append reading update (drop (offset + length update) nets), map-take reading offset nets,
-          map-drop reading (offset + length update) nets, length-map update reading)
+      rw (
+        map-append reading (take offset nets) (update ++ drop (offset + length update) nets),
+        map-append reading update (drop (offset + length update) nets),
+        map-take reading offset nets,
+        map-drop reading (offset + length update) nets,
+        length-map update reading,
+      )
 
   -- The past trits of the output's slots.
   output-shows : (s w : ℕ) → Shows w (pastBits readsPast b (outputNets s w)) (map (θ .was) (outputs s w))
