@@ -38,11 +38,10 @@ of-refine (both {x = x} {y = y} h r) = rw (true-of (refines x y) h) (of-refine r
 
 -- An obligation is not broken where its from refines its to.
 pub unbroken : (d : Design) (θ : Trits) (o : Obligation) → (broken d θ o ≡ false) ↔ Refine (fromOf θ o) (toOf d θ o)
-unbroken d θ o = (
-  λ e. refine-of (fromOf θ o) (toOf d θ o) (not-false (allRefine (fromOf θ o) (toOf d θ o)) e),
-  λ r. rw
-      (of-refine r),
-)
+unbroken d θ o = (holds, λ r. rw (of-refine r))
+  where
+    holds : broken d θ o ≡ false → Refine (fromOf θ o) (toOf d θ o)
+    holds e = refine-of (fromOf θ o) (toOf d θ o) (not-false (allRefine (fromOf θ o) (toOf d θ o)) e)
 
 -- From and to are of one width.
 abbrev pub Fits : Design → Trits → Obligation → Type 0
