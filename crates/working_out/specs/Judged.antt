@@ -3,20 +3,21 @@ use mathlib.Core.Path.{_≡_, refl, sym, _∙_}
 use mathlib.Core.Logic.{_↔_}
 use mathlib.Core.Bool.{Bool, true, false, not, cond, _&&_, false≢true}
 use mathlib.Core.List.{List, [], _∷_, _++_, map}
-use Prim.Native.Nat.{_+_}
+use Prim.Native.Nat.{ℕ, _+_}
 use lib.Dec.{T, eqb}
 use lib.ListN.{length, length-map}
 use Rattle.logic.specs.Table.{length-tab}
 use Rattle.logic.specs.declared.Trit.{Trit}
-use Rattle.cell.specs.Cell.{outputLen}
+use Rattle.cell.specs.Cell.{Cell, outputLen}
+use Rattle.cell.specs.Cell as c
 use Rattle.cell.specs.Design.{Design, Placed, NetPair}
 use Rattle.rules.specs.Trits.{refines}
 use Rattle.rules.specs.Refine.{Refine, empty, both}
 use Rattle.rules.specs.CellRule.{Trits, outputs}
+use Rattle.rules.specs.Shape.{cellRule-length}
 use Rattle.working_out.specs.Order.{true-of, not-false}
 use Rattle.working_out.specs.Reading.{Each, each-append, readsPast, Pair, equal, ofVoid, ofDffs, ordinary, pairOf}
-use Rattle.working_out.specs.Laid.{Laid, CellLaid, Replaces}
-use Rattle.working_out.specs.Width.{rule-width}
+use Rattle.working_out.specs.Laid.{Laid, CellLaid, Replaces, MayReplace}
 use Rattle.working_out.specs.Obligations.{Obligation, cell, cellObligations, ofPair, netObligations, obligations}
 use Rattle.working_out.specs.Obligations.{fromOf, toOf, allRefine, broken}
 
@@ -38,11 +39,10 @@ of-refine (both {x = x} {y = y} h r) = rw (true-of (refines x y) h) (of-refine r
 
 -- An obligation is not broken where its from refines its to.
 pub unbroken : (d : Design) (θ : Trits) (o : Obligation) → (broken d θ o ≡ false) ↔ Refine (fromOf θ o) (toOf d θ o)
-unbroken d θ o = (
-  λ e. refine-of (fromOf θ o) (toOf d θ o) (not-false (allRefine (fromOf θ o) (toOf d θ o)) e),
-  λ r. rw
-      (of-refine r),
-)
+unbroken d θ o = (holds, λ r. rw (of-refine r))
+  where
+    holds : broken d θ o ≡ false → Refine (fromOf θ o) (toOf d θ o)
+    holds e = refine-of (fromOf θ o) (toOf d θ o) (not-false (allRefine (fromOf θ o) (toOf d θ o)) e)
 
 -- From and to are of one width.
 abbrev pub Fits : Design → Trits → Obligation → Type 0
@@ -60,10 +60,13 @@ module _ (d : Design) (θ : Trits) where
       out : length (outputs (p .slot) (outputLen (p .cell))) ≡ outputLen (p .cell)
       out = length-tab (outputLen (p .cell)) (λ o. p .slot + o)
 
+      never-input : (a : Cell) → MayReplace a → (n : ℕ) → a ≡ c.input n → ⊥
+      never-input a may n e = rw e at may
+
       new-width : length (toOf d θ (cell p)) ≡ outputLen (p .cell)
       new-width =
-          rule-width (readsPast d) θ (outputs (p .slot) (outputLen (p .cell))) (p .cell) (laid .0 .shaped) (new .0 .new)
-          out
+          cellRule-length (readsPast d) θ (outputs (p .slot) (outputLen (p .cell))) (p .cell) (laid .0 .shaped)
+          (never-input (p .cell) (new .0 .new)) out
 
       here : (b : Bool) → Each (Fits d θ) (cond b [] (cell p ∷ []))
       here true = tt

@@ -4,13 +4,12 @@ use mathlib.Core.Path.{_≡_, refl}
 use mathlib.Core.Bool.{Bool, true, false}
 use mathlib.Core.List.{List, [], _∷_, _++_}
 use Prim.Native.Nat.{ℕ, _+_, _≤_, _<_}
-use lib.ListN.{length}
 use Rattle.logic.specs.Net.{Net, constant, slot, payloadOfNet}
-use Rattle.logic.specs.declared.Trit.{Trit}
-use Rattle.cell.specs.Cell.{Cell, Control, FlipFlop, Binary, Shift, outputLen, slotsOf}
+use Rattle.cell.specs.Cell.{Cell, Control, FlipFlop, outputLen, slotsOf}
 use Rattle.cell.specs.Cell as c
 use Rattle.cell.specs.Design.{Design, Placed, NetPair, total}
-use Rattle.working_out.specs.Reading.{Each, Role, void, given, dff, other, role, isVoid, cellOf}
+pub use Rattle.rules.specs.Shape.{Shaped}
+use Rattle.working_out.specs.Reading.{Each, role, isVoid, cellOf}
 
 -- The cells stand in slot order without a gap, from slot s up to slot e.
 abbrev pub Run : ℕ → List Placed → ℕ → Type 0
@@ -21,38 +20,6 @@ Run s (p ∷ cells) e = (p .slot ≡ s) × Run (s + slotsOf (p .cell)) cells e
 abbrev pub Ascending : {A : Type 0} → (A → ℕ) → List A → Type 0
 Ascending key [] = Unit {0}
 Ascending key (x ∷ l) = Each (λ y. key x < key y) l × Ascending key l
-
--- Eq, ULt, SLt and SShr are not of width 0.
-abbrev pub BinaryWide : Binary → ℕ → Type 0
-BinaryWide c.and n = Unit {0}
-BinaryWide c.or n = Unit {0}
-BinaryWide c.xor n = Unit {0}
-BinaryWide c.mul n = Unit {0}
-BinaryWide c.eq n = 0 < n
-BinaryWide c.ult n = 0 < n
-BinaryWide c.slt n = 0 < n
-
-abbrev pub ShiftWide : Shift → ℕ → Type 0
-ShiftWide c.shl n = Unit {0}
-ShiftWide c.ushr n = Unit {0}
-ShiftWide c.sshr n = 0 < n
-ShiftWide c.xshr n = Unit {0}
-
--- The vectors of a cell have the widths of its body.
-abbrev pub Shaped : Cell → Type 0
-Shaped c.void = Unit {0}
-Shaped c.note = Unit {0}
-Shaped (c.input n) = Unit {0}
-Shaped (c.ioBuf n) = Unit {0}
-Shaped (c.unary op a) = Unit {0}
-Shaped (c.binary op a b) = (length b ≡ length a) × BinaryWide op (length a)
-Shaped (c.mux s a b) = length b ≡ length a
-Shaped (c.adc a b carry) = length b ≡ length a
-Shaped (c.aig a b) = Unit {0}
-Shaped (c.shift op value amount stride) = ShiftWide op (length value)
-Shaped (c.match value enable patterns) = Each (Each (λ (a : List Trit). length a ≡ length value)) patterns
-Shaped (c.assign value enable update offset) = offset + length update ≤ length value
-Shaped (c.dff f) = (length (f .clearValue) ≡ length (f .dat)) × (length (f .resetValue) ≡ length (f .dat))
 
 -- The nets that a cell names, in the order of its words.
 abbrev pub netsOf : Cell → List Net

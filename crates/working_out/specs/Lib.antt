@@ -13,4 +13,3 @@ pub mod System
 pub mod Layout
 pub mod Replaced
 pub mod Nodes
-pub mod Width

@@ -107,7 +107,8 @@ module _ (d : Design) (i : ℕ) where
     where
       go : Kind → outputLen (nodeCell d i) ≡ slotsOf (cellOf d i .cell)
       go (ofCell v a e) =
-          let wide = asserted-is (role (cellOf d i .cell)) (outputLen (cellOf d i .cell)) a .wide in rw e (omega arith)
+          let wide = asserted-is (role (cellOf d i .cell)) (outputLen (cellOf d i .cell)) a .wide in
+          rw e (omega arith)
       go (ofReplaced to v r e) = rw e (sym (void-one (cellOf d i .cell) v))
 
 module _ (d : Design) (laid : Laid d) where
@@ -160,8 +161,8 @@ module _ (d : Design) (laid : Laid d) where
         let name = b .named in
         let wide = node-slots d i (b .node) in
         let same : cellOf d (a + o) ≡ cellOf d i = p .whole (a + o) (omega arith) (omega arith) in
-        let node : source d (a + o) ≡ false =
-        source-same d laid i (a + o) (belongs-low d laid i a e) (omega arith) (omega arith) ∙ b .node in
+        let low = belongs-low d laid i a e in
+        let node = source-same d laid i (a + o) low (omega arith) (omega arith) ∙ b .node in
         source-some d (a + o) node ∙ ap some (ap (λ (q : Placed). q .slot) same ∙ name)
 
   -- An asserted cell is the node of its first slot.

@@ -12,11 +12,7 @@ use Rattle.cell.specs.Cell.{Cell, outputLen, slotsOf}
 use Rattle.cell.specs.Cell as c
 use Rattle.cell.specs.Design.{Design, Placed, NetPair}
 use Rattle.rules.specs.CellRule.{Trits, ofNet}
-
--- A statement about each element of a list.
-abbrev pub Each : {A : Type 0} → (A → Type 0) → List A → Type 0
-Each P [] = Unit {0}
-Each P (x ∷ l) = P x × Each P l
+pub use Rattle.rules.specs.Width.{Each}
 
 pub each-map : {A : Type 0} {P Q : A → Type 0} (l : List A) → ((x : A) → P x → Q x) → Each P l → Each Q l
 each-map [] f h = tt

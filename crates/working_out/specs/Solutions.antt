@@ -148,9 +148,9 @@ module _ {A B : Type 0} (d : Design) (laid : Laid d) (F : Rule A) (G : Rule B) (
   unfolding slotRule current
   slots-keep h i a e σ τ k =
       let node = (belongs d i a e) .node in
-      h (cellOf d i .slot) (nodeCell d i) (node-shaped d laid i (belongs-low d laid i a e) node)
-      (node-asserted d i node)
-      σ τ (λ j m. k j (rw (same-node d laid i a e) m)) (i - cellOf d i .slot)
+      let shaped = node-shaped d laid i (belongs-low d laid i a e) node in
+      h (cellOf d i .slot) (nodeCell d i) shaped (node-asserted d i node) σ τ
+      (λ j m. k j (rw (same-node d laid i a e) m)) (i - cellOf d i .slot)
 
   -- A relation that the rules keep holds between two solutions, on every slot.
   pub related-by : hasLoop d ≡ false → Wide F d → Wide G d → CellKeeps d blank blank′ F G R

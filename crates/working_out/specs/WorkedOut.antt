@@ -14,30 +14,18 @@ use Rattle.cell.specs.Cell as c
 use Rattle.cell.specs.Design.{Design, NetPair}
 use Rattle.rules.specs.CellRule.{Trits, outputs, read}
 use Rattle.rules.specs.Refine.{Refines, refine-at}
+use Rattle.rules.specs.Shape.{cellRule-length}
 use Rattle.rules.specs.Local.{cellRule-monotone, cellRule-local}
 use Rattle.working_out.specs.Reading.{Each, each-map, readsPast, source, asserted, Pair, ofVoid, pairOf}
-use Rattle.working_out.specs.Laid.{Laid, MayReplace}
-use Rattle.working_out.specs.Width.{rule-width}
+use Rattle.working_out.specs.Laid.{Laid}
 use Rattle.working_out.specs.Loop.{hasLoop}
 use Rattle.working_out.specs.Equations.{Wide, CellKeeps, CellLocal}
 use Rattle.working_out.specs.Solutions.{related-by, worked-out-by, only-by}
 use Rattle.working_out.specs.WorkingOut.{tritRule, workedOut, whole, Solves}
 
--- An asserted cell has a rule, and is no IoBuf.
-asserted-rule : (a : Cell) → asserted a ≡ true → MayReplace a
-asserted-rule c.void e = absurd (false≢true e)
-asserted-rule c.note e = absurd (false≢true e)
-asserted-rule (c.input n) e = absurd (false≢true e)
-asserted-rule (c.ioBuf n) e = absurd (false≢true e)
-asserted-rule (c.unary op a) e = tt
-asserted-rule (c.binary op a b) e = tt
-asserted-rule (c.mux s a b) e = tt
-asserted-rule (c.adc a b carry) e = tt
-asserted-rule (c.aig a b) e = tt
-asserted-rule (c.shift op value amount stride) e = tt
-asserted-rule (c.match value enable patterns) e = tt
-asserted-rule (c.assign value enable update offset) e = tt
-asserted-rule (c.dff f) e = tt
+-- An asserted cell is no Input and no IoBuf.
+never-input : (a : Cell) → asserted a ≡ true → (n : ℕ) → a ≡ c.input n → ⊥
+never-input a h n e = false≢true (rw e at h)
 
 never-ioBuf : (a : Cell) → asserted a ≡ true → (n : ℕ) → a ≡ c.ioBuf n → ⊥
 never-ioBuf a h n e = false≢true (rw e at h)
@@ -45,7 +33,7 @@ never-ioBuf a h n e = false≢true (rw e at h)
 -- ---- The rules of cells, on trits: their widths, what they look at, and that they keep refinement.
 pub trit-wide : (d : Design) (was : ℕ → Trit) → Wide (tritRule d was) d
 trit-wide d was s a shaped h now =
-    rule-width (readsPast d) (record { now = now; was = was }) (outputs s (outputLen a)) a shaped (asserted-rule a h)
+    cellRule-length (readsPast d) (record { now = now; was = was }) (outputs s (outputLen a)) a shaped (never-input a h)
     (length-tab (outputLen a) (λ o. s + o))
 
 pub trit-local : (d : Design) (was : ℕ → Trit) → CellLocal d (tritRule d was)
