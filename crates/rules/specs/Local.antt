@@ -1,6 +1,6 @@
--- Cells: turning Xs into 0 or 1 in what a cell reads changes no defined trit of what its rule gives. Hence its rule looks at
--- nothing but past trits and the current trits of its current reads. An IoBuf, as a replacement's new cell, is the exception:
--- it counts no read, and shows the slots as read.
+-- Cells: turning Xs into 0 or 1 in what a cell reads changes no defined trit of what its rule gives. Hence its rule
+-- looks at nothing but past trits and the current trits of its current reads. The exception is an IoBuf as a
+-- replacement's new cell: it counts no read, and shows the slots as read.
 use mathlib.Core.Path.{_≡_, refl, sym}
 use mathlib.Core.Bool.{Bool, true, false, cond}
 use mathlib.Core.List.{List, [], _∷_, _++_, map}
@@ -10,11 +10,10 @@ use Rattle.logic.specs.Net.{Net, constant, slot}
 use Rattle.logic.specs.declared.Trit.{Trit}
 use Rattle.cell.specs.Cell.{Cell, Control, FlipFlop}
 use Rattle.cell.specs.Cell as c
-use Rattle.rules.specs.Trits as t
 use Rattle.rules.specs.CellRule as rule
 use Rattle.rules.specs.CellRule.{Trits, ofNet, asRead, control, flipFlopInputs, cellRule}
 use Rattle.rules.specs.Reads.{currentNet, currentNets, clockNow, comparedNets, currentReads}
-use Rattle.rules.specs.Refine.{Refines, Refine, empty, both, refines-same, refine-same, refine-antisym}
+use Rattle.rules.specs.Refine.{Refines, refines-same, Refine, empty, both, refine-same, refine-values, refine-antisym}
 use Rattle.rules.specs.Monotone as m
 
 -- Where the first is defined, the second shows the same trit: now on the slots of a list, before on every slot.
@@ -26,13 +25,12 @@ control-monotone : (g g′ : Net → Trit) (w : Control) → Refines (g (w .net)
     → Refines (control g w) (control g′ w)
 control-monotone g g′ w h = go (w .inverted)
   where
-    go : (b : Bool) → Refines (cond b (t.not (g (w .net))) (g (w .net))) (cond b (t.not (g′ (w .net))) (g′ (w .net)))
+    word : Bool → Control
+    word b = record { net = w .net; inverted = b }
+
+    go : (b : Bool) → Refines (control g (word b)) (control g′ (word b))
     go true = m.not-monotone (g (w .net)) (g′ (w .net)) h
     go false = h
-
-slots-monotone : (g g′ : ℕ → Trit) → ((i : ℕ) → Refines (g i) (g′ i)) → (out : List ℕ) → Refine (map g out) (map g′ out)
-slots-monotone g g′ h [] = empty
-slots-monotone g g′ h (i ∷ out) = both (h i) (slots-monotone g g′ h out)
 
 module _ (readsPast : ℕ → Bool) (θ θ′ : Trits) where
   abbrev On : List ℕ → Type 0
@@ -72,8 +70,8 @@ module _ (readsPast : ℕ → Bool) (θ θ′ : Trits) where
   vector-monotone (a ∷ nets) h =
       both (net-monotone a (first _ _ h)) (vector-monotone nets (second (currentNet readsPast a) _ h))
 
-  read-control-monotone : (w : Control) → On (currentNet readsPast (w .net)) → Refines (control read w) (control read′ w)
-  read-control-monotone w h = control-monotone read read′ w (net-monotone (w .net) h)
+  control-read : (w : Control) → On (currentNet readsPast (w .net)) → Refines (control read w) (control read′ w)
+  control-read w h = control-monotone read read′ w (net-monotone (w .net) h)
 
   edge-monotone : (w : Control) → On (clockNow (w .net)) → Refines (rule.edge readsPast θ w) (rule.edge readsPast θ′ w)
   edge-monotone w h =
@@ -99,11 +97,11 @@ module _ (readsPast : ℕ → Bool) (θ θ′ : Trits) where
       let from-enable = second (currentNet readsPast (f .reset .net)) _ from-reset in
       record {
         edge = edge-monotone (f .clock) (first _ _ h);
-        clear = read-control-monotone (f .clear) (first _ _ from-clear);
-        reset = read-control-monotone (f .reset) (first _ _ from-reset);
-        enable = read-control-monotone (f .enable) (first _ _ from-enable);
+        clear = control-read (f .clear) (first _ _ from-clear);
+        reset = control-read (f .reset) (first _ _ from-reset);
+        enable = control-read (f .enable) (first _ _ from-enable);
         dat = vector-monotone (f .dat) (second (currentNet readsPast (f .enable .net)) _ from-enable);
-        past = slots-monotone (θ .was) (θ′ .was) (h .was) out;
+        past = refine-values (θ .was) (θ′ .was) (h .was) out;
         clearValue = refine-same (f .clearValue);
         resetValue = refine-same (f .resetValue);
         hasClear = refl;
@@ -118,7 +116,7 @@ module _ (readsPast : ℕ → Bool) (θ θ′ : Trits) where
   cellRule-monotone out c.note h io = empty
   cellRule-monotone out (c.input n) h io = empty
   cellRule-monotone out (c.ioBuf n) h io =
-      slots-monotone (asRead readsPast θ) (asRead readsPast θ′)
+      refine-values (asRead readsPast θ) (asRead readsPast θ′)
       (λ i. net-monotone (slot i) (record { now = λ j m. io n refl j; was = h .was })) out
   cellRule-monotone out (c.unary op a) h io = m.unary-monotone op (vector-monotone a h)
   cellRule-monotone out (c.binary op a b) h io =
@@ -133,7 +131,7 @@ module _ (readsPast : ℕ → Bool) (θ θ′ : Trits) where
       (read carry) (read′ carry) (net-monotone carry (second (currentNets readsPast b) _ rest))
   cellRule-monotone out (c.aig a b) h io =
       both (m.and-monotone (control read a) (control read′ a) (control read b) (control read′ b)
-      (read-control-monotone a (first _ _ h)) (read-control-monotone b (second (currentNet readsPast (a .net)) _ h))) empty
+      (control-read a (first _ _ h)) (control-read b (second (currentNet readsPast (a .net)) _ h))) empty
   cellRule-monotone out (c.shift op value amount stride) h io =
       m.shift-monotone op (vector-monotone value (first _ _ h))
       (vector-monotone amount (second (currentNets readsPast value) _ h)) stride
@@ -152,10 +150,10 @@ pub record AgreeOn (slots : List ℕ) (θ θ′ : Trits) : Type 0 where
   pub now : (i : ℕ) → List·Memᴰ i slots → θ .now i ≡ θ′ .now i
   pub was : (i : ℕ) → θ .was i ≡ θ′ .was i
 
--- A rule looks at nothing but the past trits and the current trits of the cell's current reads: agreeing is refining both ways.
+-- A rule looks at nothing but past trits and the current trits of its current reads: to agree is to refine both ways.
 module _ (readsPast : ℕ → Bool) (θ θ′ : Trits) (out : List ℕ) (cell : Cell) where
-  same : (a b : Trit) → a ≡ b → Refines a b
-  same a b e = rw e (refines-same b)
+  equal : {a b : Trit} → a ≡ b → Refines a b
+  equal {b = b} e = rw e (refines-same b)
 
   pub cellRule-local : AgreeOn (currentReads readsPast cell) θ θ′
       → ((n : ℕ) → cell ≡ c.ioBuf n → (i : ℕ) → θ .now i ≡ θ′ .now i)
@@ -163,6 +161,8 @@ module _ (readsPast : ℕ → Bool) (θ θ′ : Trits) (out : List ℕ) (cell : 
   cellRule-local h io =
       refine-antisym
       (cellRule-monotone readsPast θ θ′ out cell
-      (record { now = λ i m. same _ _ (h .now i m); was = λ i. same _ _ (h .was i) }) (λ n e i. same _ _ (io n e i)))
+      (record { now = λ i m. equal (h .now i m); was = λ i. equal (h .was i) })
+      (λ n e i. equal (io n e i)))
       (cellRule-monotone readsPast θ′ θ out cell
-      (record { now = λ i m. same _ _ (sym (h .now i m)); was = λ i. same _ _ (sym (h .was i)) }) (λ n e i. same _ _ (sym (io n e i))))
+      (record { now = λ i m. equal (sym (h .now i m)); was = λ i. equal (sym (h .was i)) })
+      (λ n e i. equal (sym (io n e i))))

@@ -1,9 +1,8 @@
--- Document 01, "Reading nets": refinement, of trits and of vectors. A vector is refined by turning Xs into 0 or 1.
+-- Document 01, "Reading nets": refinement, of trits and of vectors. Turning Xs into 0 or 1 refines.
 use mathlib.Core.Path.{_≡_, refl, ap, ap₂}
 use mathlib.Core.Bool.{Bool, true, false, _&&_, _||_, true≢false}
 use mathlib.Core.List.{List, [], _∷_, _++_, map}
-use Prim.Native.Nat.{ℕ, zero, suc, _+_, _-_, _≤_, _<_, suc-le-suc}
-use native.Mathlib.Nat.{zero-lt-suc}
+use Prim.Native.Nat.{ℕ, zero, suc}
 use lib.Dec.{T}
 use lib.ListN.{length, getD, take, drop, replicate}
 use Rattle.logic.specs.Table.{zipWith, tab}
@@ -21,64 +20,70 @@ pub data Refine : List Trit → List Trit → Type 0 where
   empty : Refine [] []
   both : {x y : Trit} {a b : List Trit} → Refines x y → Refine a b → Refine (x ∷ a) (y ∷ b)
 
+-- ---- Trits.
 pub refines-same : (a : Trit) → Refines a a
 refines-same Zero = tt
 refines-same One = tt
 refines-same Undef = tt
 
+-- The two ways to refine: from X, or by the same trit.
+data Way : Trit → Trit → Type 0 where
+  fromX : {b : Trit} → Way Undef b
+  same : {a : Trit} → Way a a
+
+way : (a b : Trit) → Refines a b → Way a b
+way Zero Zero h = same
+way Zero One h = absurd h
+way Zero Undef h = absurd h
+way One Zero h = absurd h
+way One One h = same
+way One Undef h = absurd h
+way Undef b h = fromX
+
 pub refines-trans : (a b c : Trit) → Refines a b → Refines b c → Refines a c
-refines-trans Undef b c h k = tt
-refines-trans Zero Zero c h k = k
-refines-trans Zero One c h k = absurd h
-refines-trans Zero Undef c h k = absurd h
-refines-trans One Zero c h k = absurd h
-refines-trans One One c h k = k
-refines-trans One Undef c h k = absurd h
+refines-trans a b c h k = go (way a b h) k
+  where
+    go : {a b : Trit} → Way a b → Refines b c → Refines a c
+    go fromX k = tt
+    go same k = k
 
 pub refines-antisym : (a b : Trit) → Refines a b → Refines b a → a ≡ b
-refines-antisym Zero Zero h k = refl
-refines-antisym Zero One h k = absurd h
-refines-antisym Zero Undef h k = absurd h
-refines-antisym One Zero h k = absurd h
-refines-antisym One One h k = refl
-refines-antisym One Undef h k = absurd h
-refines-antisym Undef Zero h k = absurd k
-refines-antisym Undef One h k = absurd k
-refines-antisym Undef Undef h k = refl
+refines-antisym a b h k = go (way a b h) (way b a k)
+  where
+    go : {a b : Trit} → Way a b → Way b a → a ≡ b
+    go same w = refl
+    go fromX same = refl
+    go fromX fromX = refl
 
 pub refines-defined : (a b : Trit) → Refines a b → isX a ≡ false → a ≡ b
-refines-defined Zero Zero h e = refl
-refines-defined Zero One h e = absurd h
-refines-defined Zero Undef h e = absurd h
-refines-defined One Zero h e = absurd h
-refines-defined One One h e = refl
-refines-defined One Undef h e = absurd h
-refines-defined Undef b h e = absurd (true≢false e)
+refines-defined a b h = go (way a b h)
+  where
+    go : {a b : Trit} → Way a b → isX a ≡ false → a ≡ b
+    go same e = refl
+    go fromX e = absurd (true≢false e)
 
--- Two functions of three trits are equal if they are so on all of them: each refines the other.
-abbrev same : Trit → Trit → Bool
-same a b = refines a b && refines b a
+-- ---- Functions of trits: a test of all trits, computed, shows that two are equal, or that one is monotone.
+abbrev alike : Trit → Trit → Bool
+alike a b = refines a b && refines b a
 
-pub equal₃ : (f g : Trit → Trit → Trit → Trit) → T (allT λ a. allT λ b. allT λ c. same (f a b c) (g a b c))
+pub equal₃ : (f g : Trit → Trit → Trit → Trit) → T (allT λ a. allT λ b. allT λ c. alike (f a b c) (g a b c))
     → (a b c : Trit) → f a b c ≡ g a b c
 equal₃ f g h a b c =
-    let both = all₃ (λ a b c. same (f a b c) (g a b c)) h a b c in
-    refines-antisym (f a b c) (g a b c) (and-first (refines (f a b c) (g a b c)) (refines (g a b c) (f a b c)) both)
-    (and-second (refines (f a b c) (g a b c)) (refines (g a b c) (f a b c)) both)
+    let ways = all₃ (λ a b c. alike (f a b c) (g a b c)) h a b c in
+    refines-antisym (f a b c) (g a b c)
+    (and-first (refines (f a b c) (g a b c)) (refines (g a b c) (f a b c)) ways)
+    (and-second (refines (f a b c) (g a b c)) (refines (g a b c) (f a b c)) ways)
 
--- ---- Functions of single trits: a test of all trits, computed, makes them monotone.
 -- What f gives of X is refined by what it gives of any trit.
 abbrev pub lowestAtX : (Trit → Trit) → Bool
 lowestAtX f = allT λ t. refines (f Undef) (f t)
 
 pub monotone₁ : (f : Trit → Trit) → T (lowestAtX f) → (a b : Trit) → Refines a b → Refines (f a) (f b)
-monotone₁ f low Undef b h = all₁ (λ t. refines (f Undef) (f t)) low b
-monotone₁ f low Zero Zero h = refines-same (f Zero)
-monotone₁ f low Zero One h = absurd h
-monotone₁ f low Zero Undef h = absurd h
-monotone₁ f low One Zero h = absurd h
-monotone₁ f low One One h = refines-same (f One)
-monotone₁ f low One Undef h = absurd h
+monotone₁ f low a b h = go (way a b h)
+  where
+    go : {a b : Trit} → Way a b → Refines (f a) (f b)
+    go (same {a}) = refines-same (f a)
+    go (fromX {b}) = all₁ (λ t. refines (f Undef) (f t)) low b
 
 module _ (f : Trit → Trit → Trit) where
   pub monotone₂ : T (allT λ c. lowestAtX λ t. f t c) → T (allT λ b. lowestAtX λ t. f b t)
@@ -105,13 +110,15 @@ refine-same (x ∷ a) = both (refines-same x) (refine-same a)
 
 pub refine-antisym : {a b : List Trit} → Refine a b → Refine b a → a ≡ b
 refine-antisym empty empty = refl
-refine-antisym (both {x} {y} h r) (both k s) = ap₂ (λ (t : Trit) (l : List Trit). t ∷ l) (refines-antisym x y h k) (refine-antisym r s)
+refine-antisym (both {x} {y} h r) (both k s) =
+    ap₂ (λ (t : Trit) (l : List Trit). t ∷ l) (refines-antisym x y h k) (refine-antisym r s)
 
 pub refine-length : {a b : List Trit} → Refine a b → length a ≡ length b
 refine-length empty = refl
 refine-length (both h r) = ap suc (refine-length r)
 
-pub refine-at : {a b : List Trit} → Refine a b → (i : ℕ) (d e : Trit) → Refines d e → Refines (getD a i d) (getD b i e)
+pub refine-at : {a b : List Trit} → Refine a b → (i : ℕ) (d e : Trit) → Refines d e
+    → Refines (getD a i d) (getD b i e)
 refine-at empty i d e k = k
 refine-at (both h r) zero d e k = h
 refine-at (both h r) (suc i) d e k = refine-at r i d e k
@@ -135,12 +142,18 @@ unfolding tab
 refine-tab zero f g h = empty
 refine-tab (suc n) f g h = both (h zero) (refine-tab n (λ i. f (suc i)) (λ i. g (suc i)) (λ i. h (suc i)))
 
+module _ {A : Type 0} (f g : A → Trit) (below : (x : A) → Refines (f x) (g x)) where
+  pub refine-values : (l : List A) → Refine (map f l) (map g l)
+  refine-values [] = empty
+  refine-values (x ∷ l) = both (below x) (refine-values l)
+
 module _ (f : Trit → Trit) (monotone : (a b : Trit) → Refines a b → Refines (f a) (f b)) where
   pub refine-map : {a b : List Trit} → Refine a b → Refine (map f a) (map f b)
   refine-map empty = empty
   refine-map (both {x} {y} h r) = both (monotone x y h) (refine-map r)
 
-module _ (f g : Trit → Trit → Trit) (monotone : (a b c d : Trit) → Refines a b → Refines c d → Refines (f a c) (g b d)) where
+module _ (f g : Trit → Trit → Trit)
+    (monotone : (a b c d : Trit) → Refines a b → Refines c d → Refines (f a c) (g b d)) where
   pub refine-zip : {a b c d : List Trit} → Refine a b → Refine c d → Refine (zipWith f a c) (zipWith g b d)
   refine-zip empty s = empty
   refine-zip (both h r) empty = empty
