@@ -1,2 +1,3 @@
 pub mod Verify
 pub mod BitLocal
+pub mod BitRule
