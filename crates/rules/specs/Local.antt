@@ -13,7 +13,8 @@ use Rattle.cell.specs.Cell as c
 use Rattle.rules.specs.CellRule as rule
 use Rattle.rules.specs.CellRule.{Trits, ofNet, asRead, control, flipFlopInputs, cellRule}
 use Rattle.rules.specs.Reads.{currentNet, currentNets, clockNow, comparedNets, currentReads}
-use Rattle.rules.specs.Refine.{Refines, refines-same, Refine, empty, both, refine-same, refine-values, refine-antisym}
+use Rattle.rules.specs.Refine.{Refines, refines-same, Refine, empty, both}
+use Rattle.rules.specs.Refine.{refine-same, refine-values, refine-antisym}
 use Rattle.rules.specs.Monotone as m
 
 -- Where the first is defined, the second shows the same trit: now on the slots of a list, before on every slot.

@@ -86,7 +86,7 @@ eq-monotone {a} {a′} {b} {b′} h k = go (r.anyMismatch a b) (anyX a || anyX b
         let none = neither (anyX a) (anyX b) ex in
         rw (← f.refine-defined h (none .0), ← f.refine-defined k (none .1), em, ex) tt
 
--- ---- ULt, SLt, Mul: of operands with an X all is X, which every vector of the width refines; without X they stay.
+-- ---- ULt, SLt, Mul: of operands with an X all is X, which refines every vector of the width; without X they stay.
 strict : {a a′ b b′ : List Trit} → Refine a a′ → Refine b b′ → (n : ℕ) (result : List Trit → List Trit → List Trit)
     → Width n (r.defined a′ b′ n (result a′ b′))
     → Refine (r.defined a b n (result a b)) (r.defined a′ b′ n (result a′ b′))
@@ -234,7 +234,7 @@ pub assign-monotone : {a a′ b b′ : List Trit} (e e′ : Trit) (offset : ℕ)
     → Refine (r.assign a e b offset) (r.assign a′ e′ b′ offset)
 assign-monotone e e′ offset h l k = mux-monotone e e′ l (overwrite-monotone offset h k) h
 
--- ---- Dff: the inputs of one flip-flop, refined.
+-- ---- Dff: the inputs of one flip-flop, and those with Xs turned into 0 or 1.
 pub record InputsRefine (p q : r.FlipFlopInputs) : Type 0 where
   pub edge : Refines (p .edge) (q .edge)
   pub clear : Refines (p .clear) (q .clear)

@@ -1,4 +1,5 @@
--- Document 01, "Reading nets": refinement, of trits and of vectors. Turning Xs into 0 or 1 refines.
+-- Document 01, "Reading nets": a trit or a vector refines each that has the same trits wherever it is defined, that is
+-- each that comes of it by turning Xs into 0 or 1.
 use mathlib.Core.Path.{_≡_, refl, ap, ap₂}
 use mathlib.Core.Bool.{Bool, true, false, _&&_, _||_, true≢false}
 use mathlib.Core.List.{List, [], _∷_, _++_, map}
@@ -26,7 +27,7 @@ refines-same Zero = tt
 refines-same One = tt
 refines-same Undef = tt
 
--- The two ways to refine: from X, or by the same trit.
+-- X refines every trit, each trit itself, and there is no other way.
 data Way : Trit → Trit → Type 0 where
   fromX : {b : Trit} → Way Undef b
   same : {a : Trit} → Way a a
@@ -74,7 +75,7 @@ equal₃ f g h a b c =
     (and-first (refines (f a b c) (g a b c)) (refines (g a b c) (f a b c)) ways)
     (and-second (refines (f a b c) (g a b c)) (refines (g a b c) (f a b c)) ways)
 
--- What f gives of X is refined by what it gives of any trit.
+-- What f gives of X refines what it gives of any trit.
 abbrev pub lowestAtX : (Trit → Trit) → Bool
 lowestAtX f = allT λ t. refines (f Undef) (f t)
 
@@ -159,7 +160,7 @@ module _ (f g : Trit → Trit → Trit)
   refine-zip (both h r) empty = empty
   refine-zip (both {x} {y} h r) (both {x = z} {y = w} k s) = both (monotone x y z w h k) (refine-zip r s)
 
--- A vector of Xs is refined by every vector of its width; one without X by none but itself.
+-- A vector of Xs refines every vector of its width; one without X none but itself.
 pub refine-allX : (a : List Trit) → Refine (replicate (length a) Undef) a
 refine-allX [] = empty
 refine-allX (x ∷ a) = both tt (refine-allX a)
