@@ -1,3 +1,4 @@
 pub mod Verify
 pub mod BitLocal
 pub mod BitRule
+pub mod Meant

@@ -235,7 +235,7 @@ module _ (readsPast : ℕ → Bool) (ρ : Assignment) (v : ℕ → Value) where
   abbrev b : NetBits
   b = netBits ρ
 
-  net-wp : Reads ρ v (net readsPast) (ageOf readsPast b)
+  pub net-wp : Reads ρ v (net readsPast) (ageOf readsPast b)
   unfolding net readBits
   net-wp (constant t) = netOf-wp ρ v curr (constant t)
   net-wp (slot i) = go (readsPast i)

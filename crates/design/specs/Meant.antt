@@ -1,0 +1,204 @@
+-- The steps of the order of work, each with its test: what its term says of the nets' bits.
+use mathlib.Core.Path.{_≡_, refl, sym, ap, ap₂, _∙_}
+use mathlib.Core.Bool.{Bool, true, false, cond, true≢false}
+use mathlib.Core.Option.{Option, none, some}
+use mathlib.Core.List.{List, [], _∷_, _++_, map, map-append}
+use Prim.Native.Nat.{ℕ, _+_, _<_}
+use native.Mathlib.Omega.{arith}
+use lib.Dec.{eqb}
+use borrow.Author.Tests.{eqb-false}
+use lib.ListN.{length}
+use Rattle.logic.specs.Table.{length-tab}
+use Rattle.logic.specs.Net.{Net, slot}
+use Rattle.cell.specs.Cell.{Cell, outputLen}
+use Rattle.cell.specs.Cell as c
+use Rattle.cell.specs.Design.{Design, Placed, NetPair}
+use Rattle.rules.specs.Shape.{Shaped}
+use Rattle.engine.specs.Meaning.{Value, bool, Assignment}
+use Rattle.working_out.specs.Reading.{Each, readsPast, Pair, equal, ofVoid, ofDffs, ordinary, pairOf}
+use Rattle.smt.specs.Prog.{Prog, curr, past}
+use Rattle.smt.specs.Builder.{currNet, pastNet, currValue, valueOf, outputNets, net, netOf, cell, tvEq, tvRefines}
+use Rattle.soundness.specs.Formula.{NetBits, netBits, readBits, sameBits, refinesBits}
+use Rattle.soundness.specs.Wp.{wp, wp-mono, wp-seq}
+use Rattle.soundness.specs.Terms.{Is, netOf-wp, valueOf-wp, tvEq-wp, tvRefines-wp}
+use Rattle.soundness.specs.CellBits.{NotInput, valueBits, netBit, pastBits, currBits, cellBits, net-wp, cell-wp}
+use Rattle.design.specs.Verify.{
+  Step, declared, asserted, obliged, isInput, claim, addCell, newCell, replaceNet, replaceVoidNet, joinPasts, currents, newCellIn, withNew, cellSteps,
+  pairSteps, eachCell, eachPair, steps,
+}
+
+pub record Meant : Type 0 where
+  pub step : Step
+  pub test : NetBits → Bool
+
+abbrev pub meant : Step → (NetBits → Bool) → Meant
+meant s t = record { step = s; test = t }
+
+module _ (rp : ℕ → Bool) where
+  abbrev pub claimTest : ℕ → ℕ → Cell → NetBits → Bool
+  claimTest s w a b = sameBits (currBits rp b (outputNets s w)) (cellBits rp b s w a)
+
+  abbrev pub newTest : ℕ → ℕ → Cell → NetBits → Bool
+  newTest s w a b = refinesBits (currBits rp b (outputNets s w)) (cellBits rp b s w a)
+
+  abbrev pub netTest : Net → Net → NetBits → Bool
+  netTest from to b = refinesBits (currBits rp b (from ∷ [])) (netBit rp b to)
+
+  abbrev pub voidTest : Net → Net → NetBits → Bool
+  voidTest from to b = sameBits (currBits rp b (from ∷ [])) (netBit rp b to)
+
+  abbrev pub joinTest : Net → Net → NetBits → Bool
+  joinTest from to b = sameBits (pastBits rp b (from ∷ [])) (pastBits rp b (to ∷ []))
+
+  abbrev pub currentTest : Net → Net → NetBits → Bool
+  currentTest from to b = refinesBits (currBits rp b (from ∷ [])) (currBits rp b (to ∷ []))
+
+  abbrev pub meantAdd : ℕ → ℕ → Cell → Meant
+  meantAdd s w a = meant (addCell rp s w a) (claimTest s w a)
+
+  abbrev pub meantNew : ℕ → ℕ → Option Cell → List Meant
+  meantNew s w none = []
+  meantNew s w (some a) = meant (obliged (newCell rp s w a)) (newTest s w a) ∷ []
+
+  abbrev pub meantPair : Pair → NetPair → List Meant
+  meantPair equal p = []
+  meantPair ofVoid p = meant (asserted (replaceVoidNet rp (p .from) (p .to))) (voidTest (p .from) (p .to)) ∷ []
+  meantPair ofDffs p =
+      meant (asserted (joinPasts (p .from) (p .to))) (joinTest (p .from) (p .to))
+      ∷ meant (obliged (currents (p .from) (p .to))) (currentTest (p .from) (p .to))
+      ∷ meant (obliged (replaceNet rp (p .from) (p .to))) (netTest (p .from) (p .to)) ∷ []
+  meantPair ordinary p = meant (obliged (replaceNet rp (p .from) (p .to))) (netTest (p .from) (p .to)) ∷ []
+
+abbrev pub meantCell : Design → Placed → List Meant
+meantCell d p =
+    cond (eqb (outputLen (p .cell)) 0) []
+    (meantAdd (readsPast d) (p .slot) (outputLen (p .cell)) (p .cell)
+    ∷ meantNew (readsPast d) (p .slot) (outputLen (p .cell)) (newCellIn (d .cellReps) (p .slot)))
+
+unfoldable pub meantCells : Design → List Placed → List Meant
+meantCells d [] = []
+meantCells d (p ∷ cells) = meantCell d p ++ meantCells d cells
+
+unfoldable pub meantPairs : Design → List NetPair → List Meant
+meantPairs d [] = []
+meantPairs d (p ∷ pairs) = meantPair (readsPast d) (pairOf d p) p ++ meantPairs d pairs
+
+abbrev pub meantSteps : Design → List Meant
+meantSteps d = meantCells d (d .cells) ++ meantPairs d (d .netReps)
+
+abbrev pub stepsOf : List Meant → List Step
+stepsOf = map (λ m. m .step)
+
+-- ---- these are the steps
+
+new-steps : (rp : ℕ → Bool) (s w : ℕ) (o : Option Cell) → stepsOf (meantNew rp s w o) ≡ withNew rp s w o
+new-steps rp s w none = refl
+new-steps rp s w (some a) = refl
+
+cell-steps : (d : Design) (p : Placed) → stepsOf (meantCell d p) ≡ cellSteps d p
+cell-steps d p = go (eqb (outputLen (p .cell)) 0)
+  where
+    rp : ℕ → Bool
+    rp = readsPast d
+
+    go : (b : Bool) → stepsOf (cond b [] (meantAdd rp (p .slot) (outputLen (p .cell)) (p .cell)
+        ∷ meantNew rp (p .slot) (outputLen (p .cell)) (newCellIn (d .cellReps) (p .slot))))
+        ≡ cond b [] (addCell rp (p .slot) (outputLen (p .cell)) (p .cell)
+        ∷ withNew rp (p .slot) (outputLen (p .cell)) (newCellIn (d .cellReps) (p .slot)))
+    go true = refl
+    go false = ap (λ (l : List Step). addCell rp (p .slot) (outputLen (p .cell)) (p .cell) ∷ l)
+        (new-steps rp (p .slot) (outputLen (p .cell)) (newCellIn (d .cellReps) (p .slot)))
+
+pair-steps : (rp : ℕ → Bool) (k : Pair) (p : NetPair) → stepsOf (meantPair rp k p) ≡ pairSteps rp k p
+pair-steps rp equal p = refl
+pair-steps rp ofVoid p = refl
+pair-steps rp ofDffs p = refl
+pair-steps rp ordinary p = refl
+
+cells-steps : (d : Design) (cells : List Placed) → stepsOf (meantCells d cells) ≡ eachCell d cells
+unfolding meantCells eachCell
+cells-steps d [] = refl
+cells-steps d (p ∷ cells) =
+    map-append (λ (m : Meant). m .step) (meantCell d p) (meantCells d cells) ∙ ap₂ _++_ (cell-steps d p) (cells-steps d cells)
+
+pairs-steps : (d : Design) (pairs : List NetPair) → stepsOf (meantPairs d pairs) ≡ eachPair d pairs
+unfolding meantPairs eachPair
+pairs-steps d [] = refl
+pairs-steps d (p ∷ pairs) =
+    map-append (λ (m : Meant). m .step) (meantPair (readsPast d) (pairOf d p) p) (meantPairs d pairs)
+    ∙ ap₂ _++_ (pair-steps (readsPast d) (pairOf d p) p) (pairs-steps d pairs)
+
+pub steps-are : (d : Design) → stepsOf (meantSteps d) ≡ steps d
+steps-are d =
+    map-append (λ (m : Meant). m .step) (meantCells d (d .cells)) (meantPairs d (d .netReps))
+    ∙ ap₂ _++_ (cells-steps d (d .cells)) (pairs-steps d (d .netReps))
+
+-- ---- what each step's term is
+
+module _ (ρ : Assignment) (v : ℕ → Value) where
+  abbrev pub Says : (NetBits → Bool) → ℕ → Type 0
+  Says t r = v r ≡ bool (t (netBits ρ))
+
+  abbrev pub StepIs : Step → (NetBits → Bool) → Type 0
+  StepIs (declared m) t = wp ρ v m (λ _. Unit {0})
+  StepIs (asserted m) t = wp ρ v m (Says t)
+  StepIs (obliged m) t = wp ρ v m (Says t)
+
+  abbrev pub MeantIs : Meant → Type 0
+  MeantIs m = StepIs (m .step) (m .test)
+
+  out-wp : (rp : ℕ → Bool) (s w : ℕ) → 0 < w
+      → wp ρ v (currValue (outputNets s w)) (λ r. Is ρ v r (currBits rp (netBits ρ) (outputNets s w)))
+  out-wp rp s w wide = valueOf-wp ρ v currNet (λ i. curr) (netOf-wp ρ v curr) (outputNets s w) (rw (length-tab w (λ (i : ℕ). slot (s + i))) wide)
+
+  module _ (rp : ℕ → Bool) where
+    claim-is : (s : ℕ) (a : Cell) → Shaped a → NotInput a → 0 < outputLen a
+        → wp ρ v (claim rp s (outputLen a) a) (Says (claimTest rp s (outputLen a) a))
+    unfolding claim
+    claim-is s a shaped terms wide =
+        wp-seq ρ v (cell rp s (outputLen a) a) _ _ _ (cell-wp rp ρ v s a shaped terms wide) λ t ht.
+        wp-seq ρ v (currValue (outputNets s (outputLen a))) _ _ _ (out-wp rp s (outputLen a) wide) λ o ho.
+        tvEq-wp ρ v o t _ _ ho ht
+
+    pub new-is : (s : ℕ) (a : Cell) → Shaped a → NotInput a → 0 < outputLen a
+        → wp ρ v (newCell rp s (outputLen a) a) (Says (newTest rp s (outputLen a) a))
+    unfolding newCell
+    new-is s a shaped terms wide =
+        wp-seq ρ v (cell rp s (outputLen a) a) _ _ _ (cell-wp rp ρ v s a shaped terms wide) λ t ht.
+        wp-seq ρ v (currValue (outputNets s (outputLen a))) _ _ _ (out-wp rp s (outputLen a) wide) λ o ho.
+        tvRefines-wp ρ v o t _ _ ho ht
+
+    net-is : (from to : Net) → wp ρ v (replaceNet rp from to) (Says (netTest rp from to))
+    unfolding replaceNet
+    net-is from to =
+        wp-seq ρ v (currNet from) _ _ _ (netOf-wp ρ v curr from) λ a ha.
+        wp-seq ρ v (net rp to) _ _ _ (net-wp rp ρ v to) λ b hb. tvRefines-wp ρ v a b _ _ ha hb
+
+    void-is : (from to : Net) → wp ρ v (replaceVoidNet rp from to) (Says (voidTest rp from to))
+    unfolding replaceVoidNet
+    void-is from to =
+        wp-seq ρ v (currNet from) _ _ _ (netOf-wp ρ v curr from) λ a ha.
+        wp-seq ρ v (net rp to) _ _ _ (net-wp rp ρ v to) λ b hb. tvEq-wp ρ v a b _ _ ha hb
+
+    join-is : (from to : Net) → wp ρ v (joinPasts from to) (Says (joinTest rp from to))
+    unfolding joinPasts
+    join-is from to =
+        wp-seq ρ v (pastNet from) _ _ _ (netOf-wp ρ v past from) λ a ha.
+        wp-seq ρ v (pastNet to) _ _ _ (netOf-wp ρ v past to) λ b hb. tvEq-wp ρ v a b _ _ ha hb
+
+    current-is : (from to : Net) → wp ρ v (currents from to) (Says (currentTest rp from to))
+    unfolding currents
+    current-is from to =
+        wp-seq ρ v (currNet from) _ _ _ (netOf-wp ρ v curr from) λ a ha.
+        wp-seq ρ v (currNet to) _ _ _ (netOf-wp ρ v curr to) λ b hb. tvRefines-wp ρ v a b _ _ ha hb
+
+    -- An Input is only declared; any other cell with an output is claimed.
+    add-is : (s : ℕ) (a : Cell) → Shaped a → 0 < outputLen a → MeantIs (meantAdd rp s (outputLen a) a)
+    add-is s a shaped wide = go (isInput a) refl
+      where
+        w : ℕ
+        w = outputLen a
+
+        go : (b : Bool) → isInput a ≡ b → StepIs (cond b (declared (currValue (outputNets s (outputLen a)))) (asserted (claim rp s (outputLen a) a))) (claimTest rp s (outputLen a) a)
+        go true e = wp-mono ρ v (currValue (outputNets s (outputLen a))) _ _ (λ r _. tt) (out-wp rp s (outputLen a) wide)
+        go false e = claim-is s a shaped (λ n q. true≢false (sym (ap isInput q) ∙ e)) wide
