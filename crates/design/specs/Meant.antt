@@ -15,13 +15,15 @@ use Rattle.cell.specs.Cell as c
 use Rattle.cell.specs.Design.{Design, Placed, NetPair}
 use Rattle.rules.specs.Shape.{Shaped}
 use Rattle.engine.specs.Meaning.{Value, bool, Assignment}
-use Rattle.working_out.specs.Reading.{Each, readsPast, Pair, equal, ofVoid, ofDffs, ordinary, pairOf}
+use Rattle.working_out.specs.Laid.{Laid, CellLaid}
+use Rattle.working_out.specs.Reading.{Each, each-append, cellOf, readsPast, Pair, equal, ofVoid, ofDffs, ordinary, pairOf}
 use Rattle.smt.specs.Prog.{Prog, curr, past}
 use Rattle.smt.specs.Builder.{currNet, pastNet, currValue, valueOf, outputNets, net, netOf, cell, tvEq, tvRefines}
 use Rattle.soundness.specs.Formula.{NetBits, netBits, readBits, sameBits, refinesBits}
 use Rattle.soundness.specs.Wp.{wp, wp-mono, wp-seq}
 use Rattle.soundness.specs.Terms.{Is, netOf-wp, valueOf-wp, tvEq-wp, tvRefines-wp}
 use Rattle.soundness.specs.CellBits.{NotInput, valueBits, netBit, pastBits, currBits, cellBits, net-wp, cell-wp}
+use Rattle.design.specs.Found.{own-cells, may-replace, new-found}
 use Rattle.design.specs.Verify.{
   Step, declared, asserted, obliged, isInput, claim, addCell, newCell, replaceNet, replaceVoidNet, joinPasts, currents, newCellIn, withNew, cellSteps,
   pairSteps, eachCell, eachPair, steps,
@@ -202,3 +204,52 @@ module _ (ρ : Assignment) (v : ℕ → Value) where
         go : (b : Bool) → isInput a ≡ b → StepIs (cond b (declared (currValue (outputNets s (outputLen a)))) (asserted (claim rp s (outputLen a) a))) (claimTest rp s (outputLen a) a)
         go true e = wp-mono ρ v (currValue (outputNets s (outputLen a))) _ _ (λ r _. tt) (out-wp rp s (outputLen a) wide)
         go false e = claim-is s a shaped (λ n q. true≢false (sym (ap isInput q) ∙ e)) wide
+
+-- ---- every step of an accepted design
+
+pub positive : (n : ℕ) → (n ≡ 0 → ⊥) → 0 < n
+positive n ne = omega arith
+
+module _ (d : Design) (laid : Laid d) (ρ : Assignment) (v : ℕ → Value) where
+  new-means : (p : Placed) → cellOf d (p .slot) ≡ p → 0 < outputLen (p .cell) → (o : Option Cell) → newCellIn (d .cellReps) (p .slot) ≡ o
+      → Each (MeantIs ρ v) (meantNew (readsPast d) (p .slot) (outputLen (p .cell)) o)
+  new-means p own wide none e = tt
+  new-means p own wide (some a) e =
+      let n = new-found d laid p own a e in
+      (rw (n .width) at (new-is ρ v (readsPast d) (p .slot) a (n .laid .shaped) (may-replace a (n .replaces .new)) (rw (n .width) wide)), tt)
+
+  cell-means : (p : Placed) → cellOf d (p .slot) ≡ p → Shaped (p .cell) → Each (MeantIs ρ v) (meantCell d p)
+  cell-means p own shaped = go (eqb (outputLen (p .cell)) 0) refl
+    where
+      go : (b : Bool) → eqb (outputLen (p .cell)) 0 ≡ b
+          → Each (MeantIs ρ v) (cond b [] (meantAdd (readsPast d) (p .slot) (outputLen (p .cell)) (p .cell)
+          ∷ meantNew (readsPast d) (p .slot) (outputLen (p .cell)) (newCellIn (d .cellReps) (p .slot))))
+      go true e = tt
+      go false e =
+          let wide = positive (outputLen (p .cell)) (eqb-false (outputLen (p .cell)) 0 e) in
+          (add-is ρ v (readsPast d) (p .slot) (p .cell) shaped wide, new-means p own wide (newCellIn (d .cellReps) (p .slot)) refl)
+
+  cells-mean : (cells : List Placed) → Each (λ (p : Placed). cellOf d (p .slot) ≡ p) cells → Each (CellLaid d) cells
+      → Each (MeantIs ρ v) (meantCells d cells)
+  unfolding meantCells
+  cells-mean [] own laid = tt
+  cells-mean (p ∷ cells) own laid =
+      each-append (MeantIs ρ v) (meantCell d p) (meantCells d cells) (cell-means p (own .0) (laid .0 .shaped)) (cells-mean cells (own .1) (laid .1))
+
+  pair-means : (k : Pair) (p : NetPair) → Each (MeantIs ρ v) (meantPair (readsPast d) k p)
+  pair-means equal p = tt
+  pair-means ofVoid p = (void-is ρ v (readsPast d) (p .from) (p .to), tt)
+  pair-means ofDffs p =
+      (join-is ρ v (readsPast d) (p .from) (p .to), (current-is ρ v (readsPast d) (p .from) (p .to), (net-is ρ v (readsPast d) (p .from) (p .to), tt)))
+  pair-means ordinary p = (net-is ρ v (readsPast d) (p .from) (p .to), tt)
+
+  pairs-mean : (pairs : List NetPair) → Each (MeantIs ρ v) (meantPairs d pairs)
+  unfolding meantPairs
+  pairs-mean [] = tt
+  pairs-mean (p ∷ pairs) =
+      each-append (MeantIs ρ v) (meantPair (readsPast d) (pairOf d p) p) (meantPairs d pairs) (pair-means (pairOf d p) p) (pairs-mean pairs)
+
+  pub steps-mean : Each (MeantIs ρ v) (meantSteps d)
+  steps-mean =
+      each-append (MeantIs ρ v) (meantCells d (d .cells)) (meantPairs d (d .netReps)) (cells-mean (d .cells) (own-cells d laid) (laid .cells))
+      (pairs-mean (d .netReps))
