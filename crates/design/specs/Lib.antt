@@ -3,3 +3,4 @@ pub mod BitLocal
 pub mod BitRule
 pub mod Found
 pub mod Meant
+pub mod WorkSound
