@@ -4,3 +4,4 @@ pub mod BitRule
 pub mod Found
 pub mod Meant
 pub mod WorkSound
+pub mod Shown

@@ -125,7 +125,7 @@ constant-shows One = refl
 constant-shows Undef = refl
 
 -- The trits of nets, each slot read at its age.
-read-shows : (b : NetBits) (age : ℕ → Age) (f : ℕ → Trit) → ((i : ℕ) → shows (b (age i) i isUndef) (b (age i) i isOne) ≡ f i)
+pub read-shows : (b : NetBits) (age : ℕ → Age) (f : ℕ → Trit) → ((i : ℕ) → shows (b (age i) i isUndef) (b (age i) i isOne) ≡ f i)
     → (nets : List Net) → Shows (length nets) (readBits b age nets) (map (ofNet f) nets)
 unfolding readBits
 read-shows b age f h [] = empty
@@ -196,7 +196,7 @@ module _ (readsPast : ℕ → Bool) (b : NetBits) where
   abbrev reading : Net → Trit
   reading = read readsPast θ
 
-  value-shows : (nets : List Net) → Shows (length nets) (value nets) (map reading nets)
+  pub value-shows : (nets : List Net) → Shows (length nets) (value nets) (map reading nets)
   value-shows = read-shows b (ageOf readsPast b) (asRead readsPast θ) at-age
     where
       by-age : (p : Bool) (i : ℕ) → shows (b (cond p past curr) i isUndef) (b (cond p past curr) i isOne) ≡ cond p (θ .was i) (θ .now i)
