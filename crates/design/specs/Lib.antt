@@ -6,3 +6,4 @@ pub mod Replacements
 pub mod Meant
 pub mod WorkSound
 pub mod Shown
+pub mod Judged
