@@ -1,0 +1,197 @@
+-- The calls of a run are well formed: each argument is an earlier term of the sort that SMT-LIB asks, each width is at most 64,
+-- and each net's slot is one of the design's. Stated over the sorts of all terms, with no state in it.
+use mathlib.Core.Path.{_≡_, refl, sym, ap, ap₂, _∙_}
+use mathlib.Core.Bool.{Bool, true, false, not, cond}
+use mathlib.Core.List.{List, [], _∷_, _++_, map}
+use Prim.Native.Nat.{ℕ, zero, suc, _+_, _-_, _≤_, _<_}
+use native.Mathlib.Nat.{le-trans}
+use native.Mathlib.Omega.{arith}
+use lib.ListN.{length, replicate, length-map, length-replicate}
+use Rattle.logic.specs.Net.{Net, constant, slot}
+use Rattle.logic.specs.Trit.{xOf, yOf}
+use Rattle.logic.specs.declared.Trit.{Trit}
+use Rattle.bitvec.specs.Bits.{Bits}
+use Rattle.cell.specs.Cell.{Control, Binary, binaryWidth}
+use Rattle.cell.specs.Cell as cells
+use Rattle.engine.specs.Call.{Term, BinaryOp, Compare}
+use Rattle.engine.specs.Call as c
+use Rattle.engine.specs.Meaning.{All}
+use Rattle.engine.specs.Sorts.{Sort, binarySort}
+use Rattle.smt.specs.Prog.{
+  Prog, ret, op, declare, bind, bind2, _>>=_, Age, curr, past, Half, BitVec, bv, TritVec, tv, resultWidth,
+  buildBvand, buildBvor, buildBvnot,
+}
+use Rattle.smt.specs.Builder.{
+  zeros, ones, bvConcatOn, bvConcat, bvIsZero, bvToBool, boolToBv, tvLit, tvConst, tvBind, tvConcatOn, tvConcat, tvExtract, tvIs0, tvIs1,
+  tvEq, tvRefines, tvNot, tvAnd, tvOr, tvXor, tvMux, collect, netOf, valueOf, currNet, pastNet, invertNet, clockNet, bvNoX, carryX,
+  tvAdc, tvEquals, tvLess, tvMul, tvBinary, tvShift, Prepared,
+}
+
+-- The sort of a term, and what its arguments must be, of the sorts of the terms; n terms are there.
+abbrev pub sortUnder : (ℕ → Sort) → Term → Sort
+sortUnder σ (c.boolLit b) = 0
+sortUnder σ (c.boolIte i a b) = 0
+sortUnder σ (c.not a) = 0
+sortUnder σ (c.and args) = 0
+sortUnder σ (c.lit s) = length s
+sortUnder σ (c.equal a b) = 0
+sortUnder σ (c.ite i a b) = σ a
+sortUnder σ (c.concat a b) = σ a + σ b
+sortUnder σ (c.extract i j a) = suc i - j
+sortUnder σ (c.bvnot a) = σ a
+sortUnder σ (c.op2 o a b) = binarySort o (σ a)
+sortUnder σ (c.compare o a b) = 0
+
+abbrev pub Truth : ℕ → (ℕ → Sort) → ℕ → Type 0
+Truth n σ a = (a < n) × (σ a ≡ 0)
+
+abbrev pub Vector : ℕ → (ℕ → Sort) → ℕ → Type 0
+Vector n σ a = (a < n) × (1 ≤ σ a) × (σ a ≤ 64)
+
+abbrev pub Alike : ℕ → (ℕ → Sort) → ℕ → ℕ → Type 0
+Alike n σ a b = Vector n σ a × (b < n) × (σ b ≡ σ a)
+
+abbrev pub Fine : ℕ → (ℕ → Sort) → Term → Type 0
+Fine n σ (c.boolLit b) = Unit {0}
+Fine n σ (c.boolIte i a b) = Truth n σ i × Truth n σ a × Truth n σ b
+Fine n σ (c.not a) = Truth n σ a
+Fine n σ (c.and args) = (0 < length args) × All (Truth n σ) args
+Fine n σ (c.lit s) = (1 ≤ length s) × (length s ≤ 64)
+Fine n σ (c.equal a b) = (a < n) × (b < n) × (σ a ≤ 64) × (σ b ≡ σ a)
+Fine n σ (c.ite i a b) = Truth n σ i × Alike n σ a b
+Fine n σ (c.concat a b) = (a < n) × (b < n) × (1 ≤ σ a) × (1 ≤ σ b) × (σ a + σ b ≤ 64)
+Fine n σ (c.extract i j a) = (a < n) × (j ≤ i) × (i < σ a) × (σ a ≤ 64)
+Fine n σ (c.bvnot a) = Vector n σ a
+Fine n σ (c.op2 o a b) = Alike n σ a b
+Fine n σ (c.compare o a b) = Alike n σ a b
+
+-- A term made after the first n, of sort w: its number, and how many there are then; and two of them.
+pub record Made (σ : ℕ → Sort) (n : ℕ) (w : Sort) : Type 0 where
+  pub k : ℕ
+  pub m : ℕ
+  pub le : n ≤ m
+  pub lt : k < m
+  pub sort : σ k ≡ w
+
+pub record Made2 (σ : ℕ → Sort) (n : ℕ) (w : Sort) : Type 0 where
+  pub k : ℕ
+  pub l : ℕ
+  pub m : ℕ
+  pub le : n ≤ m
+  pub ltk : k < m
+  pub ltl : l < m
+  pub sortk : σ k ≡ w
+  pub sortl : σ l ≡ w
+
+-- A width of a bit vector.
+abbrev pub Width : ℕ → Type 0
+Width w = (1 ≤ w) × (w ≤ 64)
+
+-- Over a design of so many slots.
+module _ (slots : ℕ) (σ : ℕ → Sort) where
+  abbrev pub safe : {A : Type 0} → ℕ → Prog A → (ℕ → A → Type 0) → Type 0
+  safe n (ret a) Q = Q n a
+  safe n (op t f) Q = Fine n σ t × ((e : Made σ n (sortUnder σ t)) → safe (e .m) (f (e .k)) Q)
+  safe n (declare a i h f) Q = (i < slots) × ((e : Made σ n 1) → safe (e .m) (f (e .k)) Q)
+  safe n (bind w t f) Q = (t < n) × (σ t ≡ w) × Width w × ((e : Made σ n w) → safe (e .m) (f (e .k)) Q)
+  safe n (bind2 w x y f) Q =
+      (x < n) × (y < n) × (σ x ≡ w) × (σ y ≡ w) × Width w × ((e : Made2 σ n w) → safe (e .m) (f (e .k) (e .l)) Q)
+
+  safe-bind : {A B : Type 0} (n : ℕ) (m : Prog A) (g : A → Prog B) (Q : ℕ → B → Type 0)
+      → safe n m (λ i a. safe i (g a) Q) → safe n (m >>= g) Q
+  unfolding _>>=_
+  safe-bind n (ret a) g Q h = h
+  safe-bind n (op t f) g Q h = (h .0, λ e. safe-bind (e .m) (f (e .k)) g Q (h .1 e))
+  safe-bind n (declare a i d f) g Q h = (h .0, λ e. safe-bind (e .m) (f (e .k)) g Q (h .1 e))
+  safe-bind n (bind w t f) g Q h = (h .0, h .1, h .2, λ e. safe-bind (e .m) (f (e .k)) g Q (h .3 e))
+  safe-bind n (bind2 w x y f) g Q h = (h .0, h .1, h .2, h .3, h .4, λ e. safe-bind (e .m) (f (e .k) (e .l)) g Q (h .5 e))
+
+  pub safe-mono : {A : Type 0} (n : ℕ) (m : Prog A) (P Q : ℕ → A → Type 0) → ((i : ℕ) (a : A) → n ≤ i → P i a → Q i a)
+      → safe n m P → safe n m Q
+  safe-mono n (ret a) P Q i h = i n a (omega arith) h
+  safe-mono n (op t f) P Q i h = (h .0, λ e. safe-mono (e .m) (f (e .k)) P Q (λ j a l p. i j a (le-trans (e .le) l) p) (h .1 e))
+  safe-mono n (declare a d g f) P Q i h =
+      (h .0, λ e. safe-mono (e .m) (f (e .k)) P Q (λ j a l p. i j a (le-trans (e .le) l) p) (h .1 e))
+  safe-mono n (bind w t f) P Q i h =
+      (h .0, h .1, h .2, λ e. safe-mono (e .m) (f (e .k)) P Q (λ j a l p. i j a (le-trans (e .le) l) p) (h .3 e))
+  safe-mono n (bind2 w x y f) P Q i h =
+      (h .0, h .1, h .2, h .3, h .4, λ e. safe-mono (e .m) (f (e .k) (e .l)) P Q (λ j a l p. i j a (le-trans (e .le) l) p) (h .5 e))
+
+  -- One part, then the rest by what holds of its result.
+  pub safe-seq : {A B : Type 0} (n : ℕ) (m : Prog A) (g : A → Prog B) (P : ℕ → A → Type 0) (Q : ℕ → B → Type 0)
+      → safe n m P → ((i : ℕ) (a : A) → n ≤ i → P i a → safe i (g a) Q) → safe n (m >>= g) Q
+  safe-seq n m g P Q h i = safe-bind n m g Q (safe-mono n m P (λ j a. safe j (g a) Q) i h)
+
+  -- A bit vector, and a trit vector, of width w, among the first n terms.
+  abbrev pub VectorOf : Sort → ℕ → BitVec → Type 0
+  VectorOf w n a = (a .term < n) × (σ (a .term) ≡ w) × (a .width ≡ w)
+
+  abbrev pub TritsOf : Sort → ℕ → TritVec → Type 0
+  TritsOf w n a = VectorOf w n (a .x) × VectorOf w n (a .y)
+
+  pub later : (w n m : ℕ) (a : TritVec) → n ≤ m → TritsOf w n a → TritsOf w m a
+  later w n m a h g = omega arith
+
+  -- ---- trit vectors
+
+  tvBind-safe : (n w : ℕ) (a : TritVec) → Width w → TritsOf w n a → safe n (tvBind a w) (TritsOf w)
+  tvBind-safe n w a h g = omega arith
+
+  tvIs0-safe : (n w : ℕ) (a : TritVec) → Width w → TritsOf w n a → safe n (tvIs0 a) (VectorOf w)
+  unfolding tvIs0 _>>=_
+  tvIs0-safe n w a h g = omega arith
+
+  tvIs1-safe : (n w : ℕ) (a : TritVec) → Width w → TritsOf w n a → safe n (tvIs1 a) (VectorOf w)
+  unfolding tvIs1 _>>=_
+  tvIs1-safe n w a h g = omega arith
+
+  pub tvLit-safe : (n : ℕ) (value : List Trit) → Width (length value) → safe n (tvLit value) (TritsOf (length value))
+  unfolding tvLit _>>=_
+  tvLit-safe n value h = rw (length-map value xOf, length-map value yOf) (omega arith)
+
+  pub tvNot-safe : (n w : ℕ) (a : TritVec) → Width w → TritsOf w n a → safe n (tvNot a) (TritsOf w)
+  unfolding tvNot _>>=_
+  tvNot-safe n w a h g = omega arith
+
+  pub tvXor-safe : (n w : ℕ) (a b : TritVec) → Width w → TritsOf w n a → TritsOf w n b → safe n (tvXor a b) (TritsOf w)
+  unfolding tvXor _>>=_
+  tvXor-safe n w a b h p q = omega arith
+
+  -- The two terms of a bind.
+  abbrev pair : {n w : ℕ} → Made2 σ n w → TritVec
+  pair {w = w} e = tv (bv (e .k) w) (bv (e .l) w)
+
+  pub tvAnd-safe : (n w : ℕ) (a b : TritVec) → Width w → TritsOf w n a → TritsOf w n b → safe n (tvAnd a b w) (TritsOf w)
+  unfolding tvAnd _>>=_
+  tvAnd-safe n w a b h p q =
+      (omega arith, omega arith, omega arith, omega arith, h,
+      λ d. (omega arith, omega arith, omega arith, omega arith, h,
+      λ e. safe-seq (e .m) (tvIs0 (pair d)) _ (VectorOf w) (TritsOf w) (tvIs0-safe (e .m) w (pair d) h (omega arith)) λ i a0 li g0.
+      safe-seq i (tvIs0 (pair e)) _ (VectorOf w) (TritsOf w) (tvIs0-safe i w (pair e) h (omega arith)) λ j b0 lj g1.
+      omega arith))
+
+  pub tvOr-safe : (n w : ℕ) (a b : TritVec) → Width w → TritsOf w n a → TritsOf w n b → safe n (tvOr a b w) (TritsOf w)
+  unfolding tvOr _>>=_
+  tvOr-safe n w a b h p q =
+      (omega arith, omega arith, omega arith, omega arith, h,
+      λ d. (omega arith, omega arith, omega arith, omega arith, h,
+      λ e. safe-seq (e .m) (tvIs1 (pair d)) _ (VectorOf w) (TritsOf w) (tvIs1-safe (e .m) w (pair d) h (omega arith)) λ i a1 li g0.
+      safe-seq i (tvIs1 (pair e)) _ (VectorOf w) (TritsOf w) (tvIs1-safe i w (pair e) h (omega arith)) λ j b1 lj g1.
+      omega arith))
+
+  bvToBool-safe : (n : ℕ) (a : BitVec) → VectorOf 1 n a → safe n (bvToBool a) (λ m k. Truth m σ k)
+  unfolding bvToBool _>>=_
+  bvToBool-safe n a g = omega arith
+
+  pub tvMux-safe : (n w : ℕ) (s a b : TritVec) → Width w → TritsOf 1 n s → TritsOf w n a → TritsOf w n b
+      → safe n (tvMux s a b w) (TritsOf w)
+  unfolding tvMux _>>=_
+  tvMux-safe n w s a b h r p q =
+      (omega arith, omega arith, omega arith, omega arith, omega arith,
+      λ c. (omega arith, omega arith, omega arith, omega arith, h,
+      λ d. (omega arith, omega arith, omega arith, omega arith, h,
+      λ e. safe-seq (e .m) (tvIs0 (pair c)) _ (VectorOf 1) (TritsOf w) (tvIs0-safe (e .m) 1 (pair c) (omega arith) (omega arith)) λ i s0 li g0.
+      safe-seq i (tvIs1 (pair c)) _ (VectorOf 1) (TritsOf w) (tvIs1-safe i 1 (pair c) (omega arith) (omega arith)) λ j s1 lj g1.
+      safe-seq j (bvToBool s0) _ (λ m k. Truth m σ k) (TritsOf w) (bvToBool-safe j s0 (omega arith)) λ k t0 lk g2.
+      safe-seq k (bvToBool s1) _ (λ m k. Truth m σ k) (TritsOf w) (bvToBool-safe k s1 (omega arith)) λ l t1 ll g3.
+      (omega arith, λ x1. (omega arith, λ x2. (omega arith, λ x3. (omega arith, λ x4. (omega arith, λ x5. omega arith))))))))
