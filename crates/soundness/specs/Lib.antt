@@ -7,3 +7,4 @@ pub mod ShowsNumber
 pub mod ShowsShift
 pub mod CellShows
 pub mod Safe
+pub mod CellSafe
