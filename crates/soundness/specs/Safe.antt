@@ -19,13 +19,65 @@ use Rattle.engine.specs.Meaning.{All}
 use Rattle.rules.specs.Width.{Each}
 use Rattle.engine.specs.Sorts.{Sort, binarySort}
 use Rattle.smt.specs.Prog.{
-  Prog, ret, op, declare, bind, bind2, _>>=_, Age, curr, past, Half, BitVec, bv, TritVec, tv, resultWidth,
-  buildBvand, buildBvor, buildBvnot,
+  Prog,
+  ret,
+  op,
+  declare,
+  bind,
+  bind2,
+  _>>=_,
+  Age,
+  curr,
+  past,
+  Half,
+  BitVec,
+  bv,
+  TritVec,
+  tv,
+  resultWidth,
+  buildBvand,
+  buildBvor,
+  buildBvnot,
 }
 use Rattle.smt.specs.Builder.{
-  zeros, ones, bvConcatOn, bvConcat, bvIsZero, bvToBool, boolToBv, tvLit, tvConst, tvBind, tvConcatOn, tvConcat, tvExtract, tvIs0, tvIs1,
-  tvEq, tvRefines, tvNot, tvAnd, tvOr, tvXor, tvMux, collect, netOf, valueOf, currNet, pastNet, invertNet, clockNet, bvNoX, carryX,
-  tvAdc, tvEquals, tvLess, tvMul, tvBinary, tvShift, Prepared,
+  zeros,
+  ones,
+  bvConcatOn,
+  bvConcat,
+  bvIsZero,
+  bvToBool,
+  boolToBv,
+  tvLit,
+  tvConst,
+  tvBind,
+  tvConcatOn,
+  tvConcat,
+  tvExtract,
+  tvIs0,
+  tvIs1,
+  tvEq,
+  tvRefines,
+  tvNot,
+  tvAnd,
+  tvOr,
+  tvXor,
+  tvMux,
+  collect,
+  netOf,
+  valueOf,
+  currNet,
+  pastNet,
+  invertNet,
+  clockNet,
+  bvNoX,
+  carryX,
+  tvAdc,
+  tvEquals,
+  tvLess,
+  tvMul,
+  tvBinary,
+  tvShift,
+  Prepared,
 }
 
 -- The sort of a term, and what its arguments must be, of the sorts of the terms; n terms are there.
@@ -135,7 +187,7 @@ module _ (slots : ℕ) (σ : ℕ → Sort) where
 
   -- ---- trit vectors
 
-  tvBind-safe : (n w : ℕ) (a : TritVec) → Width w → TritsOf w n a → safe n (tvBind a w) (TritsOf w)
+  pub tvBind-safe : (n w : ℕ) (a : TritVec) → Width w → TritsOf w n a → safe n (tvBind a w) (TritsOf w)
   tvBind-safe n w a h g = omega arith
 
   tvIs0-safe : (n w : ℕ) (a : TritVec) → Width w → TritsOf w n a → safe n (tvIs0 a) (VectorOf w)
@@ -164,21 +216,43 @@ module _ (slots : ℕ) (σ : ℕ → Sort) where
 
   pub tvAnd-safe : (n w : ℕ) (a b : TritVec) → Width w → TritsOf w n a → TritsOf w n b → safe n (tvAnd a b w) (TritsOf w)
   unfolding tvAnd _>>=_
-  tvAnd-safe n w a b h p q =
-      (omega arith, omega arith, omega arith, omega arith, h,
-      λ d. (omega arith, omega arith, omega arith, omega arith, h,
+  tvAnd-safe n w a b h p q = (
+    omega arith,
+    omega arith,
+    omega arith,
+    omega arith,
+    h,
+    λ d. (
+      omega arith,
+      omega arith,
+      omega arith,
+      omega arith,
+      h,
       λ e. safe-seq (e .m) (tvIs0 (pair d)) _ (VectorOf w) (TritsOf w) (tvIs0-safe (e .m) w (pair d) h (omega arith)) λ i a0 li g0.
-      safe-seq i (tvIs0 (pair e)) _ (VectorOf w) (TritsOf w) (tvIs0-safe i w (pair e) h (omega arith)) λ j b0 lj g1.
-      omega arith))
+          safe-seq i (tvIs0 (pair e)) _ (VectorOf w) (TritsOf w) (tvIs0-safe i w (pair e) h (omega arith)) λ j b0 lj g1.
+          omega arith,
+    ),
+  )
 
   pub tvOr-safe : (n w : ℕ) (a b : TritVec) → Width w → TritsOf w n a → TritsOf w n b → safe n (tvOr a b w) (TritsOf w)
   unfolding tvOr _>>=_
-  tvOr-safe n w a b h p q =
-      (omega arith, omega arith, omega arith, omega arith, h,
-      λ d. (omega arith, omega arith, omega arith, omega arith, h,
+  tvOr-safe n w a b h p q = (
+    omega arith,
+    omega arith,
+    omega arith,
+    omega arith,
+    h,
+    λ d. (
+      omega arith,
+      omega arith,
+      omega arith,
+      omega arith,
+      h,
       λ e. safe-seq (e .m) (tvIs1 (pair d)) _ (VectorOf w) (TritsOf w) (tvIs1-safe (e .m) w (pair d) h (omega arith)) λ i a1 li g0.
-      safe-seq i (tvIs1 (pair e)) _ (VectorOf w) (TritsOf w) (tvIs1-safe i w (pair e) h (omega arith)) λ j b1 lj g1.
-      omega arith))
+          safe-seq i (tvIs1 (pair e)) _ (VectorOf w) (TritsOf w) (tvIs1-safe i w (pair e) h (omega arith)) λ j b1 lj g1.
+          omega arith,
+    ),
+  )
 
   bvToBool-safe : (n : ℕ) (a : BitVec) → VectorOf 1 n a → safe n (bvToBool a) (λ m k. Truth m σ k)
   unfolding bvToBool _>>=_
@@ -187,15 +261,32 @@ module _ (slots : ℕ) (σ : ℕ → Sort) where
   pub tvMux-safe : (n w : ℕ) (s a b : TritVec) → Width w → TritsOf 1 n s → TritsOf w n a → TritsOf w n b
       → safe n (tvMux s a b w) (TritsOf w)
   unfolding tvMux _>>=_
-  tvMux-safe n w s a b h r p q =
-      (omega arith, omega arith, omega arith, omega arith, omega arith,
-      λ c. (omega arith, omega arith, omega arith, omega arith, h,
-      λ d. (omega arith, omega arith, omega arith, omega arith, h,
-      λ e. safe-seq (e .m) (tvIs0 (pair c)) _ (VectorOf 1) (TritsOf w) (tvIs0-safe (e .m) 1 (pair c) (omega arith) (omega arith)) λ i s0 li g0.
-      safe-seq i (tvIs1 (pair c)) _ (VectorOf 1) (TritsOf w) (tvIs1-safe i 1 (pair c) (omega arith) (omega arith)) λ j s1 lj g1.
-      safe-seq j (bvToBool s0) _ (λ m k. Truth m σ k) (TritsOf w) (bvToBool-safe j s0 (omega arith)) λ k t0 lk g2.
-      safe-seq k (bvToBool s1) _ (λ m k. Truth m σ k) (TritsOf w) (bvToBool-safe k s1 (omega arith)) λ l t1 ll g3.
-      (omega arith, λ x1. (omega arith, λ x2. (omega arith, λ x3. (omega arith, λ x4. (omega arith, λ x5. omega arith))))))))
+  tvMux-safe n w s a b h r p q = (
+    omega arith,
+    omega arith,
+    omega arith,
+    omega arith,
+    omega arith,
+    λ c. (
+      omega arith,
+      omega arith,
+      omega arith,
+      omega arith,
+      h,
+      λ d. (
+        omega arith,
+        omega arith,
+        omega arith,
+        omega arith,
+        h,
+        λ e. safe-seq (e .m) (tvIs0 (pair c)) _ (VectorOf 1) (TritsOf w) (tvIs0-safe (e .m) 1 (pair c) (omega arith) (omega arith)) λ i s0 li g0.
+            safe-seq i (tvIs1 (pair c)) _ (VectorOf 1) (TritsOf w) (tvIs1-safe i 1 (pair c) (omega arith) (omega arith)) λ j s1 lj g1.
+            safe-seq j (bvToBool s0) _ (λ m k. Truth m σ k) (TritsOf w) (bvToBool-safe j s0 (omega arith)) λ k t0 lk g2.
+            safe-seq k (bvToBool s1) _ (λ m k. Truth m σ k) (TritsOf w) (bvToBool-safe k s1 (omega arith)) λ l t1 ll g3.
+            (omega arith, λ x1. (omega arith, λ x2. (omega arith, λ x3. (omega arith, λ x4. (omega arith, λ x5. omega arith))))),
+      ),
+    ),
+  )
 
   pub tvExtract-safe : (n w i j : ℕ) (a : TritVec) → j ≤ i → i < w → w ≤ 64 → TritsOf w n a
       → safe n (tvExtract i j a) (TritsOf (suc i - j))
@@ -276,10 +367,14 @@ module _ (slots : ℕ) (σ : ℕ → Sort) where
   tvLess-safe : (n w : ℕ) (o : Compare) (a b : TritVec) → Width w → TritsOf w n a → TritsOf w n b → safe n (tvLess o a b w) (TritsOf 1)
   unfolding tvLess _>>=_
   tvLess-safe n w o a b h p q =
-      safe-seq n (bvNoX a b w) _ (λ m k. Truth m σ k) (TritsOf 1) (bvNoX-safe n w a b h p q) λ i k li g.
-      (g, λ d. safe-seq (d .m) (boolToBv (d .k)) _ (VectorOf 1) (TritsOf 1) (boolToBv-safe (d .m) (d .k) (omega arith)) λ j x lj gx.
-      (omega arith, λ e. safe-seq (e .m) (boolToBv (e .k)) _ (VectorOf 1) (TritsOf 1) (boolToBv-safe (e .m) (e .k) (omega arith)) λ l y ll gy.
-      omega arith))
+      safe-seq n (bvNoX a b w) _ (λ m k. Truth m σ k) (TritsOf 1) (bvNoX-safe n w a b h p q) λ i k li g. (
+        g,
+        λ d. safe-seq (d .m) (boolToBv (d .k)) _ (VectorOf 1) (TritsOf 1) (boolToBv-safe (d .m) (d .k) (omega arith)) λ j x lj gx. (
+          omega arith,
+          λ e. safe-seq (e .m) (boolToBv (e .k)) _ (VectorOf 1) (TritsOf 1) (boolToBv-safe (e .m) (e .k) (omega arith)) λ l y ll gy.
+              omega arith,
+        ),
+      )
 
   tvMul-safe : (n w : ℕ) (a b : TritVec) → Width w → TritsOf w n a → TritsOf w n b → safe n (tvMul a b w) (TritsOf w)
   unfolding tvMul _>>=_
@@ -290,14 +385,35 @@ module _ (slots : ℕ) (σ : ℕ → Sort) where
 
   tvEquals-safe : (n w : ℕ) (a b : TritVec) → Width w → TritsOf w n a → TritsOf w n b → safe n (tvEquals a b w) (TritsOf 1)
   unfolding tvEquals _>>=_
-  tvEquals-safe n w a b h p q =
-      (omega arith, λ k1. (omega arith, λ k2. (omega arith, λ k3. (omega arith, λ k4.
-      safe-seq (k4 .m) (bvIsZero (bv (k4 .k) (a .y .width)) w) _ (λ m k. Truth m σ k) (TritsOf 1) (bvIsZero-safe (k4 .m) w (bv (k4 .k) (a .y .width)) h (omega arith)) λ i z li gz.
-      (gz, λ k5. (tt, λ k6.
-      safe-seq (k6 .m) (bvNoX a b w) _ (λ m k. Truth m σ k) (TritsOf 1) (bvNoX-safe (k6 .m) w a b h (omega arith) (omega arith)) λ j x lj gx.
-      (gx, λ k7. (omega arith, λ k8.
-      safe-seq (k8 .m) (boolToBv (k8 .k)) _ (VectorOf 1) (TritsOf 1) (boolToBv-safe (k8 .m) (k8 .k) (omega arith)) λ l u ll gu.
-      omega arith))))))))
+  tvEquals-safe n w a b h p q = (
+    omega arith,
+    λ k1. (
+      omega arith,
+      λ k2. (
+        omega arith,
+        λ k3. (
+          omega arith,
+          λ k4.
+              safe-seq (k4 .m) (bvIsZero (bv (k4 .k) (a .y .width)) w) _ (λ m k. Truth m σ k) (TritsOf 1) (bvIsZero-safe (k4 .m) w (bv (k4 .k) (a .y .width)) h (omega arith)) λ i z li gz. (
+                gz,
+                λ k5. (
+                  tt,
+                  λ k6.
+                      safe-seq (k6 .m) (bvNoX a b w) _ (λ m k. Truth m σ k) (TritsOf 1) (bvNoX-safe (k6 .m) w a b h (omega arith) (omega arith)) λ j x lj gx. (
+                        gx,
+                        λ k7. (
+                          omega arith,
+                          λ k8.
+                              safe-seq (k8 .m) (boolToBv (k8 .k)) _ (VectorOf 1) (TritsOf 1) (boolToBv-safe (k8 .m) (k8 .k) (omega arith)) λ l u ll gu.
+                              omega arith,
+                        ),
+                      ),
+                ),
+              ),
+        ),
+      ),
+    ),
+  )
 
   pub tvBinary-safe : (o : Binary) (n w : ℕ) (a b : TritVec) → Width w → TritsOf w n a → TritsOf w n b
       → safe n (tvBinary o a b w (binaryWidth o w)) (TritsOf (binaryWidth o w))
@@ -333,11 +449,22 @@ module _ (slots : ℕ) (σ : ℕ → Sort) where
       let pw = g .width in
       let pa = g .amount in
       safe-seq n (bvIsZero (p .amount .x) (p .width)) _ (λ m k. Truth m σ k) (TritsOf v)
-      (bvIsZero-safe n (p .width) (p .amount .x) (omega arith) (omega arith)) λ i k li gk.
-      (omega arith, λ e1. (omega arith, λ e2. (omega arith, λ e3. (omega arith, λ e4.
-      rw same at (tvExtract-safe (e4 .m) w (v - 1) 0
-      (tv (bv (e3 .k) (resultWidth onX (p .value .x .width))) (bv (e4 .k) (resultWidth onY (p .value .y .width))))
-      (omega arith) (omega arith) (omega arith) (omega arith))))))
+      (bvIsZero-safe n (p .width) (p .amount .x) (omega arith) (omega arith)) λ i k li gk. (
+        omega arith,
+        λ e1. (
+          omega arith,
+          λ e2. (
+            omega arith,
+            λ e3. (
+              omega arith,
+              λ e4.
+                  rw same at (tvExtract-safe (e4 .m) w (v - 1) 0
+                  (tv (bv (e3 .k) (resultWidth onX (p .value .x .width))) (bv (e4 .k) (resultWidth onY (p .value .y .width))))
+                  (omega arith) (omega arith) (omega arith) (omega arith)),
+            ),
+          ),
+        ),
+      )
 
   -- ---- Adc
 
@@ -345,11 +472,27 @@ module _ (slots : ℕ) (σ : ℕ → Sort) where
       → VectorOf 1 n carry → safe n (carryX a b more i carry) (λ m ks. Each (VectorOf 1 m) ks × (length ks ≡ suc more))
   unfolding carryX _>>=_
   carryX-safe w n a b zero i carry u ga gb e h = ((h, tt), refl)
-  carryX-safe w n a b (suc more) i carry u ga gb e h =
-      (omega arith, λ e1. (omega arith, λ e2. (omega arith, λ e3. (omega arith, λ e4. (omega arith, omega arith, omega arith, λ k.
-      safe-seq (k .m) (carryX a b more (suc i) (bv (k .k) 1)) _ (λ m ks. Each (VectorOf 1 m) ks × (length ks ≡ suc more)) _
-      (carryX-safe w (k .m) a b more (suc i) (bv (k .k) 1) u (omega arith) (omega arith) (omega arith) (omega arith))
-      λ j ks lj g. ((omega arith, g .0), ap suc (g .1)))))))
+  carryX-safe w n a b (suc more) i carry u ga gb e h = (
+    omega arith,
+    λ e1. (
+      omega arith,
+      λ e2. (
+        omega arith,
+        λ e3. (
+          omega arith,
+          λ e4. (
+            omega arith,
+            omega arith,
+            omega arith,
+            λ k.
+                safe-seq (k .m) (carryX a b more (suc i) (bv (k .k) 1)) _ (λ m ks. Each (VectorOf 1 m) ks × (length ks ≡ suc more)) _
+                (carryX-safe w (k .m) a b more (suc i) (bv (k .k) 1) u (omega arith) (omega arith) (omega arith) (omega arith))
+                λ j ks lj g. ((omega arith, g .0), ap suc (g .1)),
+          ),
+        ),
+      ),
+    ),
+  )
 
   bvConcatOn-safe : (n : ℕ) (k : BitVec) (ks : List BitVec) → VectorOf 1 n k → Each (VectorOf 1 n) ks → suc (length ks) ≤ 64
       → safe n (bvConcatOn k ks) (VectorOf (suc (length ks)))
@@ -368,10 +511,21 @@ module _ (slots : ℕ) (σ : ℕ → Sort) where
       → safe n (tvAdc a b carry w) (TritsOf (suc w))
   unfolding tvAdc _>>=_
   tvAdc-safe n w a b carry s l ga gb gc =
-      let z = length-replicate w false in
-      (omega arith, omega arith, omega arith, omega arith, omega arith,
-      λ d. (omega arith, omega arith, omega arith, omega arith, omega arith,
-      λ e. safe-seq (e .m) (carryX (pair d) (pair e) w 0 (carry .x)) _ (λ m ks. Each (VectorOf 1 m) ks × (length ks ≡ suc w)) (TritsOf (suc w))
-      (carryX-safe w (e .m) (pair d) (pair e) w 0 (carry .x) (omega arith) (omega arith) (omega arith) (omega arith) (omega arith)) λ i ks li gk.
-      safe-seq i (bvConcat ks) _ (VectorOf (suc w)) (TritsOf (suc w)) (bvConcat-safe i (suc w) ks (omega arith) (gk .1) (gk .0)) λ j x lj gx.
-      (omega arith, λ k1. (omega arith, λ k2. (omega arith, λ k3. (omega arith, λ k4. omega arith))))))
+      let z = length-replicate w false in (
+        omega arith,
+        omega arith,
+        omega arith,
+        omega arith,
+        omega arith,
+        λ d. (
+          omega arith,
+          omega arith,
+          omega arith,
+          omega arith,
+          omega arith,
+          λ e. safe-seq (e .m) (carryX (pair d) (pair e) w 0 (carry .x)) _ (λ m ks. Each (VectorOf 1 m) ks × (length ks ≡ suc w)) (TritsOf (suc w))
+              (carryX-safe w (e .m) (pair d) (pair e) w 0 (carry .x) (omega arith) (omega arith) (omega arith) (omega arith) (omega arith)) λ i ks li gk.
+              safe-seq i (bvConcat ks) _ (VectorOf (suc w)) (TritsOf (suc w)) (bvConcat-safe i (suc w) ks (omega arith) (gk .1) (gk .0)) λ j x lj gx.
+              (omega arith, λ k1. (omega arith, λ k2. (omega arith, λ k3. (omega arith, λ k4. omega arith)))),
+        ),
+      )
