@@ -8,3 +8,4 @@ pub mod ShowsShift
 pub mod CellShows
 pub mod Safe
 pub mod CellSafe
+pub mod Solve

@@ -77,7 +77,7 @@ equalValues-eq (bits s) (bits t) e = ap bits (equal-eq s t e)
 
 -- ---- the names that are known
 
-place-inj : (a : Age) (i : ℕ) (h : Half) (b : Age) (j : ℕ) (g : Half) → place a i h ≡ place b j g
+pub place-inj : (a : Age) (i : ℕ) (h : Half) (b : Age) (j : ℕ) (g : Half) → place a i h ≡ place b j g
     → netName a i h ≡ netName b j g
 place-inj curr i isUndef curr j isUndef e = ap (λ (n : ℕ). netName curr n isUndef) (omega arith)
 place-inj curr i isUndef curr j isOne e = absurd (omega arith)
