@@ -9,3 +9,4 @@ pub mod CellShows
 pub mod Safe
 pub mod CellSafe
 pub mod Solve
+pub mod Unique
