@@ -10,3 +10,4 @@ pub mod Safe
 pub mod CellSafe
 pub mod Solve
 pub mod Unique
+pub mod Refines
