@@ -6,3 +6,8 @@ pub mod Shows
 pub mod ShowsNumber
 pub mod ShowsShift
 pub mod CellShows
+pub mod Safe
+pub mod CellSafe
+pub mod Solve
+pub mod Unique
+pub mod Refines

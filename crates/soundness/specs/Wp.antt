@@ -77,7 +77,7 @@ equalValues-eq (bits s) (bits t) e = ap bits (equal-eq s t e)
 
 -- ---- the names that are known
 
-place-inj : (a : Age) (i : ℕ) (h : Half) (b : Age) (j : ℕ) (g : Half) → place a i h ≡ place b j g
+pub place-inj : (a : Age) (i : ℕ) (h : Half) (b : Age) (j : ℕ) (g : Half) → place a i h ≡ place b j g
     → netName a i h ≡ netName b j g
 place-inj curr i isUndef curr j isUndef e = ap (λ (n : ℕ). netName curr n isUndef) (omega arith)
 place-inj curr i isUndef curr j isOne e = absurd (omega arith)
@@ -115,7 +115,7 @@ module _ (ρ : Assignment) (v : ℕ → Value) where
   renamed a i h b j g k e n =
       record { is = n .is ∙ ap (λ (d : Name). bits (ρ d)) e; one = sym (ap (λ (d : Name). length (ρ d)) e) ∙ n .one }
 
-  learnt : (a : Age) (i : ℕ) (h : Half) (k : ℕ) (names : List ℕ) → Named ρ v a i h k → Known names
+  pub learnt : (a : Age) (i : ℕ) (h : Half) (k : ℕ) (names : List ℕ) → Named ρ v a i h k → Known names
       → Known (set names (place a i h) (suc k))
   learnt a i h k names new kn b j g l e =
       stored names (place a i h) (suc k) (place b j g) l e
@@ -128,7 +128,7 @@ module _ (ρ : Assignment) (v : ℕ → Value) where
     pub names : Known (s .names)
     pub more : Holds ρ v (s .next) rest
 
-  bound-eq : (k a b : ℕ) → v k ≡ denote v (c.equal a b) → v k ≡ bool true → v a ≡ v b
+  pub bound-eq : (k a b : ℕ) → v k ≡ denote v (c.equal a b) → v k ≡ bool true → v a ≡ v b
   bound-eq k a b p q = equalValues-eq (v a) (v b) (cc)
 
   pub wp-sound : {A : Type 0} (m : Prog A) (s : St) (Q : A → Type 0) (rest : List Call)
