@@ -7,3 +7,4 @@ pub mod Meant
 pub mod WorkSound
 pub mod Shown
 pub mod Judged
+pub mod WorkMeets
