@@ -8,3 +8,4 @@ pub mod WorkSound
 pub mod Shown
 pub mod Judged
 pub mod WorkMeets
+pub mod StepsSafe

@@ -192,7 +192,7 @@ module _ (slots : ℕ) (σ : ℕ → Sort) (readsPast : ℕ → Bool) where
   pub value-safe : (n : ℕ) (nets : List Net) → Width (length nets) → Each In nets → safe slots σ n (valueOf (net readsPast) nets) (Tv (length nets))
   value-safe = valueOf-safe slots σ (net readsPast) net-safe
 
-  output-within : (s w : ℕ) → s + w ≤ slots → Each In (outputNets s w)
+  pub output-within : (s w : ℕ) → s + w ≤ slots → Each In (outputNets s w)
   output-within s w h = each-tab In w (λ i. slot (s + i)) (λ i l. omega arith)
 
   past-safe : (n s w : ℕ) → Width w → s + w ≤ slots → safe slots σ n (valueOf pastNet (outputNets s w)) (Tv w)
