@@ -9,3 +9,4 @@ pub mod Shown
 pub mod Judged
 pub mod WorkMeets
 pub mod StepsSafe
+pub mod Requirement3
