@@ -10,3 +10,4 @@ pub mod Judged
 pub mod WorkMeets
 pub mod StepsSafe
 pub mod Requirement3
+pub mod Solved
