@@ -21,7 +21,7 @@ use Rattle.cell.specs.Design.{Design, Placed, NetPair, total}
 use Rattle.rules.specs.Shape.{Shaped}
 use Rattle.rules.specs.CellRule.{Trits, ofNet, outputs}
 use Rattle.working_out.specs.Reading.{
-  Each, each-map, each-append, cellOf, Role, role, isDff, readsPast, source, Pair, equal, ofVoid, ofDffs, ordinary, pairOf, Alike,
+  Each, each-map, each-append, cellOf, sameNet, Role, role, isDff, readsPast, source, Pair, equal, ofVoid, ofDffs, ordinary, pairOf, Alike,
 }
 use Rattle.working_out.specs.Reading as reading
 use Rattle.working_out.specs.Laid.{Laid, CellLaid}
@@ -89,6 +89,18 @@ whole-cells d laid =
 and-false : (a : Bool) → (a && false) ≡ false
 and-false true = refl
 and-false false = refl
+
+-- A pair of a Void's is from a slot.
+void-from : (d : Design) (p : NetPair) → pairOf d p ≡ ofVoid → (i : ℕ) × (p .from ≡ slot i)
+void-from d p e = go (p .from) refl
+  where
+    never : (s : Bool) → cond s equal ordinary ≡ ofVoid → ⊥
+    never true q = let z : _≡_ {A = ℕ} 0 1 = cc in omega arith
+    never false q = let z : _≡_ {A = ℕ} 0 1 = cc in omega arith
+
+    go : (n : Net) → p .from ≡ n → (i : ℕ) × (p .from ≡ slot i)
+    go (constant t) q = absurd (never (sameNet (constant t) (p .to)) (rw q at e))
+    go (slot i) q = (i, q)
 
 -- A slot of an IoBuf reads its current trit.
 given-current : (d : Design) (p : Placed) (j : ℕ) → cellOf d j ≡ p → role (p .cell) ≡ reading.given → readsPast d j ≡ false
@@ -193,3 +205,39 @@ module _ (d : Design) (laid : Laid d) (no-loop : hasLoop d ≡ false) (g : Trits
 
   join-passes : (from to : Net) → ofNet (g .was) from ≡ ofNet (g .was) to → joinTest (readsPast d) from to solved ≡ true
   join-passes from to e = equal-pass _ _ (past-bits from ∙ ap (λ (t : Trit). tb (xOf t ∷ []) (yOf t ∷ [])) e ∙ sym (past-bits to))
+
+  -- ---- a replaced Void has the bits of its replacement's `to` as read
+
+  void-passes : (p : NetPair) → pairOf d p ≡ ofVoid → VoidShown (bitRule d was) d now p → voidTest (readsPast d) (p .from) (p .to) solved ≡ true
+  unfolding readBits pairs
+  void-passes p e shown = go (void-from d p e)
+    where
+      first : (n q : BitPair) → n ∷ [] ≡ q ∷ [] → n ≡ q
+      first n q h = cc
+
+      at : (i : ℕ) → p .from ≡ slot i → currBits (readsPast d) solved (p .from ∷ []) ≡ netBit (readsPast d) solved (p .to)
+      at i q = rw q (ap (λ (n : BitPair). tb (n .x ∷ []) (n .y ∷ [])) (first (now i) _ (shown e i q)))
+
+      go : (i : ℕ) × (p .from ≡ slot i) → voidTest (readsPast d) (p .from) (p .to) solved ≡ true
+      go s = equal-pass _ _ (at (s .0) (s .1))
+
+  pair-said : (k : Pair) (p : NetPair) → pairOf d p ≡ k → VoidShown (bitRule d was) d now p
+      → (reading.Joined d p → ofNet (g .was) (p .from) ≡ ofNet (g .was) (p .to)) → Each (SaidOf solved) (meantPair (readsPast d) k p)
+  pair-said equal p e shown alike = tt
+  pair-said ofVoid p e shown alike = (void-passes p e shown, tt)
+  pair-said ofDffs p e shown alike = (join-passes (p .from) (p .to) (alike e), (tt, (tt, tt)))
+  pair-said ordinary p e shown alike = (tt, tt)
+
+  pairs-said : (pairs : List NetPair) → Each (VoidShown (bitRule d was) d now) pairs
+      → Each (λ (p : NetPair). reading.Joined d p → ofNet (g .was) (p .from) ≡ ofNet (g .was) (p .to)) pairs → Each (SaidOf solved) (meantPairs d pairs)
+  unfolding meantPairs
+  pairs-said [] shown alike = tt
+  pairs-said (p ∷ rest) shown alike =
+      each-append (SaidOf solved) (meantPair (readsPast d) (pairOf d p) p) (meantPairs d rest) (pair-said (pairOf d p) p refl (shown .0) (alike .0))
+      (pairs-said rest (shown .1) (alike .1))
+
+  -- The solved bits pass every asserted test.
+  pub solved-said : Alike d g → Each (SaidOf solved) (meantSteps d)
+  solved-said alike =
+      each-append (SaidOf solved) (meantCells d (d .cells)) (meantPairs d (d .netReps))
+      (cells-said (d .cells) (laid .cells) (solution .cells) (whole-cells d laid)) (pairs-said (d .netReps) (solution .voids) alike)
