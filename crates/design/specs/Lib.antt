@@ -11,3 +11,4 @@ pub mod WorkMeets
 pub mod StepsSafe
 pub mod Requirement3
 pub mod Solved
+pub mod Prefix
