@@ -12,3 +12,4 @@ pub mod StepsSafe
 pub mod Requirement3
 pub mod Solved
 pub mod Prefix
+pub mod Exists

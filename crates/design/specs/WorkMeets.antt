@@ -67,7 +67,7 @@ module _ (slots : ℕ) (b : NetBits) (L : List Value) (TS : List Temp) where
   srt = σ slots b L TS
 
   pub record WorkMet (ms : List Meant) (s : St) (r : Ran) : Type 0 where
-    pub holds : (rest : List Call) → Holds asg val ((work (stepsOf ms) s) .st .next) rest → Holds asg val (s .next) ((work (stepsOf ms) s) .calls ++ rest)
+    pub holds : Each (MeantIs asg val) ms → Each (SaidOf (netBits asg)) ms → (rest : List Call) → Holds asg val ((work (stepsOf ms) s) .st .next) rest → Holds asg val (s .next) ((work (stepsOf ms) s) .calls ++ rest)
     pub sorted : (rest : List Call) → WellSorted srt ((work (stepsOf ms) s) .st .next) rest → WellSorted srt (s .next) ((work (stepsOf ms) s) .calls ++ rest)
     pub obligations : All (Truth ((work (stepsOf ms) s) .st .next) srt) ((work (stepsOf ms) s) .res)
     pub up : s .next ≤ (work (stepsOf ms) s) .st .next
@@ -96,49 +96,51 @@ module _ (slots : ℕ) (b : NetBits) (L : List Value) (TS : List Temp) where
       let g = grows-work b rest ((emit q s) .st) (r .values) (r .temps) in
       meets slots b L TS q s l ts Q h (extends-trans (bool false) (r .values) _ L (g .values) x) (extends-trans noTemp (r .temps) _ TS (g .temps) y) fits
 
-  pub work-meets : (ms : List Meant) (s : St) (l : List Value) (ts : List Temp) → Each (Safe slots) ms → Each (MeantIs asg val) ms
-      → Each (SaidOf (netBits asg)) ms → Here slots b L TS s l ts
+  pub work-meets : (ms : List Meant) (s : St) (l : List Value) (ts : List Temp) → Each (Safe slots) ms → Here slots b L TS s l ts
       → Extends (bool false) ((execWork b (stepsOf ms) s l ts) .values) L → Extends noTemp ((execWork b (stepsOf ms) s l ts) .temps) TS
       → WorkMet ms s (execWork b (stepsOf ms) s l ts)
   unfolding work execWork
-  work-meets [] s l ts fits is said h x y = record { holds = λ rest q. q; sorted = λ rest q. q; obligations = tt; up = omega arith; here = h }
-  work-meets (m ∷ ms) s l ts fits is said h x y = go (λ s′ l′ ts′. work-meets ms s′ l′ ts′ (fits .1) (is .1) (said .1)) (m .step) (m .test) (fits .0 .fits srt (s .next)) (is .0) (said .0) x y
+  work-meets [] s l ts fits h x y =
+      record { holds = λ is said rest q. q; sorted = λ rest q. q; obligations = tt; up = omega arith; here = h }
+  work-meets (m ∷ ms) s l ts fits h x y =
+      go (λ s′ l′ ts′. work-meets ms s′ l′ ts′ (fits .1)) (m .step) (m .test) (fits .0 .fits srt (s .next)) x y
     where
       go : ((s′ : St) (l′ : List Value) (ts′ : List Temp) → Here slots b L TS s′ l′ ts′
           → Extends (bool false) ((execWork b (stepsOf ms) s′ l′ ts′) .values) L → Extends noTemp ((execWork b (stepsOf ms) s′ l′ ts′) .temps) TS
           → WorkMet ms s′ (execWork b (stepsOf ms) s′ l′ ts′))
-          → (p : Step) (t : NetBits → Bool) → StepSafe slots srt (s .next) p → StepIs asg val p t → Said (netBits asg) p t
+          → (p : Step) (t : NetBits → Bool) → StepSafe slots srt (s .next) p
           → Extends (bool false) ((execWork b (p ∷ stepsOf ms) s l ts) .values) L → Extends noTemp ((execWork b (p ∷ stepsOf ms) s l ts) .temps) TS
           → WorkMet (meant p t ∷ ms) s (execWork b (p ∷ stepsOf ms) s l ts)
-      go rec (declared q) t safe is said x y =
+      go rec (declared q) t safe x y =
           let met = met-by q s l ts (stepsOf ms) _ h x y safe in
           let w = rec ((emit q s) .st) ((exec b q s l ts) .values) ((exec b q s l ts) .temps) (met .here) x y in
           let low = up-by q s l ts _ h met in
           record {
-            holds = λ rest k. rw append-assoc (met .holds _ (w .holds rest k));
+            holds = λ is said rest k. rw append-assoc (met .holds _ (w .holds (is .1) (said .1) rest k));
             sorted = λ rest k. rw append-assoc (met .sorted _ (w .sorted rest k));
             obligations = w .obligations;
             up = let high = w .up in omega arith;
             here = w .here;
           }
-      go rec (asserted q) t safe is said x y =
+      go rec (asserted q) t safe x y =
           let met = met-by q s l ts (stepsOf ms) _ h x y safe in
           let w = rec ((emit q s) .st) ((exec b q s l ts) .values) ((exec b q s l ts) .temps) (met .here) x y in
-          let z = wp-sound asg val q s _ [] (here-known slots b L TS s l ts h) (met .holds [] tt) is in
           let low = up-by q s l ts _ h met in
           record {
-            holds = λ rest k. rw append-assoc (met .holds _ (z .post ∙ ap bool said, w .holds rest k));
+            holds = λ is said rest k. rw append-assoc (met .holds _
+                ((wp-sound asg val q s _ [] (here-known slots b L TS s l ts h) (met .holds [] tt) (is .0)) .post ∙ ap bool (said .0),
+                w .holds (is .1) (said .1) rest k));
             sorted = λ rest k. rw append-assoc (met .sorted _ (met .post, w .sorted rest k));
             obligations = w .obligations;
             up = let high = w .up in omega arith;
             here = w .here;
           }
-      go rec (obliged q) t safe is said x y =
+      go rec (obliged q) t safe x y =
           let met = met-by q s l ts (stepsOf ms) _ h x y safe in
           let w = rec ((emit q s) .st) ((exec b q s l ts) .values) ((exec b q s l ts) .temps) (met .here) x y in
           let low = up-by q s l ts _ h met in
           record {
-            holds = λ rest k. rw append-assoc (met .holds _ (w .holds rest k));
+            holds = λ is said rest k. rw append-assoc (met .holds _ (w .holds (is .1) (said .1) rest k));
             sorted = λ rest k. rw append-assoc (met .sorted _ (w .sorted rest k));
             obligations = (later-truth (w .up) (met .post), w .obligations);
             up = let high = w .up in omega arith;

@@ -1,0 +1,104 @@
+-- For given trits, alike on joined flip-flops, an assignment that shows them and satisfies every assertion but the query; and the
+-- calls but the query are well sorted.
+use mathlib.Core.Path.{_≡_, refl, sym, ap, ap₂, _∙_, subst, fun-ext}
+use mathlib.Core.Bool.{Bool, true, false}
+use mathlib.Core.List.{List, [], _∷_, _++_, map, append-nil}
+use Prim.Native.Nat.{ℕ, zero, suc, _+_, _*_, _≤_, _<_}
+use native.Mathlib.Omega.{arith}
+use lib.ListN.{length, getD, replicate}
+use Rattle.cell.specs.Design.{Design, total}
+use Rattle.rules.specs.CellRule.{Trits}
+use Rattle.engine.specs.Call.{Name, Call}
+use Rattle.engine.specs.Call as c
+use Rattle.engine.specs.Meaning.{Value, bool, bits, Assignment, valueAt, run, Fits, Asserted, Holds, Earlier, Sat}
+use Rattle.engine.specs.Laws.{holds-sat}
+use Rattle.working_out.specs.Reading.{Each, source, Alike}
+use Rattle.working_out.specs.Laid.{Laid}
+use Rattle.working_out.specs.Loop.{hasLoop}
+use Rattle.smt.specs.Prog.{Age, curr, past, Half, isUndef, isOne, buildAnd, buildNot}
+use Rattle.smt.specs.Emit.{St, emit, place, netName}
+use Rattle.soundness.specs.Formula.{NetBits, netBits}
+use Rattle.soundness.specs.CellShows.{tritsOf}
+use Rattle.soundness.specs.Solve.{Extends, extends-refl, Temp, noTemp, Ran, assigned, assigned-net, WellSorted, sorted-earlier, Here, v, ρ, σ}
+use Rattle.design.specs.Verify.{start, steps, work, built, asked, query, verify}
+use Rattle.design.specs.Meant.{Meant, stepsOf, meantSteps, steps-are, steps-mean}
+use Rattle.design.specs.WorkSound.{SaidOf}
+use Rattle.design.specs.WorkMeets.{execWork, WorkMet, work-meets}
+use Rattle.design.specs.StepsSafe.{Bounds, steps-safe}
+use Rattle.design.specs.Solved.{solved, solved-now, solved-was, solved-said}
+use Rattle.design.specs.Prefix.{asserted-on, fits-append}
+use Rattle.design.specs.Requirement3.{Shows, tritIn, givenTrit, IsSource, queryCalls}
+
+-- The bits that an assignment of nets' bits gives the nets.
+pub net-bits : (b : NetBits) (ts : List Temp) → netBits (assigned b ts) ≡ b
+net-bits b ts = fun-ext λ a. fun-ext λ i. fun-ext λ h. ap (λ (s : _). getD s 0 false) (assigned-net b ts a i h)
+
+-- Nothing is declared at the start.
+zeros-none : (n p k : ℕ) → getD (replicate n 0) p 0 ≡ suc k → ⊥
+zeros-none zero p k e = omega arith
+zeros-none (suc n) zero k e = omega arith
+zeros-none (suc n) (suc p) k e = zeros-none n p k e
+
+-- The query declares nothing.
+pub query-fits : (ρ : Assignment) (n : ℕ) (l : List ℕ) → Fits ρ (queryCalls n l)
+query-fits ρ n [] = tt
+query-fits ρ n (o ∷ l) = tt
+
+module _ (d : Design) (laid : Laid d) (bounds : Bounds d) where
+  -- The values and the temporaries of the whole run, of the nets' bits.
+  abbrev whole : NetBits → Ran
+  whole b = execWork b (stepsOf (meantSteps d)) (start (total d)) [] []
+
+  here : (b : NetBits) (L : List Value) (TS : List Temp) → Here (total d) b L TS (start (total d)) [] []
+  here b L TS = record { terms = refl; temps = refl; names = λ a i h k e. absurd (zeros-none (4 * total d) (place a i h) k e) }
+
+  abbrev L : NetBits → List Value
+  L b = (whole b) .values
+
+  abbrev TS : NetBits → List Temp
+  TS b = (whole b) .temps
+
+  met : (b : NetBits) → WorkMet (total d) b (L b) (TS b) (meantSteps d) (start (total d)) (whole b)
+  met b =
+      work-meets (total d) b (L b) (TS b) (meantSteps d) (start (total d)) [] [] (steps-safe d laid bounds)
+      (here b (L b) (TS b)) (extends-refl (bool false) (L b)) (extends-refl noTemp (TS b))
+
+  -- The calls but the query refer to earlier terms only, of the sorts that SMT-LIB asks, whatever the bits.
+  pub but : List Call
+  but = (work (stepsOf (meantSteps d)) (start (total d))) .calls
+
+  pub but-sorted : (b : NetBits) → WellSorted (σ (total d) b (L b) (TS b)) 0 but
+  unfolding but
+  but-sorted b = rw append-nil at ((met b) .sorted [] tt)
+
+  pub but-earlier : Earlier 0 but
+  but-earlier = sorted-earlier _ 0 but (but-sorted (λ a i h. false))
+
+  -- Bits that pass the asserted tests satisfy the assertions but the query.
+  pub tests-sat : (b : NetBits) → Each (SaidOf b) (meantSteps d) → Sat (assigned b (TS b)) but
+  unfolding but
+  tests-sat b said =
+      holds-sat (assigned b (TS b)) (valueAt (L b)) but but-earlier
+      (rw append-nil at ((met b) .holds (steps-mean d laid (ρ (total d) b (L b) (TS b)) (v (total d) b (L b) (TS b)))
+      (subst (λ (x : NetBits). Each (SaidOf x) (meantSteps d)) (sym (net-bits b (TS b))) said) [] tt))
+
+  -- Whatever the query asks: the solved bits.
+  pub exists : hasLoop d ≡ false → (n : ℕ) (l : List ℕ) (g : Trits) → Alike d g → (ρ : Assignment) × Shows d g (but ++ queryCalls n l) but ρ
+  exists no-loop n l g alike = (ρ* , record {
+    fits = fits-append ρ* but (queryCalls n l) (sat .0) (query-fits ρ* n l);
+    sources = λ a i h s _. shown a i s;
+    satisfied = asserted-on ρ* but (queryCalls n l) but-earlier (sat .1);
+  })
+    where
+      b : NetBits
+      b = solved d laid no-loop g
+
+      ρ* : Assignment
+      ρ* = assigned b (TS b)
+
+      sat : Sat ρ* but
+      sat = tests-sat b (solved-said d laid no-loop g alike)
+
+      shown : (a : Age) (i : ℕ) → IsSource d a i → tritIn ρ* a i ≡ givenTrit g a i
+      shown curr i s = solved-now d laid no-loop g i s
+      shown past i s = solved-was d laid no-loop g i
