@@ -34,7 +34,7 @@ pub net-bits : (b : NetBits) (ts : List Temp) → netBits (assigned b ts) ≡ b
 net-bits b ts = fun-ext λ a. fun-ext λ i. fun-ext λ h. ap (λ (s : _). getD s 0 false) (assigned-net b ts a i h)
 
 -- Nothing is declared at the start.
-zeros-none : (n p k : ℕ) → getD (replicate n 0) p 0 ≡ suc k → ⊥
+pub zeros-none : (n p k : ℕ) → getD (replicate n 0) p 0 ≡ suc k → ⊥
 zeros-none zero p k e = omega arith
 zeros-none (suc n) zero k e = omega arith
 zeros-none (suc n) (suc p) k e = zeros-none n p k e
@@ -43,6 +43,10 @@ zeros-none (suc n) (suc p) k e = zeros-none n p k e
 pub query-fits : (ρ : Assignment) (n : ℕ) (l : List ℕ) → Fits ρ (queryCalls n l)
 query-fits ρ n [] = tt
 query-fits ρ n (o ∷ l) = tt
+
+-- The calls but the query.
+unfoldable pub but : Design → List Call
+but d = (work (stepsOf (meantSteps d)) (start (total d))) .calls
 
 module _ (d : Design) (laid : Laid d) (bounds : Bounds d) where
   -- The values and the temporaries of the whole run, of the nets' bits.
@@ -63,31 +67,28 @@ module _ (d : Design) (laid : Laid d) (bounds : Bounds d) where
       work-meets (total d) b (L b) (TS b) (meantSteps d) (start (total d)) [] [] (steps-safe d laid bounds)
       (here b (L b) (TS b)) (extends-refl (bool false) (L b)) (extends-refl noTemp (TS b))
 
-  -- The calls but the query refer to earlier terms only, of the sorts that SMT-LIB asks, whatever the bits.
-  pub but : List Call
-  but = (work (stepsOf (meantSteps d)) (start (total d))) .calls
-
-  pub but-sorted : (b : NetBits) → WellSorted (σ (total d) b (L b) (TS b)) 0 but
+  -- They refer to earlier terms only, of the sorts that SMT-LIB asks, whatever the bits.
+  pub but-sorted : (b : NetBits) → WellSorted (σ (total d) b (L b) (TS b)) 0 (but d)
   unfolding but
   but-sorted b = rw append-nil at ((met b) .sorted [] tt)
 
-  pub but-earlier : Earlier 0 but
-  but-earlier = sorted-earlier _ 0 but (but-sorted (λ a i h. false))
+  pub but-earlier : Earlier 0 (but d)
+  but-earlier = sorted-earlier _ 0 (but d) (but-sorted (λ a i h. false))
 
   -- Bits that pass the asserted tests satisfy the assertions but the query.
-  pub tests-sat : (b : NetBits) → Each (SaidOf b) (meantSteps d) → Sat (assigned b (TS b)) but
+  pub tests-sat : (b : NetBits) → Each (SaidOf b) (meantSteps d) → Sat (assigned b (TS b)) (but d)
   unfolding but
   tests-sat b said =
-      holds-sat (assigned b (TS b)) (valueAt (L b)) but but-earlier
+      holds-sat (assigned b (TS b)) (valueAt (L b)) (but d) but-earlier
       (rw append-nil at ((met b) .holds (steps-mean d laid (ρ (total d) b (L b) (TS b)) (v (total d) b (L b) (TS b)))
       (subst (λ (x : NetBits). Each (SaidOf x) (meantSteps d)) (sym (net-bits b (TS b))) said) [] tt))
 
   -- Whatever the query asks: the solved bits.
-  pub exists : hasLoop d ≡ false → (n : ℕ) (l : List ℕ) (g : Trits) → Alike d g → (ρ : Assignment) × Shows d g (but ++ queryCalls n l) but ρ
+  pub exists : hasLoop d ≡ false → (n : ℕ) (l : List ℕ) (g : Trits) → Alike d g → (ρ : Assignment) × Shows d g ((but d) ++ queryCalls n l) (but d) ρ
   exists no-loop n l g alike = (ρ* , record {
-    fits = fits-append ρ* but (queryCalls n l) (sat .0) (query-fits ρ* n l);
+    fits = fits-append ρ* (but d) (queryCalls n l) (sat .0) (query-fits ρ* n l);
     sources = λ a i h s _. shown a i s;
-    satisfied = asserted-on ρ* but (queryCalls n l) but-earlier (sat .1);
+    satisfied = asserted-on ρ* (but d) (queryCalls n l) but-earlier (sat .1);
   })
     where
       b : NetBits
@@ -96,7 +97,7 @@ module _ (d : Design) (laid : Laid d) (bounds : Bounds d) where
       ρ* : Assignment
       ρ* = assigned b (TS b)
 
-      sat : Sat ρ* but
+      sat : Sat ρ* (but d)
       sat = tests-sat b (solved-said d laid no-loop g alike)
 
       shown : (a : Age) (i : ℕ) → IsSource d a i → tritIn ρ* a i ≡ givenTrit g a i

@@ -13,3 +13,6 @@ pub mod Requirement3
 pub mod Solved
 pub mod Prefix
 pub mod Exists
+pub mod Filled
+pub mod Numbered
+pub mod Theorem
