@@ -10,8 +10,8 @@ use Rattle.cell.specs.Design.{Design, total}
 use Rattle.rules.specs.CellRule.{Trits}
 use Rattle.engine.specs.Call.{Name, Call}
 use Rattle.engine.specs.Call as c
-use Rattle.engine.specs.Meaning.{Value, bool, bits, Assignment, valueAt, run, Fits, Asserted, Holds, Earlier, Sat}
-use Rattle.engine.specs.Laws.{holds-sat}
+use Rattle.engine.specs.Meaning.{Value, bool, bits, Assignment, valueAt, run, Fits, Asserted, Holds, Earlier, Sat, All, terms}
+use Rattle.engine.specs.Laws.{All-map, holds-sat}
 use Rattle.working_out.specs.Reading.{Each, source, Alike}
 use Rattle.working_out.specs.Laid.{Laid}
 use Rattle.working_out.specs.Loop.{hasLoop}
@@ -19,8 +19,10 @@ use Rattle.smt.specs.Prog.{Age, curr, past, Half, isUndef, isOne, buildAnd, bui
 use Rattle.smt.specs.Emit.{St, emit, place, netName}
 use Rattle.soundness.specs.Formula.{NetBits, netBits}
 use Rattle.soundness.specs.CellShows.{tritsOf}
+use Rattle.soundness.specs.Safe.{Truth}
 use Rattle.soundness.specs.Solve.{Extends, extends-refl, Temp, noTemp, Ran, assigned, assigned-net, WellSorted, sorted-earlier, Here, v, ρ, σ}
-use Rattle.design.specs.Verify.{start, steps, work, built, asked, query, verify}
+use Rattle.design.specs.Verify.{start, steps, work}
+use Rattle.design.specs.Numbered.{work-next}
 use Rattle.design.specs.Meant.{Meant, stepsOf, meantSteps, steps-are, steps-mean}
 use Rattle.design.specs.WorkSound.{SaidOf}
 use Rattle.design.specs.WorkMeets.{execWork, WorkMet, work-meets}
@@ -48,6 +50,10 @@ query-fits ρ n (o ∷ l) = tt
 unfoldable pub but : Design → List Call
 but d = (work (stepsOf (meantSteps d)) (start (total d))) .calls
 
+-- The terms of the obligations, the arguments of the query's and.
+unfoldable pub asked : Design → List ℕ
+asked d = (work (stepsOf (meantSteps d)) (start (total d))) .res
+
 module _ (d : Design) (laid : Laid d) (bounds : Bounds d) where
   -- The values and the temporaries of the whole run, of the nets' bits.
   abbrev whole : NetBits → Ran
@@ -74,6 +80,18 @@ module _ (d : Design) (laid : Laid d) (bounds : Bounds d) where
 
   pub but-earlier : Earlier 0 (but d)
   but-earlier = sorted-earlier _ 0 (but d) (but-sorted (λ a i h. false))
+
+  -- The obligations' terms are among them.
+  pub asked-earlier : All (λ k. k < terms (but d)) (asked d)
+  unfolding but asked
+  asked-earlier =
+      All-map (Truth ((work (stepsOf (meantSteps d)) (start (total d))) .st .next) (σ (total d) none (L none) (TS none)))
+      (λ k. k < terms ((work (stepsOf (meantSteps d)) (start (total d))) .calls))
+      (λ k t. let l = t .0 in let n = work-next (stepsOf (meantSteps d)) (start (total d)) in omega arith)
+      ((work (stepsOf (meantSteps d)) (start (total d))) .res) ((met none) .obligations)
+    where
+      none : NetBits
+      none a i h = false
 
   -- Bits that pass the asserted tests satisfy the assertions but the query.
   pub tests-sat : (b : NetBits) → Each (SaidOf b) (meantSteps d) → Sat (assigned b (TS b)) (but d)

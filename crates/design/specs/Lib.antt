@@ -10,9 +10,9 @@ pub mod Judged
 pub mod WorkMeets
 pub mod StepsSafe
 pub mod Requirement3
+pub mod Numbered
 pub mod Solved
 pub mod Prefix
 pub mod Exists
 pub mod Filled
-pub mod Numbered
 pub mod Theorem

@@ -13,7 +13,7 @@ use Rattle.rules.specs.Refine.{Refines}
 use Rattle.engine.specs.Call.{Name, Call}
 use Rattle.engine.specs.Call as c
 use Rattle.engine.specs.Meaning.{Value, bool, asBool, Assignment, valueAt, run, Fits, Asserted, Holds, Earlier, Sat, terms, All}
-use Rattle.engine.specs.Laws.{sat-holds}
+use Rattle.engine.specs.Laws.{All-map, sat-holds}
 use Rattle.working_out.specs.Reading.{Each, source, Alike}
 use Rattle.working_out.specs.Laid.{Laid}
 use Rattle.working_out.specs.Loop.{hasLoop}
@@ -27,7 +27,7 @@ use Rattle.soundness.specs.Formula.{NetBits, netBits}
 use Rattle.soundness.specs.Wp.{Known}
 use Rattle.soundness.specs.Safe.{Truth}
 use Rattle.soundness.specs.CellShows.{tritsOf}
-use Rattle.design.specs.Verify.{start, steps, work, built, asked, verify}
+use Rattle.design.specs.Verify.{start}
 use Rattle.design.specs.Meant.{stepsOf, meantSteps, steps-are, steps-mean}
 use Rattle.design.specs.WorkSound.{SaidOf, asks, truths, Worked, work-sound}
 use Rattle.design.specs.StepsSafe.{Bounds}
@@ -35,8 +35,13 @@ use Rattle.design.specs.Shown.{tests-solve}
 use Rattle.design.specs.Judged.{steps-judged}
 use Rattle.design.specs.Prefix.{value-on, asserted-back, fits-left, run-agrees, fits-agrees}
 use Rattle.design.specs.Filled.{filled, filled-agrees, filled-shows}
-use Rattle.design.specs.Exists.{zeros-none, but, but-earlier, exists}
+use Rattle.design.specs.Exists.{zeros-none, but, but-earlier, asked, asked-earlier, exists}
 use Rattle.design.specs.Requirement3.{Declared, tritIn, givenTrit, IsSource, Shows, queryCalls, Turned, Requirement3}
+
+-- Two functions that agree on a list's elements.
+map-same : {A : Type 0} (f h : ℕ → A) (l : List ℕ) → All (λ k. f k ≡ h k) l → map f l ≡ map h l
+map-same f h [] e = refl
+map-same f h (k ∷ l) e = ap₂ (λ (x : _) (r : List _). x ∷ r) (e .0) (map-same f h l (e .1))
 
 module _ (d : Design) (laid : Laid d) (bounds : Bounds d) (n : ℕ) (asked-terms : List ℕ) where
   abbrev calls : List Call
@@ -96,3 +101,30 @@ module _ (d : Design) (laid : Laid d) (bounds : Bounds d) (n : ℕ) (asked-terms
 
     pub shown-past : (i : ℕ) → Declared calls past i → tritIn ρ past i ≡ g .was i
     shown-past i m = declared-same past i m ∙ was-given i
+
+    all-trits : tritsOf (netBits (filled g calls ρ)) ≡ whole d g
+    all-trits = λ t. record { now = fun-ext now-worked t; was = fun-ext was-given t }
+
+    -- The value of an obligation's term is the same in the calls but the query.
+    value-same : (k : ℕ) → k < terms (but d)
+        → valueAt (run ρ [] calls) k ≡ valueAt (run (filled g calls ρ) [] (but d)) k
+    value-same k l = ap (λ (r : List Value). valueAt r k) same-run ∙ value-on (filled g calls ρ) (but d) (queryCalls n asked-terms) k l
+
+    pub judged : map (λ k. asBool (valueAt (run ρ [] calls) k)) (asked d) ≡ map (λ o. not (broken d (whole d g) o)) (obligations d)
+    unfolding asked truths
+    judged =
+        map-same _ _ (asked d) (All-map _ _ (λ k l. ap asBool (value-same k l)) (asked d) (asked-earlier d laid bounds))
+        ∙ done .judged ∙ steps-judged d (netBits (filled g calls ρ)) laid
+        ∙ ap (λ (θ : Trits). map (λ (o : Obligation). not (broken d θ o)) (obligations d)) all-trits
+
+  module _ (no-loop : hasLoop d ≡ false) where
+    pub monotone : (g g′ : Trits) → Turned g g′ → (ρ ρ′ : Assignment) → Shows d g calls (but d) ρ → Shows d g′ calls (but d) ρ′
+        → (a : Age) (i : ℕ) → Declared calls a i → Refines (tritIn ρ a i) (tritIn ρ′ a i)
+    monotone g g′ t ρ ρ′ s s′ curr i m =
+        rw (shown no-loop g ρ s i m, shown no-loop g′ ρ′ s′ i m) (worked.monotone d laid no-loop g g′ (λ j _. t .now j) (t .was) i)
+    monotone g g′ t ρ ρ′ s s′ past i m = rw (shown-past no-loop g ρ s i m, shown-past no-loop g′ ρ′ s′ i m) (t .was i)
+
+    pub choiceless : (g : Trits) (ρ ρ′ : Assignment) → Shows d g calls (but d) ρ → Shows d g calls (but d) ρ′
+        → (a : Age) (i : ℕ) → Declared calls a i → tritIn ρ a i ≡ tritIn ρ′ a i
+    choiceless g ρ ρ′ s s′ curr i m = shown no-loop g ρ s i m ∙ sym (shown no-loop g ρ′ s′ i m)
+    choiceless g ρ ρ′ s s′ past i m = shown-past no-loop g ρ s i m ∙ sym (shown-past no-loop g ρ′ s′ i m)
