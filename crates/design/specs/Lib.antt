@@ -15,4 +15,5 @@ pub mod Solved
 pub mod Prefix
 pub mod Exists
 pub mod Filled
+pub mod Declares
 pub mod Theorem
