@@ -73,7 +73,7 @@ refines-shown (lane a b p) (lane u w q) =
     regroup (bv.same u (u && a)) (bv.same (not a && b) (not a && w)) _ _ ∙ ap₂ _&&_ (lane-refines a b u w) (refines-shown p q)
 
 -- An asserted cell is claimed.
-asserted-claimed : (a : Cell) → asserted a ≡ true → isInput a ≡ false
+pub asserted-claimed : (a : Cell) → asserted a ≡ true → isInput a ≡ false
 asserted-claimed c.void h = refl
 asserted-claimed c.note h = refl
 asserted-claimed (c.input n) h = absurd (false≢true h)

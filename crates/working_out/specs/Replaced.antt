@@ -14,7 +14,7 @@ use Rattle.working_out.specs.Reading.{Each, cellOf, role, isVoid, isDff,
 use Rattle.working_out.specs.Reading.{ofVoid, ofDffs, ordinary, netRole, pairOf}
 use Rattle.working_out.specs.Laid.{Ascending}
 
-same-slot : (n : Net) (i : ℕ) → sameNet n (slot i) ≡ true → n ≡ slot i
+pub same-slot : (n : Net) (i : ℕ) → sameNet n (slot i) ≡ true → n ≡ slot i
 same-slot (constant t) i e = absurd (false≢true e)
 same-slot (slot j) i e = ap slot (eqb→eq j i (rw e tt))
 
@@ -33,7 +33,7 @@ void-pair d p e =
     go false q false r true e = absurd (let z : _≡_ {A = ℕ} 0 1 = cc in omega arith)
     go false q false r false e = absurd (let z : _≡_ {A = ℕ} 0 1 = cc in omega arith)
 
-pair-void : (d : Design) (p : NetPair) → sameNet (p .from) (p .to) ≡ false → isVoid (netRole d (p .from)) ≡ true
+pub pair-void : (d : Design) (p : NetPair) → sameNet (p .from) (p .to) ≡ false → isVoid (netRole d (p .from)) ≡ true
     → pairOf d p ≡ ofVoid
 pair-void d p e v = rw (e, v)
 
