@@ -26,7 +26,21 @@ use Rattle.smt.specs.Builder.{bvConst, tvConst, netOf, collect, valueOf, currNe
 use Rattle.smt.specs.Emit.{St, Out, emit, place, netName, at, learn, reread, bound, bound2, after, known}
 use Rattle.soundness.specs.Wp.{emit-seq, place-inj, stored, and-true}
 use Rattle.design.specs.Verify.{
-  Step, declared, asserted, obliged, isInput, claim, addCell, replaceVoidNet, cellSteps, pairSteps, eachCell, eachPair, steps, work, start,
+  Step,
+  declared,
+  asserted,
+  obliged,
+  isInput,
+  claim,
+  addCell,
+  replaceVoidNet,
+  cellSteps,
+  pairSteps,
+  eachCell,
+  eachPair,
+  steps,
+  work,
+  start,
 }
 use Rattle.design.specs.BitRule.{asserted-some}
 use Rattle.design.specs.Shown.{asserted-claimed}

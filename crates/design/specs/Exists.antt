@@ -103,11 +103,14 @@ module _ (d : Design) (laid : Laid d) (bounds : Bounds d) where
 
   -- Whatever the query asks: the solved bits.
   pub exists : hasLoop d ≡ false → (n : ℕ) (l : List ℕ) (g : Trits) → Alike d g → (ρ : Assignment) × Shows d g ((but d) ++ queryCalls n l) (but d) ρ
-  exists no-loop n l g alike = (ρ* , record {
-    fits = fits-append ρ* (but d) (queryCalls n l) (sat .0) (query-fits ρ* n l);
-    sources = λ a i h s _. shown a i s;
-    satisfied = asserted-on ρ* (but d) (queryCalls n l) but-earlier (sat .1);
-  })
+  exists no-loop n l g alike = (
+    ρ*,
+    record {
+      fits = fits-append ρ* (but d) (queryCalls n l) (sat .0) (query-fits ρ* n l);
+      sources = λ a i h s _. shown a i s;
+      satisfied = asserted-on ρ* (but d) (queryCalls n l) but-earlier (sat .1);
+    },
+  )
     where
       b : NetBits
       b = solved d laid no-loop g

@@ -27,7 +27,19 @@ use Rattle.design.specs.Verify.{Step, declared, asserted, obliged, claim
 use Rattle.design.specs.Found.{placed, own-cells, may-replace, New, new-found}
 use Rattle.design.specs.Replacements.{foundAt, inCells, wide, design-in-order}
 use Rattle.design.specs.Meant.{
-  Meant, meantAdd, meantNew, meantCell, meantCells, meantPair, meantPairs, meantSteps, newTest, netTest, currentTest, claimTest, positive,
+  Meant,
+  meantAdd,
+  meantNew,
+  meantCell,
+  meantCells,
+  meantPair,
+  meantPairs,
+  meantSteps,
+  newTest,
+  netTest,
+  currentTest,
+  claimTest,
+  positive,
 }
 use Rattle.design.specs.WorkSound.{ask, asks}
 use Rattle.design.specs.Shown.{refines-shown, current-shows, outputs-show}

@@ -25,8 +25,25 @@ use Rattle.soundness.specs.Terms.{Is, netOf-wp, valueOf-wp, tvEq-wp, tvRefines-
 use Rattle.soundness.specs.CellBits.{NotInput, valueBits, netBit, pastBits, currBits, cellBits, net-wp, cell-wp}
 use Rattle.design.specs.Found.{own-cells, may-replace, new-found}
 use Rattle.design.specs.Verify.{
-  Step, declared, asserted, obliged, isInput, claim, addCell, newCell, replaceNet, replaceVoidNet, joinPasts, currents, newCellIn, withNew, cellSteps,
-  pairSteps, eachCell, eachPair, steps,
+  Step,
+  declared,
+  asserted,
+  obliged,
+  isInput,
+  claim,
+  addCell,
+  newCell,
+  replaceNet,
+  replaceVoidNet,
+  joinPasts,
+  currents,
+  newCellIn,
+  withNew,
+  cellSteps,
+  pairSteps,
+  eachCell,
+  eachPair,
+  steps,
 }
 
 pub record Meant : Type 0 where

@@ -124,7 +124,7 @@ in-order (p ∷ cells) (r ∷ reps) s e run up h below =
         → Dec (r .slot ≡ p .slot) → inCells (r ∷ reps) (p ∷ cells) ≡ wide (r ∷ reps)
     go same more (yes q) =
         let rest = same (subst (λ (k : ℕ). Each (Heads cells (k + slotsOf (p .cell))) reps) start
-            (later p cells reps (above (p .slot) r reps (omega arith) (up .0)) (heads .1))) (below .1) in
+        (later p cells reps (above (p .slot) r reps (omega arith) (up .0)) (heads .1))) (below .1) in
         rw (at-first p r reps q, passed r reps cells next e (omega arith) (run .1), rest, ← first-width p cells r q (heads .0), ← q)
     go same more (no q) =
         let l : p .slot < r .slot = (let k = heads .0 .low in omega arith) in

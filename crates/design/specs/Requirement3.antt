@@ -43,6 +43,9 @@ bitIn ρ name = getD (ρ name) 0 false
 abbrev pub tritIn : Assignment → Age → ℕ → Trit
 tritIn ρ a i = shows (bitIn ρ (netName a i isUndef)) (bitIn ρ (netName a i isOne))
 
+abbrev pub tritsIn : Assignment → Trits
+tritsIn ρ = record { now = tritIn ρ curr; was = tritIn ρ past }
+
 -- ---- assignments that show given trits and satisfy every assertion but the query
 
 -- The given trit of a net that is a source: a past net, or the current net of a source slot.
@@ -104,6 +107,8 @@ pub record Requirement3 (d : Design) (calls : List Call) : Type 0 where
   -- turning given Xs into 0 or 1, joined ones alike, changes no declared net that showed 0 or 1
   pub monotone : (g g′ : Trits) → Turned g g′ → (ρ ρ′ : Assignment) → Shows d g calls but ρ → Shows d g′ calls but ρ′
       → (a : Age) (i : ℕ) → Declared calls a i → Refines (tritIn ρ a i) (tritIn ρ′ a i)
+  -- an assignment that satisfies every assertion but the query shows joined flip-flops alike
+  pub joined : (ρ : Assignment) → Fits ρ calls → Asserted (valueAt (run ρ [] calls)) but → Alike d (tritsIn ρ)
   -- the number of net trits left to a solver's choice is nought
   pub choiceless : (g : Trits) (ρ ρ′ : Assignment) → Shows d g calls but ρ → Shows d g calls but ρ′
       → (a : Age) (i : ℕ) → Declared calls a i → tritIn ρ a i ≡ tritIn ρ′ a i

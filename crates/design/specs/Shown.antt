@@ -119,11 +119,11 @@ module _ (d : Design) (b : NetBits) where
 
   -- ---- the equations
 
-  left : (k l : List Meant) → Each (SaidOf b) (k ++ l) → Each (SaidOf b) k
+  pub left : (k l : List Meant) → Each (SaidOf b) (k ++ l) → Each (SaidOf b) k
   left [] l h = tt
   left (m ∷ k) l h = (h .0, left k l (h .1))
 
-  right : (k l : List Meant) → Each (SaidOf b) (k ++ l) → Each (SaidOf b) l
+  pub right : (k l : List Meant) → Each (SaidOf b) (k ++ l) → Each (SaidOf b) l
   right [] l h = h
   right (m ∷ k) l h = right k l (h .1)
 
@@ -132,16 +132,17 @@ module _ (d : Design) (b : NetBits) where
   claim-said p h said =
       let w : eqb (outputLen (p .cell)) 0 ≡ false = ne-eqb (outputLen (p .cell)) 0 (λ e. let l = asserted-some (p .cell) h in omega arith) in
       let add : Each (SaidOf b) (meantAdd (readsPast d) (p .slot) (outputLen (p .cell)) (p .cell)
-          ∷ meantNew (readsPast d) (p .slot) (outputLen (p .cell)) (newCellIn (d .cellReps) (p .slot))) = rw w at said in
+      ∷ meantNew (readsPast d) (p .slot) (outputLen (p .cell)) (newCellIn (d .cellReps) (p .slot))) = rw w at said in
       rw (asserted-claimed (p .cell) h) at (add .0)
 
   cells-shown : (cells : List Placed) → Each (CellLaid d) cells → Each (SaidOf b) (meantCells d cells)
       → Each (CellShown (tritRule d (θ .was)) d (θ .now)) cells
   unfolding meantCells
   cells-shown [] laid said = tt
-  cells-shown (p ∷ cells) laid said =
-      (λ h. cell-shown (p .slot) (p .cell) (laid .0 .shaped) h (claim-said p h (left (meantCell d p) _ said)),
-      cells-shown cells (laid .1) (right (meantCell d p) _ said))
+  cells-shown (p ∷ cells) laid said = (
+    λ h. cell-shown (p .slot) (p .cell) (laid .0 .shaped) h (claim-said p h (left (meantCell d p) _ said)),
+    cells-shown cells (laid .1) (right (meantCell d p) _ said),
+  )
 
   void-said : (p : NetPair) → pairOf d p ≡ ofVoid → Each (SaidOf b) (meantPair (readsPast d) (pairOf d p) p)
       → voidTest (readsPast d) (p .from) (p .to) b ≡ true
@@ -152,9 +153,10 @@ module _ (d : Design) (b : NetBits) where
   voids-shown : (pairs : List NetPair) → Each (SaidOf b) (meantPairs d pairs) → Each (VoidShown (tritRule d (θ .was)) d (θ .now)) pairs
   unfolding meantPairs
   voids-shown [] said = tt
-  voids-shown (p ∷ pairs) said =
-      (λ e i from. void-shown i (p .to) (rw from at (void-said p e (left (meantPair (readsPast d) (pairOf d p) p) _ said))),
-      voids-shown pairs (right (meantPair (readsPast d) (pairOf d p) p) _ said))
+  voids-shown (p ∷ pairs) said = (
+    λ e i from. void-shown i (p .to) (rw from at (void-said p e (left (meantPair (readsPast d) (pairOf d p) p) _ said))),
+    voids-shown pairs (right (meantPair (readsPast d) (pairOf d p) p) _ said),
+  )
 
   -- Nets whose bits pass the asserted tests show trits that solve the equations.
   pub tests-solve : Each (CellLaid d) (d .cells) → Each (SaidOf b) (meantSteps d) → Solves d θ (θ .now)

@@ -21,7 +21,23 @@ use Rattle.cell.specs.Design.{Design, Placed, NetPair, total}
 use Rattle.rules.specs.Shape.{Shaped}
 use Rattle.rules.specs.CellRule.{Trits, ofNet, outputs}
 use Rattle.working_out.specs.Reading.{
-  Each, each-map, each-append, cellOf, sameNet, Role, role, isDff, readsPast, source, Pair, equal, ofVoid, ofDffs, ordinary, pairOf, Alike,
+  Each,
+  each-map,
+  each-append,
+  cellOf,
+  sameNet,
+  Role,
+  role,
+  isDff,
+  readsPast,
+  source,
+  Pair,
+  equal,
+  ofVoid,
+  ofDffs,
+  ordinary,
+  pairOf,
+  Alike,
 }
 use Rattle.working_out.specs.Reading as reading
 use Rattle.working_out.specs.Laid.{Laid, CellLaid}
@@ -36,12 +52,33 @@ use Rattle.soundness.specs.Refines.{same-refl}
 use Rattle.soundness.specs.CellBits.{ageOf, currBits, pastBits, valueBits, netBit, cellBits}
 use Rattle.soundness.specs.CellShows.{tritsOf, cell-bits-show, value-shows}
 use Rattle.design.specs.BitRule.{
-  BitPair, pair, half, bitsOf, pairs, bitRule, bit-wide, bit-local, outputs-bits, asserted-not-input, asserted-some,
+  BitPair,
+  pair,
+  half,
+  bitsOf,
+  pairs,
+  bitRule,
+  bit-wide,
+  bit-local,
+  outputs-bits,
+  asserted-not-input,
+  asserted-some,
 }
 use Rattle.design.specs.Verify.{Step, declared, asserted, obliged, isInput, addCell, claim, newCellIn}
 use Rattle.design.specs.Found.{own-cells}
 use Rattle.design.specs.Meant.{
-  Meant, meantAdd, meantNew, meantCell, meantCells, meantPair, meantPairs, meantSteps, claimTest, voidTest, joinTest, positive,
+  Meant,
+  meantAdd,
+  meantNew,
+  meantCell,
+  meantCells,
+  meantPair,
+  meantPairs,
+  meantSteps,
+  claimTest,
+  voidTest,
+  joinTest,
+  positive,
 }
 use Rattle.design.specs.WorkSound.{Said, SaidOf}
 
@@ -185,9 +222,10 @@ module _ (d : Design) (laid : Laid d) (no-loop : hasLoop d ≡ false) (g : Trits
           → Each (SaidOf solved) (cond z [] (meantAdd (readsPast d) (p .slot) (outputLen (p .cell)) (p .cell)
           ∷ meantNew (readsPast d) (p .slot) (outputLen (p .cell)) (newCellIn (d .cellReps) (p .slot))))
       go true e = tt
-      go false e =
-          (add (positive (outputLen (p .cell)) (eqb-false (outputLen (p .cell)) 0 e)) (isInput (p .cell)) refl,
-          new-said (p .slot) (outputLen (p .cell)) (newCellIn (d .cellReps) (p .slot)))
+      go false e = (
+        add (positive (outputLen (p .cell)) (eqb-false (outputLen (p .cell)) 0 e)) (isInput (p .cell)) refl,
+        new-said (p .slot) (outputLen (p .cell)) (newCellIn (d .cellReps) (p .slot)),
+      )
 
   cells-said : (cells : List Placed) → Each (CellLaid d) cells → Each (CellShown (bitRule d was) d now) cells
       → Each (λ (p : Placed). (j : ℕ) → p .slot ≤ j → j < p .slot + slotsOf (p .cell) → cellOf d j ≡ p) cells → Each (SaidOf solved) (meantCells d cells)

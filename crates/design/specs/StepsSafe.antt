@@ -29,7 +29,15 @@ use Rattle.soundness.specs.CellSafe.{net-safe, cell-safe, output-within}
 use Rattle.design.specs.Verify.{Step, declared, asserted, obliged, isInput, claim, addCell, newCell, replaceNet, replaceVoidNet, joinPasts, currents, newCellIn}
 use Rattle.design.specs.Found.{placed, found, own-cells, may-replace, new-found}
 use Rattle.design.specs.Meant.{
-  Meant, meantAdd, meantNew, meantCell, meantCells, meantPair, meantPairs, meantSteps, positive,
+  Meant,
+  meantAdd,
+  meantNew,
+  meantCell,
+  meantCells,
+  meantPair,
+  meantPairs,
+  meantSteps,
+  positive,
 }
 use Rattle.design.specs.WorkMeets.{StepSafe, Safe}
 
@@ -150,9 +158,13 @@ module _ (d : Design) (laid : Laid d) (bounds : Bounds d) where
   new-is-safe p own wide end (some a) e =
       let n = new-found d laid p own a e in
       let b = found (λ (q : Placed). Bounded (q .cell)) (d .cellReps) (p .slot) a (bounds .newCells) e in
-      let w = n .width in
-      (record { fits = λ σ k. rw w at (new-safe (total d) σ (readsPast d) k (p .slot) a (n .laid .shaped) (may-replace a (n .replaces .new)) (rw w wide) b
-      (nets-within σ (netsOf a) (n .laid .within)) (rw w (omega arith))) }, tt)
+      let w = n .width in (
+        record {
+          fits = λ σ k. rw w at (new-safe (total d) σ (readsPast d) k (p .slot) a (n .laid .shaped) (may-replace a (n .replaces .new)) (rw w wide) b
+              (nets-within σ (netsOf a) (n .laid .within)) (rw w (omega arith)));
+        },
+        tt,
+      )
 
   cell-is-safe : (p : Placed) → cellOf d (p .slot) ≡ p → CellLaid d p → Bounded (p .cell) → p .slot + slotsOf (p .cell) ≤ total d
       → Each (Safe (total d)) (meantCell d p)
@@ -178,10 +190,13 @@ module _ (d : Design) (laid : Laid d) (bounds : Bounds d) where
   pair-safe equal p w = tt
   pair-safe ofVoid p w =
       (record { fits = λ σ n. replaceVoidNet-safe (total d) σ (readsPast d) n (p .from) (p .to) (within (total d) σ (p .from) (w .from)) (within (total d) σ (p .to) (w .to)) }, tt)
-  pair-safe ofDffs p w =
-      (record { fits = λ σ n. joinPasts-safe (total d) σ n (p .from) (p .to) (within (total d) σ (p .from) (w .from)) (within (total d) σ (p .to) (w .to)) },
-      (record { fits = λ σ n. currents-safe (total d) σ n (p .from) (p .to) (within (total d) σ (p .from) (w .from)) (within (total d) σ (p .to) (w .to)) },
-      (record { fits = λ σ n. replaceNet-safe (total d) σ (readsPast d) n (p .from) (p .to) (within (total d) σ (p .from) (w .from)) (within (total d) σ (p .to) (w .to)) }, tt)))
+  pair-safe ofDffs p w = (
+    record { fits = λ σ n. joinPasts-safe (total d) σ n (p .from) (p .to) (within (total d) σ (p .from) (w .from)) (within (total d) σ (p .to) (w .to)) },
+    (
+      record { fits = λ σ n. currents-safe (total d) σ n (p .from) (p .to) (within (total d) σ (p .from) (w .from)) (within (total d) σ (p .to) (w .to)) },
+      (record { fits = λ σ n. replaceNet-safe (total d) σ (readsPast d) n (p .from) (p .to) (within (total d) σ (p .from) (w .from)) (within (total d) σ (p .to) (w .to)) }, tt),
+    ),
+  )
   pair-safe ordinary p w =
       (record { fits = λ σ n. replaceNet-safe (total d) σ (readsPast d) n (p .from) (p .to) (within (total d) σ (p .from) (w .from)) (within (total d) σ (p .to) (w .to)) }, tt)
 

@@ -7,36 +7,43 @@ use native.Mathlib.Omega.{arith}
 use lib.ListN.{length, length-map, getD, replicate}
 use Rattle.logic.specs.Trit.{shows}
 use Rattle.logic.specs.declared.Trit.{Trit}
-use Rattle.cell.specs.Design.{Design, total}
-use Rattle.rules.specs.CellRule.{Trits}
+use Rattle.logic.specs.Table.{zipWith}
+use Rattle.logic.specs.Net.{Net}
+use Rattle.cell.specs.Design.{Design, NetPair, total}
+use Rattle.rules.specs.CellRule.{Trits, ofNet}
 use Rattle.rules.specs.Refine.{Refines}
 use Rattle.engine.specs.Call.{Name, Call}
 use Rattle.engine.specs.Call as c
 use Rattle.engine.specs.Meaning.{Value, bool, asBool, Assignment, valueAt, run, Fits, Asserted, Holds, Earlier, Sat, terms, All}
 use Rattle.engine.specs.Laws.{All-map, sat-holds}
-use Rattle.working_out.specs.Reading.{Each, source, Alike}
+use Rattle.working_out.specs.Reading.{Each, readsPast, source, Pair, ofDffs, pairOf, Joined, Alike}
 use Rattle.working_out.specs.Laid.{Laid}
 use Rattle.working_out.specs.Loop.{hasLoop}
 use Rattle.working_out.specs.Equations.{Solution}
 use Rattle.working_out.specs.WorkingOut.{tritRule, workedOut, whole, Solves}
 use Rattle.working_out.specs.WorkedOut as worked
 use Rattle.working_out.specs.Obligations.{Obligation, obligations, broken}
-use Rattle.smt.specs.Prog.{Age, curr, past, Half, isUndef, isOne}
-use Rattle.smt.specs.Emit.{St, emit, place, netName}
-use Rattle.soundness.specs.Formula.{NetBits, netBits}
+use Rattle.smt.specs.Prog.{Prog, ret, op, declare, bind, bind2, _>>=_, Age, curr, past, Half, isUndef, isOne}
+use Rattle.smt.specs.Emit.{St, Out, emit, place, netName, at, learn, reread, after, known}
+use Rattle.soundness.specs.Formula.{TritBits, NetBits, netBits}
+use Rattle.soundness.specs.Shows.{shown-is}
+use Rattle.soundness.specs.CellBits.{pastBits}
 use Rattle.soundness.specs.Wp.{Known}
 use Rattle.soundness.specs.Safe.{Truth}
-use Rattle.soundness.specs.CellShows.{tritsOf}
-use Rattle.design.specs.Verify.{start}
-use Rattle.design.specs.Meant.{stepsOf, meantSteps, steps-are, steps-mean}
-use Rattle.design.specs.WorkSound.{SaidOf, asks, truths, Worked, work-sound}
+use Rattle.soundness.specs.CellShows.{tritsOf, read-shows}
+use Rattle.design.specs.Verify as verify
+use Rattle.design.specs.Verify.{Step, declared, asserted, obliged, start, steps, work}
+use Rattle.design.specs.Meant.{Meant, stepsOf, meantCells, meantPair, meantPairs, meantSteps, joinTest, steps-are, steps-mean}
+use Rattle.design.specs.WorkSound.{SaidOf, ask, asks, truths, Worked, work-sound}
 use Rattle.design.specs.StepsSafe.{Bounds}
-use Rattle.design.specs.Shown.{tests-solve}
+use Rattle.design.specs.Shown.{same-bits, left, right, tests-solve}
 use Rattle.design.specs.Judged.{steps-judged}
+use Rattle.design.specs.Numbered.{work-next}
+use Rattle.design.specs.Declares.{declared-left, nodes-declared}
 use Rattle.design.specs.Prefix.{value-on, asserted-back, fits-left, run-agrees, fits-agrees}
 use Rattle.design.specs.Filled.{filled, filled-agrees, filled-shows}
 use Rattle.design.specs.Exists.{zeros-none, but, but-earlier, asked, asked-earlier, exists}
-use Rattle.design.specs.Requirement3.{Declared, tritIn, givenTrit, IsSource, Shows, queryCalls, Turned, Requirement3}
+use Rattle.design.specs.Requirement3.{IsDeclared, Declared, tritIn, tritsIn, unchecked, givenTrit, IsSource, Shows, queryCalls, Turned, Requirement3}
 
 -- Two functions that agree on a list's elements.
 map-same : {A : Type 0} (f h : ℕ → A) (l : List ℕ) → All (λ k. f k ≡ h k) l → map f l ≡ map h l
@@ -128,3 +135,123 @@ module _ (d : Design) (laid : Laid d) (bounds : Bounds d) (n : ℕ) (asked-terms
         → (a : Age) (i : ℕ) → Declared calls a i → tritIn ρ a i ≡ tritIn ρ′ a i
     choiceless g ρ ρ′ s s′ curr i m = shown no-loop g ρ s i m ∙ sym (shown no-loop g ρ′ s′ i m)
     choiceless g ρ ρ′ s s′ past i m = shown-past no-loop g ρ s i m ∙ sym (shown-past no-loop g ρ′ s′ i m)
+
+  -- ---- joined flip-flops
+
+  past-trit : (ρ : Assignment) (x : Net) → zipWith shows ((pastBits (readsPast d) (netBits ρ) (x ∷ [])) .x) ((pastBits (readsPast d) (netBits ρ) (x ∷ [])) .y)
+      ≡ ofNet (tritIn ρ past) x ∷ []
+  past-trit ρ x = shown-is (read-shows (netBits ρ) (λ i. past) (tritIn ρ past) (λ i. refl) (x ∷ []))
+
+  join-alike : (ρ : Assignment) (from to : Net) → joinTest (readsPast d) from to (netBits ρ) ≡ true → ofNet (tritIn ρ past) from ≡ ofNet (tritIn ρ past) to
+  join-alike ρ from to e =
+      first (sym (past-trit ρ from) ∙ ap (λ (t : TritBits). zipWith shows (t .x) (t .y)) (same-bits _ _ e) ∙ past-trit ρ to)
+    where
+      first : {t u : Trit} → t ∷ [] ≡ u ∷ [] → t ≡ u
+      first {t} {u} q = cc
+
+  pairs-alike : (ρ : Assignment) (pairs : List NetPair) → Each (SaidOf (netBits ρ)) (meantPairs d pairs)
+      → Each (λ (p : NetPair). Joined d p → ofNet (tritIn ρ past) (p .from) ≡ ofNet (tritIn ρ past) (p .to)) pairs
+  unfolding meantPairs
+  pairs-alike ρ [] said = tt
+  pairs-alike ρ (p ∷ pairs) said = (
+    λ j. join-alike ρ (p .from) (p .to) (of-join j (left d (netBits ρ) (meantPair (readsPast d) (pairOf d p) p) _ said)),
+    pairs-alike ρ pairs (right d (netBits ρ) (meantPair (readsPast d) (pairOf d p) p) _ said),
+  )
+    where
+      of-join : pairOf d p ≡ ofDffs → Each (SaidOf (netBits ρ)) (meantPair (readsPast d) (pairOf d p) p) → joinTest (readsPast d) (p .from) (p .to) (netBits ρ) ≡ true
+      of-join e s =
+          let dffs : Each (SaidOf (netBits ρ)) (meantPair (readsPast d) ofDffs p) = rw e at s in
+          dffs .0
+
+  pub joined : (ρ : Assignment) → Fits ρ calls → Asserted (valueAt (run ρ [] calls)) (but d) → Alike d (tritsIn ρ)
+  joined ρ fits sat = pairs-alike ρ (d .netReps) (right d (netBits ρ) (meantCells d (d .cells)) _ ((worked-by ρ fits sat) .said))
+
+-- ---- the shape of the calls
+
+emit-unchecked : {A : Type 0} (m : Prog A) (s : St) (rest : List Call) → unchecked rest ≡ true → unchecked ((emit m s) .calls ++ rest) ≡ true
+unfolding emit unchecked
+emit-unchecked (ret a) s rest h = h
+emit-unchecked (op t f) s rest h = emit-unchecked (f (s .next)) _ rest h
+emit-unchecked {A} (declare a i y f) s rest h = go (λ k s. emit-unchecked (f k) s rest h) (getD (s .names) (place a i y) 0)
+  where
+    go : ((k : ℕ) (s : St) → unchecked ((emit (f k) s) .calls ++ rest) ≡ true) → (o : ℕ)
+        → unchecked ((known {X = Out A} o (after (c.declare (netName a i y) 1 ∷ []) (emit (f (s .next)) (learn a i y s))) (λ k. emit (f k) (reread a i s))) .calls ++ rest) ≡ true
+    go rec zero = rec (s .next) (learn a i y s)
+    go rec (suc k) = rec k (reread a i s)
+emit-unchecked (bind w t f) s rest h = emit-unchecked (f (s .next)) _ rest h
+emit-unchecked (bind2 w x y f) s rest h = emit-unchecked (f (s .next) (suc (s .next))) _ rest h
+
+work-unchecked : (steps : List Step) (s : St) → unchecked ((work steps s) .calls) ≡ true
+unfolding work
+work-unchecked [] s = unfold unchecked in refl
+work-unchecked (declared m ∷ rest) s = emit-unchecked m s _ (work-unchecked rest ((emit m s) .st))
+work-unchecked (asserted m ∷ rest) s = emit-unchecked m s _ (pass (work-unchecked rest ((emit m s) .st)))
+  where
+    pass : unchecked ((work rest ((emit m s) .st)) .calls) ≡ true → unchecked (c.assert ((emit m s) .res) ∷ (work rest ((emit m s) .st)) .calls) ≡ true
+    pass h = unfold unchecked in h
+work-unchecked (obliged m ∷ rest) s = emit-unchecked m s _ (work-unchecked rest ((emit m s) .st))
+
+-- The calls of the query are those that `check` emits.
+query-calls : (l : List ℕ) (s : St) → verify.asked l s ≡ queryCalls (s .next) l
+unfolding verify.asked verify.query emit _>>=_
+query-calls [] s = refl
+query-calls (o ∷ l) s = refl
+
+pub verify-is : (d : Design) → verify.verify d ≡ but d ++ queryCalls (terms (but d)) (asked d)
+unfolding verify.verify but asked
+verify-is d =
+    subst (λ (l : List Step). verify.verify d ≡ (work l s₀) .calls ++ queryCalls (terms ((work l s₀) .calls)) ((work l s₀) .res)) (sym (steps-are d))
+    (ap (λ (l : List Call). (work (steps d) s₀) .calls ++ l)
+    (query-calls ((work (steps d) s₀) .res) ((work (steps d) s₀) .st)
+    ∙ ap (λ (n : ℕ). queryCalls n ((work (steps d) s₀) .res)) (let e = work-next (steps d) s₀ in omega arith)))
+  where
+    s₀ : St
+    s₀ = start (total d)
+
+but-unchecked : (d : Design) → unchecked (but d) ≡ true
+unfolding but
+but-unchecked d = work-unchecked (stepsOf (meantSteps d)) (start (total d))
+
+-- An obligation's term for each obliged step.
+terms-each : (b : NetBits) (ms : List Meant) (s : St) → length ((work (stepsOf ms) s) .res) ≡ length (asks b ms)
+unfolding work asks
+terms-each b [] s = refl
+terms-each b (m ∷ ms) s = go (λ s. terms-each b ms s) (m .step) (m .test b)
+  where
+    go : ((s : St) → length ((work (stepsOf ms) s) .res) ≡ length (asks b ms)) → (p : Step) (t : Bool)
+        → length ((work (p ∷ stepsOf ms) s) .res) ≡ length (ask p t (asks b ms))
+    go rec (declared q) t = rec ((emit q s) .st)
+    go rec (asserted q) t = rec ((emit q s) .st)
+    go rec (obliged q) t = ap suc (rec ((emit q s) .st))
+
+-- ---- the theorem, of a design
+
+module _ (d : Design) (laid : Laid d) (bounds : Bounds d) (no-loop : hasLoop d ≡ false) where
+  asked-each : length (asked d) ≡ length (obligations d)
+  unfolding asked
+  asked-each =
+      terms-each none (meantSteps d) (start (total d)) ∙ ap length (steps-judged d none laid) ∙ length-map (obligations d) _
+    where
+      none : NetBits
+      none a i h = false
+
+  nodes : (i : ℕ) → i < total d → source d i ≡ false → Declared (but d ++ queryCalls (terms (but d)) (asked d)) curr i
+  unfolding but
+  nodes i low node h = declared-left (but d) (queryCalls (terms (but d)) (asked d)) (netName curr i h)
+      (subst (λ (l : List Step). IsDeclared ((work l (start (total d))) .calls) (netName curr i h)) (sym (steps-are d)) (nodes-declared d laid i low node h))
+
+  pub requirement-3 : Requirement3 d (verify.verify d)
+  requirement-3 = subst (Requirement3 d) (sym (verify-is d)) (record {
+    but = but d;
+    asked = asked d;
+    query = refl;
+    claims = but-unchecked d;
+    each = asked-each;
+    exists = exists d laid bounds no-loop (terms (but d)) (asked d);
+    shown = λ g ρ s. shown d laid bounds (terms (but d)) (asked d) no-loop g ρ s;
+    judged = λ g ρ s. judged d laid bounds (terms (but d)) (asked d) no-loop g ρ s;
+    declared = nodes;
+    monotone = monotone d laid bounds (terms (but d)) (asked d) no-loop;
+    joined = joined d laid bounds (terms (but d)) (asked d);
+    choiceless = choiceless d laid bounds (terms (but d)) (asked d) no-loop;
+  })

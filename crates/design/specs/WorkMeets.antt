@@ -16,7 +16,24 @@ use Rattle.soundness.specs.Formula.{NetBits, netBits}
 use Rattle.soundness.specs.Wp.{wp, wp-sound}
 use Rattle.soundness.specs.Safe.{safe, Truth}
 use Rattle.soundness.specs.Solve.{
-  Extends, extends-trans, extends-refl, Temp, noTemp, Ran, assigned, exec, Grows, grows, WellSorted, Here, Met, here-known, meets, v, ρ, σ,
+  Extends,
+  extends-trans,
+  extends-refl,
+  Temp,
+  noTemp,
+  Ran,
+  assigned,
+  exec,
+  Grows,
+  grows,
+  WellSorted,
+  Here,
+  Met,
+  here-known,
+  meets,
+  v,
+  ρ,
+  σ,
 }
 use Rattle.design.specs.Verify.{Step, declared, asserted, obliged, work}
 use Rattle.design.specs.Meant.{Meant, meant, stepsOf, StepIs, MeantIs}
@@ -127,9 +144,10 @@ module _ (slots : ℕ) (b : NetBits) (L : List Value) (TS : List Temp) where
           let w = rec ((emit q s) .st) ((exec b q s l ts) .values) ((exec b q s l ts) .temps) (met .here) x y in
           let low = up-by q s l ts _ h met in
           record {
-            holds = λ is said rest k. rw append-assoc (met .holds _
-                ((wp-sound asg val q s _ [] (here-known slots b L TS s l ts h) (met .holds [] tt) (is .0)) .post ∙ ap bool (said .0),
-                w .holds (is .1) (said .1) rest k));
+            holds = λ is said rest k. rw append-assoc (met .holds _ (
+              (wp-sound asg val q s _ [] (here-known slots b L TS s l ts h) (met .holds [] tt) (is .0)) .post ∙ ap bool (said .0),
+              w .holds (is .1) (said .1) rest k,
+            ));
             sorted = λ rest k. rw append-assoc (met .sorted _ (met .post, w .sorted rest k));
             obligations = w .obligations;
             up = let high = w .up in omega arith;
