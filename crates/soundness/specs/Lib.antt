@@ -11,3 +11,4 @@ pub mod CellSafe
 pub mod Solve
 pub mod Unique
 pub mod Refines
+pub mod Formed

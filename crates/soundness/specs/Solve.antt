@@ -69,7 +69,7 @@ pub fine-arguments : (n : ℕ) (σ : ℕ → Sort) (t : Term) → Fine n σ t �
 fine-arguments n σ (c.boolLit b) h = tt
 fine-arguments n σ (c.boolIte i a b) h = (h .0 .0, (h .1 .0, (h .2 .0, tt)))
 fine-arguments n σ (c.not a) h = (h .0, tt)
-fine-arguments n σ (c.and args) h = All-map (Truth n σ) (λ a. a < n) (λ a g. g .0) args (h .1)
+fine-arguments n σ (c.and args) h = All-map (Truth n σ) (λ a. a < n) (λ a g. g .0) args (h .2)
 fine-arguments n σ (c.lit s) h = tt
 fine-arguments n σ (c.equal a b) h = (h .0, (h .1, tt))
 fine-arguments n σ (c.ite i a b) h = (h .0 .0, (h .1 .0 .0, (h .1 .1, tt)))
