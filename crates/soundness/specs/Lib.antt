@@ -12,3 +12,4 @@ pub mod Solve
 pub mod Unique
 pub mod Refines
 pub mod Formed
+pub mod Temporaries
