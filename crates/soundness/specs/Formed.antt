@@ -16,7 +16,7 @@ use Rattle.engine.specs.Sorts.{Sort, sortAt, sortOf, IsBool, Context, Formed, p
 use Rattle.engine.specs.Sorts as sorts
 use Rattle.smt.specs.Prog.{Prog, ret, op, declare, bind, bind2, Age, curr, past, Half, isUndef, isOne}
 use Rattle.smt.specs.Emit.{St, letterOf, suffixOf, netName, tempName, offset, place, at, reread, learn, after, emit, known}
-use Rattle.soundness.specs.Wp.{stored}
+use Rattle.smt.specs.Wp.{stored}
 use Rattle.soundness.specs.Safe.{Truth, Width, sortUnder, Fine, Made, Made2, safe}
 use Rattle.soundness.specs.Solve.{WellSorted, fine-arguments}
 
@@ -259,10 +259,13 @@ module _ (slots : ℕ) where
           let f′ : WellSorted σ n (c.declare (netName a i h) 1 ∷ ((emit (g n) s₁) .calls ++ rest)) = rw z at f in
           let ht′ : (emit (g n) s₁) .st .temp ≤ payloadLimit = rw z at ht in
           let k′ : Then ((emit (g n) s₁) .st) rest = rw z at k in
-          rw z ((λ m. d .nets a i h m z), le-trans (w .0) hs,
-          rec n s₁ (netName a i h ∷ names) ht′
-          (w .1 (record { k = n; m = suc n; le = omega arith; lt = omega arith; sort = f′ .1 }))
-          (known-learnt σ a i h s (f′ .1) kn) (f′ .2) (declared-net a i h names s (w .0) d) k′)
+          rw z (
+            (λ m. d .nets a i h m z),
+            le-trans (w .0) hs,
+            rec n s₁ (netName a i h ∷ names) ht′
+                (w .1 (record { k = n; m = suc n; le = omega arith; lt = omega arith; sort = f′ .1 }))
+                (known-learnt σ a i h s (f′ .1) kn) (f′ .2) (declared-net a i h names s (w .0) d) k′,
+          )
       go rec (suc j) z =
           let q = kn a i h j z in
           let l : j < s .next = q .1 in

@@ -15,10 +15,10 @@ use Rattle.rules.specs.Trits as t
 use Rattle.working_out.specs.Obligations.{allRefine}
 use Rattle.smt.specs.Prog.{TritVec}
 use Rattle.smt.specs.Builder.{tvRefines}
-use Rattle.soundness.specs.Wp.{wp, wp-mono, and-true, equal-eq}
-use Rattle.soundness.specs.Formula.{TritBits, tb, sameBits, refinesBits}
-use Rattle.soundness.specs.Terms.{Is, tvRefines-wp}
-use Rattle.soundness.specs.Shows.{Shown, empty, lane, Shows}
+use Rattle.smt.specs.Wp.{wp, wp-mono, and-true, equal-eq}
+use Rattle.smt.specs.Formula.{TritBits, tb, sameBits, refinesBits}
+use Rattle.smt.specs.Terms.{Is, tvRefines-wp}
+use Rattle.smt.specs.Shows.{Shown, empty, lane, Shows}
 
 -- Equal bits, both ways.
 pub same-bits : (a b : TritBits) → sameBits a b ≡ true → a ≡ b

@@ -19,8 +19,8 @@ use Rattle.engine.specs.Laws.{All-map, denote-ext, length-snoc}
 use Rattle.engine.specs.Sorts.{Sort, binarySort}
 use Rattle.smt.specs.Prog.{Prog, ret, op, declare, bind, bind2, _>>=_, Age, curr, past, Half, isUndef, isOne}
 use Rattle.smt.specs.Emit.{St, Out, netName, tempName, place, at, reread, learn, bound, bound2, after, known, emit}
-use Rattle.soundness.specs.Wp.{Named, Known, place-inj, stored}
-use Rattle.soundness.specs.Formula.{NetBits, netBits}
+use Rattle.smt.specs.Wp.{Named, Known, place-inj, stored}
+use Rattle.smt.specs.Formula.{NetBits, netBits}
 use Rattle.soundness.specs.Safe.{Truth, Vector, Alike, Width, sortUnder, Fine, Made, Made2, safe}
 
 -- ---- a list that goes on

@@ -12,9 +12,9 @@ use Rattle.engine.specs.Laws.{holds-sat, sat-holds}
 use Rattle.engine.specs.Sorts.{Sort}
 use Rattle.smt.specs.Prog.{Prog, Age, Half}
 use Rattle.smt.specs.Emit.{St, netName, place, emit}
-use Rattle.soundness.specs.Formula.{NetBits}
+use Rattle.smt.specs.Formula.{NetBits}
 use Rattle.soundness.specs.Safe.{safe}
-use Rattle.soundness.specs.ShowsShift.{getD-pad}
+use Rattle.smt.specs.ShowsShift.{getD-pad}
 use Rattle.soundness.specs.Solve.{Extends, extends-refl, noTemp, assigned, assigned-net, exec, Here, Met, meets, sorts, WellSorted, sorted-earlier}
 use Rattle.soundness.specs.Unique.{Agree, temporaries-unique}
 

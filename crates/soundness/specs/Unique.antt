@@ -13,7 +13,7 @@ use Rattle.engine.specs.Laws.{All-map, denote-ext}
 use Rattle.engine.specs.Sorts.{Sort}
 use Rattle.smt.specs.Prog.{Prog, ret, op, declare, bind, bind2, Age, Half}
 use Rattle.smt.specs.Emit.{St, netName, place, at, reread, learn, emit}
-use Rattle.soundness.specs.Wp.{Named, Known, learnt, bound-eq, stored}
+use Rattle.smt.specs.Wp.{Named, Known, learnt, bound-eq, stored}
 use Rattle.soundness.specs.Safe.{Made, Made2, safe}
 use Rattle.soundness.specs.Solve.{sortOfValue, sorts, denote-sort, fine-arguments}
 
@@ -81,9 +81,11 @@ module _ (slots : ℕ) (ρ η : Assignment) (v u : ℕ → Value)
           let q′ : Holds η u n (c.declare (netName a i d) 1 ∷ tail) = rw z at q in
           let new : Named ρ v a i d n = record { is = p′ .0; one = p′ .1 } in
           let x : v n ≡ u n = p′ .0 ∙ ap bits (nets a i d) ∙ sym (q′ .0) in
-          rw z (nets a i d,
-          rec n (learn a i d s) (below-learnt a i d s new kn) (upto-suc n h x)
-          (e .1 (record { k = n; m = suc n; le = omega arith; lt = omega arith; sort = ap sortOfValue (p′ .0) ∙ p′ .1 })) (p′ .2) (q′ .2) r)
+          rw z (
+            nets a i d,
+            rec n (learn a i d s) (below-learnt a i d s new kn) (upto-suc n h x)
+                (e .1 (record { k = n; m = suc n; le = omega arith; lt = omega arith; sort = ap sortOfValue (p′ .0) ∙ p′ .1 })) (p′ .2) (q′ .2) r,
+          )
       go rec (suc k) z =
           let was = kn a i d k z in
           let l : k < s .next = was .1 in
