@@ -312,11 +312,11 @@ module _ (readsPast : ℕ → Bool) (ρ : Assignment) (v : ℕ → Value) where
   shiftCell-wp : (o : Shift) (nets amount : List Net) (stride : ℕ) → 0 < length nets
       → wp ρ v (shifted readsPast o nets amount stride) (λ r. Is ρ v r (shiftCellBits readsPast b o nets amount stride))
   unfolding shifted shiftCellBits
-  shiftCell-wp cells.shl nets amount stride some = shifted-wp c.bvshl c.bvshl false (length nets) nets amount stride some
-  shiftCell-wp cells.ushr nets amount stride some = shifted-wp c.bvlshr c.bvlshr false (length nets) nets amount stride some
-  shiftCell-wp cells.sshr nets amount stride some = shifted-wp c.bvashr c.bvashr true (length nets) nets amount stride some
+  shiftCell-wp cells.shl nets amount stride some = shifted-wp _ _ false (length nets) nets amount stride some
+  shiftCell-wp cells.ushr nets amount stride some = shifted-wp _ _ false (length nets) nets amount stride some
+  shiftCell-wp cells.sshr nets amount stride some = shifted-wp _ _ true (length nets) nets amount stride some
   shiftCell-wp cells.xshr nets amount stride some =
-      shifted-wp c.bvashr c.bvlshr true (length nets) (nets ++ (constant Undef ∷ [])) amount stride (simp length-append (omega arith))
+      shifted-wp _ _ true (length nets) (nets ++ (constant Undef ∷ [])) amount stride (simp length-append (omega arith))
 
   -- ---- Match
   compared-wp : (n : Net) (mask : Trit) (prd : TritVec) (P : TritBits) → Is ρ v prd P

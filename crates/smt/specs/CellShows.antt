@@ -117,6 +117,29 @@ tritsOf b = record {
   was = λ i. shows (b past i isUndef) (b past i isOne);
 }
 
+-- The operations that shift keep the width.
+abbrev IsShift : BinaryOp → Type 0
+IsShift c.bvand = ⊥
+IsShift c.bvor = ⊥
+IsShift c.bvxor = ⊥
+IsShift c.bvadd = ⊥
+IsShift c.bvcomp = ⊥
+IsShift c.bvshl = Unit {0}
+IsShift c.bvlshr = Unit {0}
+IsShift c.bvashr = Unit {0}
+IsShift c.bvmul = ⊥
+
+length-shift : (o : BinaryOp) → IsShift o → (s by : Bits) → length (denoteOp o s by) ≡ length s
+length-shift c.bvand h = absurd h
+length-shift c.bvor h = absurd h
+length-shift c.bvxor h = absurd h
+length-shift c.bvadd h = absurd h
+length-shift c.bvcomp h = absurd h
+length-shift c.bvshl h = length-bvshl
+length-shift c.bvlshr h = length-bvlshr
+length-shift c.bvashr h = length-bvashr
+length-shift c.bvmul h = absurd h
+
 -- ---- nets
 
 constant-shows : (u : Trit) → shows (xOf u) (yOf u) ≡ u
@@ -247,6 +270,10 @@ module _ (readsPast : ℕ → Bool) (b : NetBits) where
       width : length (nets ++ replicate j fill) ≡ w
       width = length-append nets (replicate j fill) ∙ ap (λ (k : ℕ). length nets + k) (length-replicate j fill) ∙ e
 
+  wide-enough : (n m stride : ℕ) → (n ≤ shiftWidth n m stride) × (m + ilog2 (max stride 1) + 1 ≤ shiftWidth n m stride)
+  unfolding shiftWidth
+  wide-enough n m stride = omega arith
+
   -- A shift whose lanes, k places off, are f k.
   module _ (onX onY : BinaryOp) (signed : Bool) (n : ℕ) (nets amount : List Net) (stride : ℕ) where
     abbrev w : ℕ
@@ -258,26 +285,22 @@ module _ (readsPast : ℕ → Bool) (b : NetBits) where
     abbrev places : List Trit
     places = map reading amount
 
-    wide-enough : (length nets ≤ w) × (length amount + ilog2 (max stride 1) + 1 ≤ w)
-    unfolding shiftWidth
-    wide-enough = omega arith
-
     pub shifted-shows : (ts : List Trit) (f : ℕ → ℕ → Trit) → 0 < n → n ≤ length nets → Shows w wider ts
-        → ((s by : Bits) → length (denoteOp onX s by) ≡ length s) → ((s by : Bits) → length (denoteOp onY s by) ≡ length s)
+        → IsShift onX → IsShift onY
         → ((by : Bits) (i : ℕ) → i < n
         → shows (getD (denoteOp onX (wider .x) by) i false) (getD (denoteOp onY (wider .y) by) i false) ≡ f (bv2nat by) i)
         → Shows n (shiftedBits readsPast b onX onY signed n nets amount stride)
         (cond (anyX places) (replicate n Undef) (tab n (f (number places * stride))))
     unfolding shiftedBits shiftBits extractBits
     shifted-shows ts f some le p lx ly h =
-        let e = wide-enough in
+        let e = wide-enough (length nets) (length amount) stride in
         let j = w - length amount in
         let amountBits = value (zext amount w) in
         let by = bvmul (amountBits .y) (nat2bv w stride) in
         let q = padded-shows amount j (constant Zero) w (omega arith) in
         rw (zero-x q, anyX-zeros places j)
         (moved-shows n w (denoteOp onX (wider .x) by) (denoteOp onY (wider .y) by) (anyX places) (f (number places * stride)) some (omega arith)
-        (lx (wider .x) by ∙ shown-x p) (ly (wider .y) by ∙ shown-y p)
+        (length-shift onX lx (wider .x) by ∙ shown-x p) (length-shift onY ly (wider .y) by ∙ shown-y p)
         λ u i l. h by i l ∙ ap (λ (k : ℕ). f k i)
         (by-number w (amountBits .x) (amountBits .y) places j stride q (rw (length-map amount reading) (e .1)) u))
 
@@ -295,7 +318,7 @@ module _ (readsPast : ℕ → Bool) (b : NetBits) where
     by-rule o = Shows n (shiftCellBits readsPast b o nets amount stride) (r.shift o ts (map reading amount) stride)
 
     filled : n + (top - n) ≡ top
-    filled = let e = wide-enough c.bvshl c.bvshl false n nets amount stride in omega arith
+    filled = let e = wide-enough n (length amount) stride in omega arith
 
     below : (i : ℕ) → i < n → i < top
     below i h = let e = filled in omega arith
@@ -305,16 +328,16 @@ module _ (readsPast : ℕ → Bool) (b : NetBits) where
     shl-shows =
         let p = padded-shows nets (top - n) (constant Zero) top filled in
         rw (length-map nets reading)
-        (shifted-shows c.bvshl c.bvshl false n nets amount stride _ (λ k i. cond (ltb i k) Zero (getD ts (i - k) Zero)) some (omega arith) p
-        length-bvshl length-bvshl λ by i h. shl-lanes ts (top - n) p by i (below i h))
+        (shifted-shows _ _ false n nets amount stride _ (λ k i. cond (ltb i k) Zero (getD ts (i - k) Zero)) some (omega arith) p
+        tt tt λ by i h. shl-lanes ts (top - n) p by i (below i h))
 
     ushr-shows : by-rule cells.ushr
     unfolding shiftCellBits
     ushr-shows =
         let p = padded-shows nets (top - n) (constant Zero) top filled in
         rw (length-map nets reading)
-        (shifted-shows c.bvlshr c.bvlshr false n nets amount stride _ (λ k i. getD ts (i + k) Zero) some (omega arith) p
-        length-bvlshr length-bvlshr λ by i h. lshr-lanes ts (top - n) p by i (below i h))
+        (shifted-shows _ _ false n nets amount stride _ (λ k i. getD ts (i + k) Zero) some (omega arith) p
+        tt tt λ by i h. lshr-lanes ts (top - n) p by i (below i h))
 
     sshr-shows : by-rule cells.sshr
     unfolding shiftCellBits
@@ -326,8 +349,8 @@ module _ (readsPast : ℕ → Bool) (b : NetBits) where
         ap (λ (k : ℕ). getD ts (k - 1) (reading fill)) (length-map nets reading)
         ∙ getD-any ts (n - 1) (reading fill) Undef (rw (length-map nets reading) (omega arith)) ∙ e in
         rw (length-map nets reading, e)
-        (shifted-shows c.bvashr c.bvashr true n nets amount stride _ (λ k i. getD ts (i + k) (reading fill)) some (omega arith) p
-        length-bvashr length-bvashr λ by i h. ashr-lanes ts (top - n) (reading fill) p (rw (length-map nets reading) some) same by i (below i h))
+        (shifted-shows _ _ true n nets amount stride _ (λ k i. getD ts (i + k) (reading fill)) some (omega arith) p
+        tt tt λ by i h. ashr-lanes ts (top - n) (reading fill) p (rw (length-map nets reading) some) same by i (below i h))
 
   -- XShr has an X on top of its value.
   xshr-shows : (nets amount : List Net) (stride : ℕ) → 0 < length nets
@@ -337,14 +360,14 @@ module _ (readsPast : ℕ → Bool) (b : NetBits) where
       let topped = nets ++ (constant Undef ∷ []) in
       let trits = map reading nets in
       let w = shiftWidth (length topped) (length amount) stride in
-      let e = wide-enough c.bvashr c.bvlshr true (length nets) topped amount stride in
+      let e = wide-enough (length topped) (length amount) stride in
       let l : length topped ≡ length nets + 1 = length-append nets (constant Undef ∷ []) in
       let last : getD topped (length topped - 1) (constant Undef) ≡ constant Undef = on-top nets (constant Undef) in
       let p : Shows w (value (extended true topped w)) ((trits ++ (Undef ∷ [])) ++ replicate (w - length topped) Undef) =
       rw last (rw (map-append reading nets (constant Undef ∷ [])) at (padded-shows topped (w - length topped) (constant Undef) w (omega arith))) in
       rw (length-map nets reading)
-      (shifted-shows c.bvashr c.bvlshr true (length nets) topped amount stride _ (λ k i. getD trits (i + k) Undef) some (omega arith) p
-      length-bvashr length-bvlshr λ by i h.
+      (shifted-shows _ _ true (length nets) topped amount stride _ (λ k i. getD trits (i + k) Undef) some (omega arith) p
+      tt tt λ by i h.
       xshr-lanes (trits ++ (Undef ∷ [])) (w - length topped) p (simp length-append (omega arith)) (on-top trits Undef) by i (omega arith)
       ∙ getD-pad trits 1 Undef (i + bv2nat by))
     where

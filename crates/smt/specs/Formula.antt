@@ -131,10 +131,13 @@ unfoldable pub mulBits : TritBits → TritBits → ℕ → TritBits
 mulBits a b n = tb (cond (noX a b n) (zeros n) (ones n)) (bvmul (a .y) (b .y))
 
 -- The carry's x: the running or, and the last once more.
+abbrev pub carryOr : Bool → Bool → Bool → Bool
+carryOr c a b = c || (a || b)
+
 unfoldable pub carryBits : Bits → Bits → Bool → Bits
 carryBits [] bx c = c ∷ []
 carryBits (a ∷ ax) [] c = c ∷ []
-carryBits (a ∷ ax) (b ∷ bx) c = (c || (a || b)) ∷ carryBits ax bx (c || (a || b))
+carryBits (a ∷ ax) (b ∷ bx) c = carryOr c a b ∷ carryBits ax bx (carryOr c a b)
 
 unfoldable pub adcBits : TritBits → TritBits → Bool → Bool → ℕ → TritBits
 adcBits a b cx cy n =

@@ -9,3 +9,4 @@ pub mod Shows
 pub mod ShowsNumber
 pub mod ShowsShift
 pub mod CellShows
+pub mod Refines

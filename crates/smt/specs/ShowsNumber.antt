@@ -25,7 +25,7 @@ use Rattle.rules.specs.Rules as r
 use Rattle.rules.specs.Number.{sum-low}
 use Rattle.smt.specs.Builder.{zeros, ones}
 use Rattle.smt.specs.Wp.{equal-eq}
-use Rattle.smt.specs.Formula.{TritBits, tb, isZero, noX, oneBit, equalsBits, lessBits, mulBits, carryBits, adcBits}
+use Rattle.smt.specs.Formula.{TritBits, tb, isZero, noX, oneBit, equalsBits, lessBits, mulBits, carryOr, carryBits, adcBits}
 use Rattle.smt.specs.Shows.{Shown, empty, lane, Shows, shown-x, shown-y, shown-ts, one-more}
 
 -- ---- X or not
@@ -245,16 +245,16 @@ carry-at empty empty false zero h = refl
 carry-at empty empty d (suc i) h = absurd (omega arith)
 carry-at (lane a b p) (lane e g q) d zero h = rw (x-of a b, x-of e g) (here d a e)
   where
-    here : (d a e : Bool) → (d || (a || e)) ≡ (d || ((a || false) || (e || false)))
+    here : (d a e : Bool) → carryOr d a e ≡ (d || ((a || false) || (e || false)))
     here true a e = refl
     here false true e = refl
     here false false true = refl
     here false false false = refl
 carry-at (lane {ts = ts} a b p) (lane {ts = us} e g q) d (suc i) h =
-    carry-at p q (d || (a || e)) i (omega arith)
+    carry-at p q (carryOr d a e) i (omega arith)
     ∙ rw (x-of a b, x-of e g) (further d a e (anyX (take (suc i) ts)) (anyX (take (suc i) us)))
   where
-    further : (d a e s w : Bool) → ((d || (a || e)) || (s || w)) ≡ (d || ((a || s) || (e || w)))
+    further : (d a e s w : Bool) → (carryOr d a e || (s || w)) ≡ (d || ((a || s) || (e || w)))
     further true a e s w = refl
     further false true e s w = refl
     further false false true true w = refl
@@ -266,7 +266,7 @@ unfolding carryBits
 length-carry [] [] d e = refl
 length-carry [] (b ∷ u) d e = refl
 length-carry (a ∷ x) [] d e = absurd (omega arith)
-length-carry (a ∷ x) (b ∷ u) d e = ap suc (length-carry x u (d || (a || b)) (omega arith))
+length-carry (a ∷ x) (b ∷ u) d e = ap suc (length-carry x u (carryOr d a b) (omega arith))
 
 -- The low k trits, where none of them is X.
 low-defined : {n : ℕ} {x y : Bits} {ts : List Trit} → Shown n x y ts → (k : ℕ) → anyX (take k ts) ≡ false

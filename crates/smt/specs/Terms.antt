@@ -85,6 +85,7 @@ use Rattle.smt.specs.Formula.{
   equalsBits,
   lessBits,
   mulBits,
+  carryOr,
   carryBits,
   adcBits,
   shiftBits,
@@ -298,9 +299,9 @@ module _ (ρ : Assignment) (v : ℕ → Value) where
       λ k1 e1 k2 e2 k3 e3 k4 e4 r er.
       let ia : i < length ax = omega arith in
       let ib : i < length bx = omega arith in
-      let hr : v r ≡ bits ((d || (getD ax i false || getD bx i false)) ∷ []) = cc (extract-one ax i ia, extract-one bx i ib) in
+      let hr : v r ≡ bits (carryOr d (getD ax i false) (getD bx i false) ∷ []) = cc (extract-one ax i ia, extract-one bx i ib) in
       wp-seq ρ v (carryX a b m (suc i) (bv r 1)) _ _ _
-      (carryX-wp a b ax bx m (suc i) (bv r 1) (d || (getD ax i false || getD bx i false)) ha hb (omega arith) (omega arith) hr)
+      (carryX-wp a b ax bx m (suc i) (bv r 1) (carryOr d (getD ax i false) (getD bx i false)) ha hb (omega arith) (omega arith) hr)
       λ ks h. rw (drop-cons ax i false ia, drop-cons bx i false ib) (hr, h)
 
   pub tvAdc-wp : (a b c : TritVec) (n : ℕ) (A B : TritBits) (cx cy : Bool) → Is ρ v a A → Is ρ v b B → Is ρ v c (one cx cy)

@@ -33,5 +33,6 @@ pub use Rattle.smt.specs.Formula.{
   isTrue,
   oneBit,
   noX,
+  carryOr,
   binaryBits,
 }
