@@ -1,3 +1,12 @@
 pub mod Prog
 pub mod Emit
 pub mod Builder
+pub mod Wp
+pub mod Formula
+pub mod Terms
+pub mod CellBits
+pub mod Shows
+pub mod ShowsNumber
+pub mod ShowsShift
+pub mod CellShows
+pub mod Refines

@@ -75,7 +75,7 @@ use Rattle.smt.specs.Builder.{
   tvAdc,
   cell,
 }
-use Rattle.soundness.specs.CellBits.{NotInput, wide, length-overwritten}
+use Rattle.smt.specs.CellBits.{NotInput, wide, length-overwritten}
 use Rattle.soundness.specs.Safe.{
   Truth,
   Width,

@@ -6,8 +6,10 @@ pub mod Shows
 pub mod ShowsNumber
 pub mod ShowsShift
 pub mod CellShows
+pub mod Refines
 pub mod Safe
 pub mod CellSafe
 pub mod Solve
 pub mod Unique
-pub mod Refines
+pub mod Formed
+pub mod Temporaries

@@ -17,7 +17,7 @@ use Rattle.engine.specs.Call.{Term, BinaryOp, Compare}
 use Rattle.engine.specs.Call as c
 use Rattle.engine.specs.Meaning.{All}
 use Rattle.rules.specs.Width.{Each}
-use Rattle.engine.specs.Sorts.{Sort, binarySort}
+use Rattle.engine.specs.Sorts.{Sort, binarySort, countLimit}
 use Rattle.smt.specs.Prog.{
   Prog,
   ret,
@@ -108,7 +108,7 @@ abbrev pub Fine : ℕ → (ℕ → Sort) → Term → Type 0
 Fine n σ (c.boolLit b) = Unit {0}
 Fine n σ (c.boolIte i a b) = Truth n σ i × Truth n σ a × Truth n σ b
 Fine n σ (c.not a) = Truth n σ a
-Fine n σ (c.and args) = (0 < length args) × All (Truth n σ) args
+Fine n σ (c.and args) = (0 < length args) × (length args < countLimit) × All (Truth n σ) args
 Fine n σ (c.lit s) = (1 ≤ length s) × (length s ≤ 64)
 Fine n σ (c.equal a b) = (a < n) × (b < n) × (σ a ≤ 64) × (σ b ≡ σ a)
 Fine n σ (c.ite i a b) = Truth n σ i × Alike n σ a b

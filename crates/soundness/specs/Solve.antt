@@ -19,8 +19,8 @@ use Rattle.engine.specs.Laws.{All-map, denote-ext, length-snoc}
 use Rattle.engine.specs.Sorts.{Sort, binarySort}
 use Rattle.smt.specs.Prog.{Prog, ret, op, declare, bind, bind2, _>>=_, Age, curr, past, Half, isUndef, isOne}
 use Rattle.smt.specs.Emit.{St, Out, netName, tempName, place, at, reread, learn, bound, bound2, after, known, emit}
-use Rattle.soundness.specs.Wp.{Named, Known, place-inj, stored}
-use Rattle.soundness.specs.Formula.{NetBits, netBits}
+use Rattle.smt.specs.Wp.{Named, Known, place-inj, stored}
+use Rattle.smt.specs.Formula.{NetBits, netBits}
 use Rattle.soundness.specs.Safe.{Truth, Vector, Alike, Width, sortUnder, Fine, Made, Made2, safe}
 
 -- ---- a list that goes on
@@ -69,7 +69,7 @@ pub fine-arguments : (n : ℕ) (σ : ℕ → Sort) (t : Term) → Fine n σ t �
 fine-arguments n σ (c.boolLit b) h = tt
 fine-arguments n σ (c.boolIte i a b) h = (h .0 .0, (h .1 .0, (h .2 .0, tt)))
 fine-arguments n σ (c.not a) h = (h .0, tt)
-fine-arguments n σ (c.and args) h = All-map (Truth n σ) (λ a. a < n) (λ a g. g .0) args (h .1)
+fine-arguments n σ (c.and args) h = All-map (Truth n σ) (λ a. a < n) (λ a g. g .0) args (h .2)
 fine-arguments n σ (c.lit s) h = tt
 fine-arguments n σ (c.equal a b) h = (h .0, (h .1, tt))
 fine-arguments n σ (c.ite i a b) h = (h .0 .0, (h .1 .0 .0, (h .1 .1, tt)))

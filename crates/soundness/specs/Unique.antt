@@ -13,7 +13,7 @@ use Rattle.engine.specs.Laws.{All-map, denote-ext}
 use Rattle.engine.specs.Sorts.{Sort}
 use Rattle.smt.specs.Prog.{Prog, ret, op, declare, bind, bind2, Age, Half}
 use Rattle.smt.specs.Emit.{St, netName, place, at, reread, learn, emit}
-use Rattle.soundness.specs.Wp.{Named, Known, learnt, bound-eq, stored}
+use Rattle.smt.specs.Wp.{Named, Known, learnt, bound-eq, stored}
 use Rattle.soundness.specs.Safe.{Made, Made2, safe}
 use Rattle.soundness.specs.Solve.{sortOfValue, sorts, denote-sort, fine-arguments}
 
