@@ -92,3 +92,55 @@ fieldsOf Dff n m = fields 4 n (n + n) 0 n
 fieldsOf IoBuf n m = netFields 0 n
 fieldsOf Input n m = netFields 0 n
 fieldsOf Note n m = netFields 0 0
+
+-- What stands at a slot, as far as reading nets goes: 0 a Void, 1 a Dff, 2 another cell.
+abbrev pub standingOf : Operation → ℕ
+standingOf Void = 0
+standingOf Buf = 2
+standingOf Not = 2
+standingOf And = 2
+standingOf Or = 2
+standingOf Xor = 2
+standingOf Mux = 2
+standingOf Adc = 2
+standingOf Aig = 2
+standingOf Eq = 2
+standingOf ULt = 2
+standingOf SLt = 2
+standingOf Shl = 2
+standingOf UShr = 2
+standingOf SShr = 2
+standingOf XShr = 2
+standingOf Mul = 2
+standingOf Match = 2
+standingOf Assign = 2
+standingOf Dff = 1
+standingOf IoBuf = 2
+standingOf Input = 2
+standingOf Note = 2
+
+-- Void, Input and Note may not be the new cell of a replacement (fault 12).
+abbrev pub mayReplace : Operation → Bool
+mayReplace Void = false
+mayReplace Buf = true
+mayReplace Not = true
+mayReplace And = true
+mayReplace Or = true
+mayReplace Xor = true
+mayReplace Mux = true
+mayReplace Adc = true
+mayReplace Aig = true
+mayReplace Eq = true
+mayReplace ULt = true
+mayReplace SLt = true
+mayReplace Shl = true
+mayReplace UShr = true
+mayReplace SShr = true
+mayReplace XShr = true
+mayReplace Mul = true
+mayReplace Match = true
+mayReplace Assign = true
+mayReplace Dff = true
+mayReplace IoBuf = true
+mayReplace Input = false
+mayReplace Note = false

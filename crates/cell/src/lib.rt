@@ -1,6 +1,6 @@
 // Cells: their operations, and how the body of each is laid out in the words of a design list (cell.rs of the original).
 ghost use mathlib.Core.Path.{_≡_};
-ghost use Rattle.cell.specs.Operation.{operationOf, numbersOf, fieldsOf};
+ghost use Rattle.cell.specs.Operation.{operationOf, numbersOf, fieldsOf, standingOf, mayReplace};
 
 // The operations, in the order of their numbers, 0 to 22.
 pub enum Operation {
@@ -146,5 +146,67 @@ pub fn fields_of(op: Operation, first: u32, second: u32) -> Fields
         Operation::IoBuf => Fields { controls: 0, nets: 0, constants: 0, patterns: 0, width: n },
         Operation::Input => Fields { controls: 0, nets: 0, constants: 0, patterns: 0, width: n },
         Operation::Note => Fields { controls: 0, nets: 0, constants: 0, patterns: 0, width: 0 },
+    }
+}
+
+// What stands at the slots of an operation's cell: 0 a Void, 1 a Dff, 2 another cell.
+pub fn standing_of(op: Operation) -> u32
+    ensures { λ r. ⌜ r ≡ standingOf op ⌝ }
+{
+    match op {
+        Operation::Void => 0,
+        Operation::Buf => 2,
+        Operation::Not => 2,
+        Operation::And => 2,
+        Operation::Or => 2,
+        Operation::Xor => 2,
+        Operation::Mux => 2,
+        Operation::Adc => 2,
+        Operation::Aig => 2,
+        Operation::Eq => 2,
+        Operation::ULt => 2,
+        Operation::SLt => 2,
+        Operation::Shl => 2,
+        Operation::UShr => 2,
+        Operation::SShr => 2,
+        Operation::XShr => 2,
+        Operation::Mul => 2,
+        Operation::Match => 2,
+        Operation::Assign => 2,
+        Operation::Dff => 1,
+        Operation::IoBuf => 2,
+        Operation::Input => 2,
+        Operation::Note => 2,
+    }
+}
+
+// Whether an operation's cell may be the new cell of a replacement.
+pub fn may_replace(op: Operation) -> bool
+    ensures { λ r. ⌜ r ≡ mayReplace op ⌝ }
+{
+    match op {
+        Operation::Void => false,
+        Operation::Buf => true,
+        Operation::Not => true,
+        Operation::And => true,
+        Operation::Or => true,
+        Operation::Xor => true,
+        Operation::Mux => true,
+        Operation::Adc => true,
+        Operation::Aig => true,
+        Operation::Eq => true,
+        Operation::ULt => true,
+        Operation::SLt => true,
+        Operation::Shl => true,
+        Operation::UShr => true,
+        Operation::SShr => true,
+        Operation::XShr => true,
+        Operation::Mul => true,
+        Operation::Match => true,
+        Operation::Assign => true,
+        Operation::Dff => true,
+        Operation::IoBuf => true,
+        Operation::Input => false,
+        Operation::Note => false,
     }
 }
