@@ -109,18 +109,18 @@ unfoldable pub replacementAt : List ℕ → ℕ → (ℕ → ℕ → Bool) → �
 replacementAt w total head least at =
     onSlot (listedNumberAt w at) (λ (slot start : ℕ).
     onNewCell (recordAt w total start) (λ (op : Operation) (width next : ℕ).
-    cond (replaces head least slot op width) (C.Read slot next) (C.Refused (fault 12 at))))
+    cond (replaces head least slot op width) (C.Read (slot + 1) next) (C.Refused (fault 12 at))))
 
 abbrev pub onReplacing : Replacing → (ℕ → ℕ → Reading Placed) → Reading Placed
-onReplacing (C.Read slot next) f = f slot next
+onReplacing (C.Read least next) f = f least next
 onReplacing (C.Refused e) f = stop (Refused e)
 
 -- k cell replacements, their slots strictly ascending.
 unfoldable pub cellRepsFrom : List ℕ → ℕ → (ℕ → ℕ → Bool) → ℕ → ℕ → ℕ → Reading Placed
 cellRepsFrom w total head zero least at = stop (Clean at)
 cellRepsFrom w total head (suc k) least at =
-    onReplacing (replacementAt w total head least at) (λ (slot next : ℕ).
-    push (record { slot = slot; cell = cellAt w (at + 1) }) (cellRepsFrom w total head k (slot + 1) next))
+    onReplacing (replacementAt w total head least at) (λ (above next : ℕ).
+    push (record { slot = numberIn w at; cell = cellAt w (at + 1) }) (cellRepsFrom w total head k above next))
 
 abbrev pub onNet : Scan → (ℕ → Pair) → Pair
 onNet (Clean next) f = f next
@@ -131,18 +131,18 @@ unfoldable pub pairAt : List ℕ → ℕ → ℕ → ℕ → Pair
 pairAt w total least at =
     onNet (listedNetAt w total at) (λ (to : ℕ).
     onNet (listedNetAt w total to) (λ (next : ℕ).
-    cond (leb least (numberIn w at)) (T.Read (numberIn w at) next) (T.Refused (fault 13 at))))
+    cond (leb least (numberIn w at)) (T.Read (numberIn w at + 1) next) (T.Refused (fault 13 at))))
 
 abbrev pub onPair : Pair → (ℕ → ℕ → Reading NetPair) → Reading NetPair
-onPair (T.Read from next) f = f from next
+onPair (T.Read least next) f = f least next
 onPair (T.Refused e) f = stop (Refused e)
 
 -- k net replacements, the payloads of their froms strictly ascending (0, 1, slots, X).
 unfoldable pub netRepsFrom : List ℕ → ℕ → ℕ → ℕ → ℕ → Reading NetPair
 netRepsFrom w total zero least at = stop (Clean at)
 netRepsFrom w total (suc k) least at =
-    onPair (pairAt w total least at) (λ (from next : ℕ).
-    push (record { from = netIn w at; to = netIn w (at + 1) }) (netRepsFrom w total k (from + 1) next))
+    onPair (pairAt w total least at) (λ (above next : ℕ).
+    push (record { from = netIn w at; to = netIn w (at + 1) }) (netRepsFrom w total k above next))
 
 -- Words left after the last pair: fault 1 at the first.
 unfoldable pub finishAt : List ℕ → ℕ → Scan

@@ -2,3 +2,5 @@ pub mod Slots
 pub mod Items
 pub mod Voids
 pub mod Read
+pub mod Marks
+pub mod Laws
