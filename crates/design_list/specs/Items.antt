@@ -22,10 +22,8 @@ use Rattle.design_list.specs.declared.Opening.{Opening}
 use Rattle.design_list.specs.declared.Opening.the-variants as O
 use Rattle.design_list.specs.declared.Placing.{Placing}
 use Rattle.design_list.specs.declared.Placing.the-variants as P
-use Rattle.design_list.specs.declared.Replacing.{Replacing}
-use Rattle.design_list.specs.declared.Replacing.the-variants as C
-use Rattle.design_list.specs.declared.Pair.{Pair}
-use Rattle.design_list.specs.declared.Pair.the-variants as T
+use Rattle.design_list.specs.declared.Step.{Step}
+use Rattle.design_list.specs.declared.Step.the-variants as T
 
 -- Items read up to a fault, or to the place after the last.
 pub record Reading (A : Type 0) : Type 0 where
@@ -92,57 +90,59 @@ listedNumberAt w at = cond (ltb at (length w)) (numberAt w (2 ^ 29 - 1) (length 
 unfoldable pub listedNetAt : List ℕ → ℕ → ℕ → Scan
 listedNetAt w total at = cond (ltb at (length w)) (netAt w total 0 (length w) at) (Refused (fault 1 (length w)))
 
-abbrev pub onSlot : Number → (ℕ → ℕ → Replacing) → Replacing
+abbrev pub onSlot : Number → (ℕ → ℕ → Step) → Step
 onSlot (N.Value slot next) f = f slot next
-onSlot (N.Refused e) f = C.Refused e
+onSlot (N.Refused e) f = T.Refused e
 
-abbrev pub onNewCell : Record → (Operation → ℕ → ℕ → Replacing) → Replacing
+abbrev pub onNewCell : Record → (Operation → ℕ → ℕ → Step) → Step
 onNewCell (R.Read op width next) f = f op width next
-onNewCell (R.Refused e) f = C.Refused e
+onNewCell (R.Refused e) f = T.Refused e
 
 -- Whether a replacement is right: its slot is not below `least`, heads a base cell as `head` says, and its new cell is no Void, Input or Note.
 unfoldable pub replaces : (ℕ → ℕ → Bool) → ℕ → ℕ → Operation → ℕ → Bool
 replaces head least slot op width = cond (leb least slot) (cond (head slot width) (mayReplace op) false) false
 
 -- #slot, then a record; what is wrong between them is fault 12, at #slot.
-unfoldable pub replacementAt : List ℕ → ℕ → (ℕ → ℕ → Bool) → ℕ → ℕ → Replacing
+unfoldable pub replacementAt : List ℕ → ℕ → (ℕ → ℕ → Bool) → ℕ → ℕ → Step
 replacementAt w total head least at =
     onSlot (listedNumberAt w at) (λ (slot start : ℕ).
     onNewCell (recordAt w total start) (λ (op : Operation) (width next : ℕ).
-    cond (replaces head least slot op width) (C.Read (slot + 1) next) (C.Refused (fault 12 at))))
+    cond (replaces head least slot op width) (T.Read (slot + 1) next) (T.Refused (fault 12 at))))
 
-abbrev pub onReplacing : Replacing → (ℕ → ℕ → Reading Placed) → Reading Placed
-onReplacing (C.Read least next) f = f least next
-onReplacing (C.Refused e) f = stop (Refused e)
+module _ {A : Type 0} where
+  abbrev pub onStep : Step → (ℕ → ℕ → Reading A) → Reading A
+  onStep (T.Read least next) f = f least next
+  onStep (T.Refused e) f = stop (Refused e)
 
--- k cell replacements, their slots strictly ascending.
-unfoldable pub cellRepsFrom : List ℕ → ℕ → (ℕ → ℕ → Bool) → ℕ → ℕ → ℕ → Reading Placed
-cellRepsFrom w total head zero least at = stop (Clean at)
-cellRepsFrom w total head (suc k) least at =
-    onReplacing (replacementAt w total head least at) (λ (above next : ℕ).
-    push (record { slot = numberIn w at; cell = cellAt w (at + 1) }) (cellRepsFrom w total head k above next))
+  -- k replacements, each not below what the one before it asks: `item` of the place of each.
+  unfoldable pub ascending : (ℕ → ℕ → Step) → (ℕ → A) → ℕ → ℕ → ℕ → Reading A
+  ascending step item zero least at = stop (Clean at)
+  ascending step item (suc k) least at = onStep (step least at) (λ (above next : ℕ). push (item at) (ascending step item k above next))
 
-abbrev pub onNet : Scan → (ℕ → Pair) → Pair
+-- The cell replacements, their slots strictly ascending: the new cell at the replaced slot.
+abbrev pub newCell : List ℕ → ℕ → Placed
+newCell w at = record { slot = numberIn w at; cell = cellAt w (at + 1) }
+
+abbrev pub cellRepsFrom : List ℕ → ℕ → (ℕ → ℕ → Bool) → ℕ → ℕ → ℕ → Reading Placed
+cellRepsFrom w total head k least at = ascending (replacementAt w total head) (newCell w) k least at
+
+abbrev pub onNet : Scan → (ℕ → Step) → Step
 onNet (Clean next) f = f next
 onNet (Refused e) f = T.Refused e
 
 -- from, to; a from not above the one before is fault 13, at from.
-unfoldable pub pairAt : List ℕ → ℕ → ℕ → ℕ → Pair
+unfoldable pub pairAt : List ℕ → ℕ → ℕ → ℕ → Step
 pairAt w total least at =
     onNet (listedNetAt w total at) (λ (to : ℕ).
     onNet (listedNetAt w total to) (λ (next : ℕ).
     cond (leb least (numberIn w at)) (T.Read (numberIn w at + 1) next) (T.Refused (fault 13 at))))
 
-abbrev pub onPair : Pair → (ℕ → ℕ → Reading NetPair) → Reading NetPair
-onPair (T.Read least next) f = f least next
-onPair (T.Refused e) f = stop (Refused e)
+-- The net replacements, the payloads of their froms strictly ascending (0, 1, slots, X).
+abbrev pub netPair : List ℕ → ℕ → NetPair
+netPair w at = record { from = netIn w at; to = netIn w (at + 1) }
 
--- k net replacements, the payloads of their froms strictly ascending (0, 1, slots, X).
-unfoldable pub netRepsFrom : List ℕ → ℕ → ℕ → ℕ → ℕ → Reading NetPair
-netRepsFrom w total zero least at = stop (Clean at)
-netRepsFrom w total (suc k) least at =
-    onPair (pairAt w total least at) (λ (above next : ℕ).
-    push (record { from = netIn w at; to = netIn w (at + 1) }) (netRepsFrom w total k above next))
+abbrev pub netRepsFrom : List ℕ → ℕ → ℕ → ℕ → ℕ → Reading NetPair
+netRepsFrom w total k least at = ascending (pairAt w total) (netPair w) k least at
 
 -- Words left after the last pair: fault 1 at the first.
 unfoldable pub finishAt : List ℕ → ℕ → Scan

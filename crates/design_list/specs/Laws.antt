@@ -26,8 +26,10 @@ use Rattle.cell_reader.specs.Accepted.{IsRecord, record-read, standing-at}
 use Rattle.design_list.specs.declared.Placing.{Placing}
 use Rattle.design_list.specs.declared.Placing.the-variants as P
 use Rattle.design_list.specs.declared.Cells.the-variants as C
+use Rattle.design_list.specs.declared.Step.{Step}
+use Rattle.design_list.specs.declared.Step.the-variants as T
 use Rattle.design_list.specs.Slots.{covering, markOf, markWord, marks}
-use Rattle.design_list.specs.Items.{Reading, stop, push, limitOf, onRecord, onPlaced, placedAt, cellsFrom, cellsOf}
+use Rattle.design_list.specs.Items.{Reading, stop, push, limitOf, onRecord, onPlaced, placedAt, cellsFrom, cellsOf, onStep, ascending}
 use Rattle.design_list.specs.Marks.{counted}
 
 pub fill-none : (t : List ℕ) (at end v : ℕ) → end ≤ at → sets t at (replicate (end - at) v) ≡ t
@@ -202,3 +204,23 @@ module _ (w : List ℕ) (base total : ℕ) where
           let length-is : slot + length (replicate (after - slot) (markWord base (standingOf op) width slot)) ≡ after = rw (length-replicate) (omega arith) in
           ap (sets t slot) (marks-cons base here cs) ∙ rw (word, count-is)
           (sets-append t slot (replicate (after - slot) (markWord base (standingOf op) width slot)) (marks base cs) ∙ rw length-is)
+
+-- A run of replacements at its end, at a turn and at a fault.
+module _ {A : Type 0} (step : ℕ → ℕ → Step) (item : ℕ → A) where
+  pub ascending-none : (k least at : ℕ) → k ≤ 0 → ascending step item k least at .scan ≡ S.Clean at
+  unfolding ascending
+  ascending-none zero least at none = refl
+  ascending-none (suc k) least at none = absurd (omega arith)
+
+  pub ascending-turn :
+      (k least at : ℕ) {above next : ℕ} → 0 < k → step least at ≡ T.Read above next →
+      ascending step item k least at .scan ≡ ascending step item (k - 1) above next .scan
+  unfolding ascending
+  ascending-turn zero least at some read = absurd (omega arith)
+  ascending-turn (suc k) least at some read = rw (read, sub-one)
+
+  pub ascending-fault :
+      (k least at : ℕ) {e : Fault} → 0 < k → step least at ≡ T.Refused e → ascending step item k least at .scan ≡ S.Refused e
+  unfolding ascending
+  ascending-fault zero least at some refused = absurd (omega arith)
+  ascending-fault (suc k) least at some refused = rw refused

@@ -40,14 +40,8 @@ pub enum Cells {
     Refused(Fault),
 }
 
-// The least slot that the next replacement may have and the place after this one, or the fault met.
-pub enum Replacing {
-    Read { least: usize, next: usize },
-    Refused(Fault),
-}
-
-// The least from that the next net replacement may have and the place after this one, or the fault met.
-pub enum Pair {
+// The least slot, or from, that the next replacement may have and the place after this one; or the fault met.
+pub enum Step {
     Read { least: usize, next: usize },
     Refused(Fault),
 }
@@ -172,4 +166,144 @@ fn cells_at(list: &[u32], base: usize, total: usize, table: &mut [u32]) -> Cells
         }
     }
     Cells::Read { count, next: at }
+}
+
+// The number at a place outside the records.
+fn listed_number_at(list: &[u32], at: usize) -> Number
+    ensures { λ r. ⌜ r ≡ listedNumberAt (now (list .entry)) at ⌝ }
+{
+    if at < list.len() {
+        fields::number_at(list, 536870911, list.len(), at)
+    } else {
+        Number::Refused(Fault { number: 1, place: list.len() })
+    }
+}
+
+// The net at a place outside the records.
+fn listed_net_at(list: &[u32], total: usize, at: usize) -> Scan
+    ensures { λ r. ⌜ r ≡ listedNetAt (now (list .entry)) total at ⌝ }
+{
+    if at < list.len() {
+        fields::net_at(list, total, 0, list.len(), at)
+    } else {
+        Scan::Refused(Fault { number: 1, place: list.len() })
+    }
+}
+
+// Whether a slot heads a cell of the base that is no Void and has an output width, by the table's words.
+fn heads(table: &[u32], base: usize, slot: usize, width: usize) -> bool
+    ensures { λ r. ⌜ r ≡ headsIn (now (table .entry)) base slot width ⌝ }
+{
+    if slot < base {
+        let mark = logic::word_at(table, slot);
+        if (mark / 1024) as usize == slot {
+            if mark % 4 == 0 {
+                return false;
+            }
+            return (mark / 8 % 128) as usize == width;
+        }
+        return false;
+    }
+    false
+}
+
+// Whether a replacement is right.
+fn replaces(table: &[u32], base: usize, least: usize, slot: usize, op: Operation, width: usize) -> bool
+    ensures { λ r. ⌜ r ≡ replaces (headsIn (now (table .entry)) base) least slot op width ⌝ }
+{
+    if least <= slot {
+        if heads(table, base, slot, width) {
+            return cell::may_replace(op);
+        }
+        return false;
+    }
+    false
+}
+
+// The cell replacement at a place.
+fn replacement_at(list: &[u32], table: &[u32], base: usize, total: usize, least: usize, at: usize) -> Step
+    ensures { λ r. ⌜ r ≡ replacementAt (now (list .entry)) total (headsIn (now (table .entry)) base) least at ⌝ }
+{
+    match listed_number_at(list, at) {
+        Number::Refused(f) => Step::Refused(f),
+        Number::Value { n: slot, next: start } => match cell_reader::record_at(list, total, start) {
+            Record::Refused(f) => Step::Refused(f),
+            Record::Read { op, width, next } => {
+                if replaces(table, base, least, slot as usize, op, width) {
+                    return Step::Read { least: slot as usize + 1, next };
+                }
+                Step::Refused(Fault { number: 12, place: at })
+            }
+        },
+    }
+}
+
+// The cell replacements.
+fn cell_reps_at(list: &[u32], table: &[u32], base: usize, total: usize, k: usize, start: usize) -> Scan
+    ensures { λ r. ⌜ r ≡ cellRepsFrom (now (list .entry)) total (headsIn (now (table .entry)) base) k 0 start .scan ⌝ }
+{
+    let mut at = start;
+    let mut left = k;
+    let mut least: usize = 0;
+    while 0 < left {
+        match replacement_at(list, table, base, total, least, at) {
+            Step::Refused(f) => {
+                return Scan::Refused(f);
+            }
+            Step::Read { least: above, next } => {
+                least = above;
+                at = next;
+                left -= 1;
+            }
+        }
+    }
+    Scan::Clean(at)
+}
+
+// The net replacement at a place.
+fn pair_at(list: &[u32], total: usize, least: usize, at: usize) -> Step
+    ensures { λ r. ⌜ r ≡ pairAt (now (list .entry)) total least at ⌝ }
+{
+    match listed_net_at(list, total, at) {
+        Scan::Refused(f) => Step::Refused(f),
+        Scan::Clean(to) => match listed_net_at(list, total, to) {
+            Scan::Refused(f) => Step::Refused(f),
+            Scan::Clean(next) => {
+                let from = (logic::word_at(list, at) % 536870912) as usize;
+                if least <= from {
+                    return Step::Read { least: from + 1, next };
+                }
+                Step::Refused(Fault { number: 13, place: at })
+            }
+        },
+    }
+}
+
+// The net replacements.
+fn net_reps_at(list: &[u32], total: usize, k: usize, start: usize) -> Scan
+    ensures { λ r. ⌜ r ≡ netRepsFrom (now (list .entry)) total k 0 start .scan ⌝ }
+{
+    let mut at = start;
+    let mut left = k;
+    let mut least: usize = 0;
+    while 0 < left {
+        match pair_at(list, total, least, at) {
+            Step::Refused(f) => {
+                return Scan::Refused(f);
+            }
+            Step::Read { least: above, next } => {
+                least = above;
+                at = next;
+                left -= 1;
+            }
+        }
+    }
+    Scan::Clean(at)
+}
+
+// Whether the list ends at a place.
+fn finish_at(list: &[u32], at: usize) -> Scan
+    ensures { λ r. ⌜ r ≡ finishAt (now (list .entry)) at ⌝ }
+{
+    if at == list.len() { Scan::Clean(at) } else { Scan::Refused(Fault { number: 1, place: at }) }
 }
