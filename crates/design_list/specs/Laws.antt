@@ -31,6 +31,7 @@ use Rattle.design_list.specs.declared.Step.the-variants as T
 use Rattle.design_list.specs.Slots.{covering, markOf, markWord, marks}
 use Rattle.design_list.specs.Items.{Reading, stop, push, limitOf, onRecord, onPlaced, placedAt, cellsFrom, cellsOf, onStep, ascending}
 use Rattle.design_list.specs.Marks.{counted}
+use Rattle.design_list.specs.Voids.{offends, voidAt}
 
 pub fill-none : (t : List ℕ) (at end v : ℕ) → end ≤ at → sets t at (replicate (end - at) v) ≡ t
 fill-none t at end v past = let none : end - at ≡ 0 = omega arith in rw none
@@ -224,3 +225,13 @@ module _ {A : Type 0} (step : ℕ → ℕ → Step) (item : ℕ → A) where
   unfolding ascending
   ascending-fault zero least at some refused = absurd (omega arith)
   ascending-fault (suc k) least at some refused = rw refused
+
+-- A word of the second pass.
+module _ (w : List ℕ) (void : ℕ → Bool) (clock at : ℕ) where
+  pub void-clean : offends w void clock at ≡ false → voidAt w void clock at ≡ S.Clean (at + 1)
+  unfolding voidAt
+  void-clean right = rw right
+
+  pub void-fault : offends w void clock at ≡ true → voidAt w void clock at ≡ S.Refused (fault 10 at)
+  unfolding voidAt
+  void-fault wrong = rw wrong

@@ -11,6 +11,8 @@ use Rattle.fields.specs.declared.Scan.{Scan}
 use Rattle.fields.specs.declared.Scan.the-variants.{Clean, Refused}
 use Rattle.fields.specs.Field.{fault, onClean, isConstant, scanMany}
 use Rattle.cell_reader.specs.Parse.{numberIn, opAt}
+use Rattle.design_list.specs.declared.Item.{Item}
+use Rattle.design_list.specs.declared.Item.the-variants.{Cell, Replacement, Pair}
 
 -- Whether a payload names a slot of which `void` holds.
 unfoldable pub namesVoid : (ℕ → Bool) → ℕ → Bool
@@ -24,7 +26,7 @@ unfoldable pub voidAt : List ℕ → (ℕ → Bool) → ℕ → ℕ → Scan
 voidAt w void clock at = cond (offends w void clock at) (Refused (fault 10 at)) (Clean (at + 1))
 
 -- A Dff's clock is its third field; another record has none, and place 0 is in no record.
-abbrev pub clockAt : List ℕ → ℕ → ℕ
+unfoldable pub clockAt : List ℕ → ℕ → ℕ
 clockAt w at = cond (eqb (standingOf (opAt w at)) 1) (at + 3) 0
 
 -- The fields of the record at a place, if there is one.
@@ -41,9 +43,14 @@ unfoldable pub pairVoidsAt : List ℕ → (ℕ → Bool) → ℕ → Scan
 pairVoidsAt w void at =
     cond (ltb at (length w)) (voidAt w void 0 (at + 1)) (Clean at)
 
--- All of them in list order.
+abbrev pub itemVoidsAt : List ℕ → (ℕ → Bool) → Item → ℕ → Scan
+itemVoidsAt w void Cell at = recordVoidsAt w void at
+itemVoidsAt w void Replacement at = replacementVoidsAt w void at
+itemVoidsAt w void Pair at = pairVoidsAt w void at
+
+-- All of them in list order, from the first cell on.
 unfoldable pub voidsAt : List ℕ → (ℕ → Bool) → ℕ → ℕ → ℕ → Scan
 voidsAt w void cells cellReps netReps =
-    onClean (scanMany (recordVoidsAt w void) cells 4) (λ (at : ℕ).
-    onClean (scanMany (replacementVoidsAt w void) cellReps at) (λ (at : ℕ).
-    scanMany (pairVoidsAt w void) netReps at))
+    onClean (scanMany (itemVoidsAt w void Cell) cells 4) (λ (replacements : ℕ).
+    onClean (scanMany (itemVoidsAt w void Replacement) cellReps replacements) (λ (pairs : ℕ).
+    scanMany (itemVoidsAt w void Pair) netReps pairs))

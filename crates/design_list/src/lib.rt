@@ -1,4 +1,5 @@
 // The design list: header, cells, cell replacements and net replacements, up to the first fault.
+use cell::Decoded;
 use cell::Operation;
 use cell_reader::Record;
 use fields::Number;
@@ -11,7 +12,7 @@ ghost use lib.Seq.{sets};
 ghost use Rattle.design_list.specs.Slots.{markWord, marks};
 ghost use Rattle.design_list.specs.Items.{countsAt, headerAt, limitOf, placedAt, cellsOf, listedNumberAt, listedNetAt, replaces, replacementAt, cellRepsFrom, pairAt, netRepsFrom, finishAt};
 ghost use Rattle.design_list.specs.Marks.{headsIn, isVoidIn, counted};
-ghost use Rattle.design_list.specs.Voids.{namesVoid, offends, voidAt, clockAt, recordVoidsAt, replacementVoidsAt, pairVoidsAt, voidsAt};
+ghost use Rattle.design_list.specs.Voids.{namesVoid, offends, voidAt, clockAt, recordVoidsAt, replacementVoidsAt, pairVoidsAt, itemVoidsAt, voidsAt};
 ghost use Rattle.fields.specs.Field.{scanMany};
 
 // The four words of the header.
@@ -44,6 +45,13 @@ pub enum Cells {
 pub enum Step {
     Read { least: usize, next: usize },
     Refused(Fault),
+}
+
+// The three kinds of items after the header.
+pub enum Item {
+    Cell,
+    Replacement,
+    Pair,
 }
 
 // The numbers of an accepted list: its header, how many cells it has, and where its replacements start.
@@ -306,4 +314,158 @@ fn finish_at(list: &[u32], at: usize) -> Scan
     ensures { λ r. ⌜ r ≡ finishAt (now (list .entry)) at ⌝ }
 {
     if at == list.len() { Scan::Clean(at) } else { Scan::Refused(Fault { number: 1, place: at }) }
+}
+
+// Whether a slot is that of a Void of the base, by the table's words.
+fn is_void(table: &[u32], base: usize, slot: usize) -> bool
+    ensures { λ r. ⌜ r ≡ isVoidIn (now (table .entry)) base slot ⌝ }
+{
+    if slot < base {
+        return logic::word_at(table, slot) % 4 == 0;
+    }
+    false
+}
+
+// Whether a net payload names a Void of the base.
+fn names_void(table: &[u32], base: usize, payload: u32) -> bool
+    ensures { λ r. ⌜ r ≡ namesVoid (isVoidIn (now (table .entry)) base) payload ⌝ }
+{
+    if payload < 2 {
+        return false;
+    }
+    if payload == 536870911 {
+        return false;
+    }
+    is_void(table, base, (payload - 2) as usize)
+}
+
+// Whether the word at a place is a net or control word, not the clock, that names a Void of the base.
+fn offends(list: &[u32], table: &[u32], base: usize, clock: usize, at: usize) -> bool
+    ensures { λ r. ⌜ r ≡ offends (now (list .entry)) (isVoidIn (now (table .entry)) base) clock at ⌝ }
+{
+    let word = logic::word_at(list, at);
+    if word / 536870912 <= 1 {
+        if at == clock {
+            return false;
+        }
+        return names_void(table, base, word % 536870912);
+    }
+    false
+}
+
+// A run of n words, up to the first that offends.
+fn voids_in(list: &[u32], table: &[u32], base: usize, clock: usize, n: usize, start: usize) -> Scan
+    requires { ⌜ start + n < 2 ^ 63 ⌝ }
+    ensures { λ r. ⌜ r ≡ scanMany (voidAt (now (list .entry)) (isVoidIn (now (table .entry)) base) clock) n start ⌝ }
+{
+    let mut at = start;
+    let mut left = n;
+    while 0 < left {
+        if offends(list, table, base, clock, at) {
+            return Scan::Refused(Fault { number: 10, place: at });
+        }
+        at += 1;
+        left -= 1;
+    }
+    Scan::Clean(at)
+}
+
+// The place of the clock of the record at a place, 0 where it has none.
+fn clock_at(list: &[u32], at: usize) -> usize
+    requires { ⌜ at < 2 ^ 62 ⌝ }
+    ensures { λ r. ⌜ r ≡ clockAt (now (list .entry)) at ⌝ }
+{
+    match cell::operation_of(logic::word_at(list, at) % 536870912 % 32) {
+        Decoded::Unknown => 0,
+        Decoded::Known(op) => {
+            if cell::standing_of(op) == 1 {
+                return at + 3;
+            }
+            0
+        }
+    }
+}
+
+// The fields of the record at a place.
+fn record_voids_at(list: &[u32], table: &[u32], base: usize, at: usize) -> Scan
+    requires { ⌜ length (now list) ≤ 16384 ⌝ }
+    ensures { λ r. ⌜ r ≡ recordVoidsAt (now (list .entry)) (isVoidIn (now (table .entry)) base) at ⌝ }
+{
+    if at < list.len() {
+        let count = (logic::word_at(list, at) % 536870912 / 32) as usize;
+        return voids_in(list, table, base, clock_at(list, at), count, at + 1);
+    }
+    Scan::Clean(at)
+}
+
+// The fields of the record after the #slot at a place.
+fn replacement_voids_at(list: &[u32], table: &[u32], base: usize, at: usize) -> Scan
+    requires { ⌜ length (now list) ≤ 16384 ⌝ }
+    ensures { λ r. ⌜ r ≡ replacementVoidsAt (now (list .entry)) (isVoidIn (now (table .entry)) base) at ⌝ }
+{
+    if at < list.len() {
+        return record_voids_at(list, table, base, at + 1);
+    }
+    Scan::Clean(at)
+}
+
+// The to of the pair at a place.
+fn pair_voids_at(list: &[u32], table: &[u32], base: usize, at: usize) -> Scan
+    requires { ⌜ length (now list) ≤ 16384 ⌝ }
+    ensures { λ r. ⌜ r ≡ pairVoidsAt (now (list .entry)) (isVoidIn (now (table .entry)) base) at ⌝ }
+{
+    if at < list.len() {
+        if offends(list, table, base, 0, at + 1) {
+            return Scan::Refused(Fault { number: 10, place: at + 1 });
+        }
+        return Scan::Clean(at + 1 + 1);
+    }
+    Scan::Clean(at)
+}
+
+// An item of the list.
+fn item_voids_at(list: &[u32], table: &[u32], base: usize, item: Item, at: usize) -> Scan
+    requires { ⌜ length (now list) ≤ 16384 ⌝ }
+    ensures { λ r. ⌜ r ≡ itemVoidsAt (now (list .entry)) (isVoidIn (now (table .entry)) base) item at ⌝ }
+{
+    match item {
+        Item::Cell => record_voids_at(list, table, base, at),
+        Item::Replacement => replacement_voids_at(list, table, base, at),
+        Item::Pair => pair_voids_at(list, table, base, at),
+    }
+}
+
+// k items of a kind.
+fn items_voids_at(list: &[u32], table: &[u32], base: usize, item: Item, k: usize, start: usize) -> Scan
+    requires { ⌜ length (now list) ≤ 16384 ⌝ }
+    ensures { λ r. ⌜ r ≡ scanMany (itemVoidsAt (now (list .entry)) (isVoidIn (now (table .entry)) base) item) k start ⌝ }
+{
+    let mut at = start;
+    let mut left = k;
+    while 0 < left {
+        match item_voids_at(list, table, base, item, at) {
+            Scan::Refused(f) => {
+                return Scan::Refused(f);
+            }
+            Scan::Clean(next) => {
+                at = next;
+                left -= 1;
+            }
+        }
+    }
+    Scan::Clean(at)
+}
+
+// The first word of the list that names a Void of the base where it may not.
+fn voids_at(list: &[u32], table: &[u32], base: usize, cells: usize, cellreps: usize, netreps: usize) -> Scan
+    requires { ⌜ length (now list) ≤ 16384 ⌝ }
+    ensures { λ r. ⌜ r ≡ voidsAt (now (list .entry)) (isVoidIn (now (table .entry)) base) cells cellreps netreps ⌝ }
+{
+    match items_voids_at(list, table, base, Item::Cell, cells, 4) {
+        Scan::Refused(f) => Scan::Refused(f),
+        Scan::Clean(replacements) => match items_voids_at(list, table, base, Item::Replacement, cellreps, replacements) {
+            Scan::Refused(f) => Scan::Refused(f),
+            Scan::Clean(pairs) => items_voids_at(list, table, base, Item::Pair, netreps, pairs),
+        },
+    }
 }
