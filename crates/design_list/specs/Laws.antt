@@ -159,7 +159,7 @@ module _ (w : List ℕ) (base total : ℕ) where
       let scan : cellsOf w base total .scan ≡ S.Refused e = rw done at (going .scan) in
       (rw scan, sym (rw done at (going .table)))
 
-  limit-low : (slot : ℕ) {after : ℕ} → base ≤ total → after ≤ limitOf base total slot → after ≤ total
+  pub limit-low : (slot : ℕ) {after : ℕ} → base ≤ total → after ≤ limitOf base total slot → after ≤ total
   limit-low slot {after} order = go (ltb slot base)
     where
       go : (b : Bool) → after ≤ cond b base total → after ≤ total

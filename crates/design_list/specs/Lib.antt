@@ -4,3 +4,4 @@ pub mod Voids
 pub mod Read
 pub mod Marks
 pub mod Laws
+pub mod Cover
