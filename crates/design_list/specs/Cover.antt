@@ -82,6 +82,17 @@ walk-covers {slot = slot} (placed {at = at} {width = width} {after = after} {cel
     let same : width ≡ outputLen (cellAt _ at) = is .record-is .same-width in
     simp (length-append, length-replicate) (rw (← same) (omega arith))
 
+-- The cells of a list whose cells met no fault.
+pub walk-cells :
+    (w : List ℕ) (base added end : ℕ) → cellsOf w base (base + added) .scan ≡ S.Clean end →
+    Walk w base (base + added) 0 4 (cellsOf w base (base + added) .items) end
+unfolding cellsOf
+walk-cells w base added end read = walk-read w base (base + added) (base + added) 0 4 end (omega arith) (omega arith) (omega arith) read
+
+pub walk-total :
+    {w : List ℕ} {base total at end : ℕ} {cells : List Placed} → Walk w base total 0 at cells end → length (covering cells) ≡ total
+walk-total {total = total} {cells = cells} walk = let covered : 0 + length (covering cells) ≡ total = walk-covers walk in omega arith
+
 -- What holds of every cell holds of what takes a slot.
 abbrev pub All : (Placed → Type 0) → List Placed → Type 0
 All P [] = Unit {0}

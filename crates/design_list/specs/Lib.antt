@@ -5,3 +5,4 @@ pub mod Read
 pub mod Marks
 pub mod Laws
 pub mod Cover
+pub mod Answers
