@@ -88,18 +88,27 @@ module _ (w : List ℕ) (h : Header) (cells : List Placed) where
       answer-scan (cellRepsFrom w (h .base + h .added) (heads cells (h .base)) (h .cellreps) 0 replacements .scan) _ _ (λ pairs read.
       net-reps-answer _ replacements pairs (ascending-length _ _ (h .cellreps) 0 replacements pairs read))
 
-module _ (w : List ℕ) (h : Header) (t : List ℕ) where
+module _ (w : List ℕ) (h : Header) where
   abbrev pub cellsRead : Reading Placed
   cellsRead = cellsOf w (h .base) (h .base + h .added)
 
+  pub cells-refused : {e : Fault} → C.Refused e ≡ counted cellsRead → D.Refused e ≡ answer (readCells w h)
+  unfolding readCells
+  cells-refused {e} read = go (cellsRead .scan) read
+    where
+      go : (s : Scan) → C.Refused e ≡ onCells s (length (cellsRead .items)) →
+          D.Refused e ≡ answer (onScan s (λ (cellRepsAt : ℕ). readCellReps w h (cellsRead .items) cellRepsAt))
+      go (S.Refused f) s = cc
+      go (S.Clean n) s = let z : _≡_ {A = ℕ} 0 1 = cc in absurd (omega arith)
+
   -- After the cells, with the table that they leave.
   pub cells-answer :
-      {count next : ℕ} → h .base + h .added ≤ length t → C.Read count next ≡ counted cellsRead →
+      (t : List ℕ) {count next : ℕ} → h .base + h .added ≤ length t → C.Read count next ≡ counted cellsRead →
       cellRepsAnswer w (headsIn (sets t 0 (marks (h .base) (cellsRead .items))) (h .base))
       (isVoidIn (sets t 0 (marks (h .base) (cellsRead .items))) (h .base)) h count next
       ≡ answer (readCells w h)
   unfolding readCells
-  cells-answer {count} {next} room read = go (cellsRead .scan) refl read
+  cells-answer t {count} {next} room read = go (cellsRead .scan) refl read
     where
       after : cellsRead .scan ≡ S.Clean next → count ≡ length (cellsRead .items) →
           cellRepsAnswer w (headsIn (sets t 0 (marks (h .base) (cellsRead .items))) (h .base))
@@ -120,12 +129,3 @@ module _ (w : List ℕ) (h : Header) (t : List ℕ) where
       go (S.Clean n) s e =
           let place : n ≡ next = cc in
           after (s ∙ ap S.Clean place) (cc) ∙ ap (λ (i : ℕ). answer (readCellReps w h (cellsRead .items) i)) (sym place)
-
-  pub cells-refused : {e : Fault} → C.Refused e ≡ counted cellsRead → D.Refused e ≡ answer (readCells w h)
-  unfolding readCells
-  cells-refused {e} read = go (cellsRead .scan) read
-    where
-      go : (s : Scan) → C.Refused e ≡ onCells s (length (cellsRead .items)) →
-          D.Refused e ≡ answer (onScan s (λ (cellRepsAt : ℕ). readCellReps w h (cellsRead .items) cellRepsAt))
-      go (S.Refused f) s = cc
-      go (S.Clean n) s = let z : _≡_ {A = ℕ} 0 1 = cc in absurd (omega arith)

@@ -17,19 +17,25 @@ use Rattle.cell.specs.Operation.{standingOf}
 use Rattle.cell.specs.declared.Operation.{Operation}
 use Rattle.fields.specs.declared.Scan.{Scan}
 use Rattle.fields.specs.declared.Scan.the-variants as S
-use Rattle.fields.specs.Field.{fault}
+use Rattle.fields.specs.declared.Number.{Number}
+use Rattle.fields.specs.declared.Number.the-variants as N
+use Rattle.fields.specs.Field.{fault, numberAt}
+use Rattle.fields.specs.Accepted.{number-read}
 use Rattle.cell_reader.specs.declared.Record.{Record}
 use Rattle.cell_reader.specs.declared.Record.the-variants as R
 use Rattle.cell_reader.specs.Record.{recordAt}
 use Rattle.cell_reader.specs.Parse.{opAt, cellAt}
 use Rattle.cell_reader.specs.Accepted.{IsRecord, record-read, standing-at}
+use Rattle.design_list.specs.declared.Header.{Header}
+use Rattle.design_list.specs.declared.Opening.{Opening}
+use Rattle.design_list.specs.declared.Opening.the-variants as O
 use Rattle.design_list.specs.declared.Placing.{Placing}
 use Rattle.design_list.specs.declared.Placing.the-variants as P
 use Rattle.design_list.specs.declared.Cells.the-variants as C
 use Rattle.design_list.specs.declared.Step.{Step}
 use Rattle.design_list.specs.declared.Step.the-variants as T
 use Rattle.design_list.specs.Slots.{covering, markOf, markWord, marks}
-use Rattle.design_list.specs.Items.{Reading, stop, push, limitOf, onRecord, onPlaced, placedAt, cellsFrom, cellsOf, onStep, ascending}
+use Rattle.design_list.specs.Items.{Reading, stop, push, onHeaderNumber, countsAt, headerAt, limitOf, onRecord, onPlaced, placedAt, cellsFrom, cellsOf, onStep, ascending}
 use Rattle.design_list.specs.Marks.{counted}
 use Rattle.design_list.specs.Voids.{offends, voidAt}
 
@@ -235,3 +241,28 @@ module _ (w : List ℕ) (void : ℕ → Bool) (clock at : ℕ) where
   pub void-fault : offends w void clock at ≡ true → voidAt w void clock at ≡ S.Refused (fault 10 at)
   unfolding voidAt
   void-fault wrong = rw wrong
+
+-- A header that was read has at most 4,096 slots.
+pub header-read : (w : List ℕ) {h : Header} → headerAt w ≡ O.Read h → h .base + h .added ≤ 4096
+unfolding headerAt countsAt
+header-read w {h} read = base-read (numberAt w 4096 4 0) refl read
+  where
+    counts : (base added : ℕ) → added ≤ 4096 - base → base ≤ 4096 → (c₁ c₂ : Number) →
+        onHeaderNumber c₁ (λ (cellreps : ℕ). onHeaderNumber c₂ (λ (netreps : ℕ).
+        O.Read record { base = base; added = added; cellreps = cellreps; netreps = netreps })) ≡ O.Read h → h .base + h .added ≤ 4096
+    counts base added low top (N.Refused f) c₂ e = let z : _≡_ {A = ℕ} 0 1 = cc in absurd (omega arith)
+    counts base added low top (N.Value a b) (N.Refused f) e = let z : _≡_ {A = ℕ} 0 1 = cc in absurd (omega arith)
+    counts base added low top (N.Value a b) (N.Value c d) e =
+        let same : record { base = base; added = added; cellreps = a; netreps = c } ≡ h = cc in
+        rw (← same) (omega arith)
+    added-read : (base : ℕ) → base ≤ 4096 → (n : Number) → numberAt w (4096 - base) 4 1 ≡ n →
+        onHeaderNumber n (λ (added : ℕ). countsAt w base added) ≡ O.Read h → h .base + h .added ≤ 4096
+    added-read base top (N.Refused f) n e = let z : _≡_ {A = ℕ} 0 1 = cc in absurd (omega arith)
+    added-read base top (N.Value added next) n e =
+        counts base added (number-read w (4096 - base) 4 1 n .bounded) top (numberAt w 4096 4 2) (numberAt w 4096 4 3) e
+    base-read : (n : Number) → numberAt w 4096 4 0 ≡ n →
+        onHeaderNumber n (λ (base : ℕ). onHeaderNumber (numberAt w (4096 - base) 4 1) (λ (added : ℕ). countsAt w base added)) ≡ O.Read h →
+        h .base + h .added ≤ 4096
+    base-read (N.Refused f) n e = let z : _≡_ {A = ℕ} 0 1 = cc in absurd (omega arith)
+    base-read (N.Value base next) n e =
+        added-read base (number-read w 4096 4 0 n .bounded) (numberAt w (4096 - base) 4 1) refl e

@@ -13,6 +13,8 @@ ghost use Rattle.design_list.specs.Slots.{markWord, marks};
 ghost use Rattle.design_list.specs.Items.{countsAt, headerAt, limitOf, placedAt, cellsOf, listedNumberAt, listedNetAt, replaces, replacementAt, cellRepsFrom, pairAt, netRepsFrom, finishAt};
 ghost use Rattle.design_list.specs.Marks.{headsIn, isVoidIn, counted};
 ghost use Rattle.design_list.specs.Voids.{namesVoid, offends, voidAt, clockAt, recordVoidsAt, replacementVoidsAt, pairVoidsAt, itemVoidsAt, voidsAt};
+ghost use Rattle.design_list.specs.Read.{readCells, read, answer};
+ghost use Rattle.design_list.specs.Answers.{netRepsAnswer, cellRepsAnswer, cellsRead};
 ghost use Rattle.fields.specs.Field.{scanMany};
 
 // The four words of the header.
@@ -467,5 +469,72 @@ fn voids_at(list: &[u32], table: &[u32], base: usize, cells: usize, cellreps: us
             Scan::Refused(f) => Scan::Refused(f),
             Scan::Clean(pairs) => items_voids_at(list, table, base, Item::Pair, netreps, pairs),
         },
+    }
+}
+
+// From the net replacements on.
+fn read_net_reps(list: &[u32], table: &[u32], header: Header, count: usize, replacements: usize, pairs: usize) -> DesignRead
+    requires { ⌜ (length (now list) ≤ 16384) × (header .base + header .added ≤ 4096) ⌝ }
+    ensures { λ r. ⌜ r ≡ netRepsAnswer (now (list .entry)) (isVoidIn (now (table .entry)) (header .base)) header count replacements pairs ⌝ }
+{
+    match net_reps_at(list, header.base + header.added, header.netreps, pairs) {
+        Scan::Refused(f) => DesignRead::Refused(f),
+        Scan::Clean(next) => match finish_at(list, next) {
+            Scan::Refused(f) => DesignRead::Refused(f),
+            Scan::Clean(_) => match voids_at(list, table, header.base, count, header.cellreps, header.netreps) {
+                Scan::Refused(f) => DesignRead::Refused(f),
+                Scan::Clean(_) => DesignRead::Accepted(Extent {
+                    base: header.base,
+                    added: header.added,
+                    cells: count,
+                    cellreps: header.cellreps,
+                    netreps: header.netreps,
+                    replacements,
+                    pairs,
+                }),
+            },
+        },
+    }
+}
+
+// From the cell replacements on.
+fn read_cell_reps(list: &[u32], table: &[u32], header: Header, count: usize, replacements: usize) -> DesignRead
+    requires { ⌜ (length (now list) ≤ 16384) × (header .base + header .added ≤ 4096) ⌝ }
+    ensures { λ r. ⌜ r ≡ cellRepsAnswer (now (list .entry)) (headsIn (now (table .entry)) (header .base)) (isVoidIn (now (table .entry)) (header .base)) header count replacements ⌝ }
+{
+    match cell_reps_at(list, table, header.base, header.base + header.added, header.cellreps, replacements) {
+        Scan::Refused(f) => DesignRead::Refused(f),
+        Scan::Clean(pairs) => read_net_reps(list, table, header, count, replacements, pairs),
+    }
+}
+
+// From the cells on, with the word for each slot stored in the table.
+fn read_cells(list: &[u32], header: Header, table: &mut [u32]) -> DesignRead
+    requires { ⌜ (length (now list) ≤ 16384) × (header .base + header .added ≤ 4096) × (header .base + header .added ≤ length (now table)) ⌝ }
+    ensures { λ r. ⌜ (r ≡ answer (readCells (now (list .entry)) header))
+        × (now (table .exit) ≡ sets (now (table .entry)) 0 (marks (header .base) (cellsRead (now (list .entry)) header .items))) ⌝ }
+{
+    match cells_at(list, header.base, header.base + header.added, table) {
+        Cells::Refused(f) => DesignRead::Refused(f),
+        Cells::Read { count, next } => read_cell_reps(list, table, header, count, next),
+    }
+}
+
+// Reads a design list: the numbers of an accepted one, or the first fault of a refused one.
+pub fn read_design(list: &[u32]) -> DesignRead
+    ensures { λ r. ⌜ r ≡ answer (read (now (list .entry))) ⌝ }
+{
+    if 16384 < list.len() {
+        return DesignRead::Refused(Fault { number: 4, place: 16384 });
+    }
+    if list.len() < 4 {
+        return DesignRead::Refused(Fault { number: 1, place: list.len() });
+    }
+    match header_at(list) {
+        Opening::Refused(f) => DesignRead::Refused(f),
+        Opening::Read(header) => {
+            let mut table = [0u32; 4096];
+            read_cells(list, header, &mut table)
+        }
     }
 }
