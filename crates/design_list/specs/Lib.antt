@@ -6,3 +6,4 @@ pub mod Marks
 pub mod Laws
 pub mod Cover
 pub mod Answers
+pub mod Accepted
