@@ -7,3 +7,4 @@ pub mod Laws
 pub mod Cover
 pub mod Answers
 pub mod Accepted
+pub mod Table

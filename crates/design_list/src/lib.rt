@@ -7,7 +7,7 @@ use fields::Scan;
 use logic::Fault;
 ghost use mathlib.Core.Path.{_≡_};
 ghost use Prim.Native.Nat.{_+_, _-_, _<_, _≤_, _^_, max};
-ghost use lib.ListN.{length, replicate};
+ghost use lib.ListN.{length, replicate, take, drop};
 ghost use lib.Seq.{sets};
 ghost use Rattle.design_list.specs.Slots.{markWord, marks};
 ghost use Rattle.design_list.specs.Items.{countsAt, headerAt, limitOf, placedAt, cellsOf, listedNumberAt, listedNetAt, replaces, replacementAt, cellRepsFrom, pairAt, netRepsFrom, finishAt};
@@ -15,6 +15,7 @@ ghost use Rattle.design_list.specs.Marks.{headsIn, isVoidIn, counted};
 ghost use Rattle.design_list.specs.Voids.{namesVoid, offends, voidAt, clockAt, recordVoidsAt, replacementVoidsAt, pairVoidsAt, itemVoidsAt, voidsAt};
 ghost use Rattle.design_list.specs.Read.{readCells, read, answer};
 ghost use Rattle.design_list.specs.Answers.{netRepsAnswer, cellRepsAnswer, cellsRead};
+ghost use Rattle.design_list.specs.Table.{Stored, tableAnswer, tableAfter};
 ghost use Rattle.fields.specs.Field.{scanMany};
 
 // The four words of the header.
@@ -70,6 +71,13 @@ pub struct Extent {
 // An accepted list, or the first fault of a refused one.
 pub enum DesignRead {
     Accepted(Extent),
+    Refused(Fault),
+}
+
+// A slice filled with what stands at each slot of an accepted list; too short for that; or the first fault of a refused list.
+pub enum SlotTable {
+    Filled(Extent),
+    Short,
     Refused(Fault),
 }
 
@@ -520,9 +528,10 @@ fn read_cells(list: &[u32], header: Header, table: &mut [u32]) -> DesignRead
     }
 }
 
-// Reads a design list: the numbers of an accepted one, or the first fault of a refused one.
-pub fn read_design(list: &[u32]) -> DesignRead
-    ensures { λ r. ⌜ r ≡ answer (read (now (list .entry))) ⌝ }
+// Reads a design list, with the word for each slot of an accepted one stored in the table.
+fn read_into(list: &[u32], table: &mut [u32]) -> DesignRead
+    requires { ⌜ 4096 ≤ length (now table) ⌝ }
+    ensures { λ r. ⌜ (r ≡ answer (read (now (list .entry)))) × Stored (read (now (list .entry))) (now (table .entry)) (now (table .exit)) ⌝ }
 {
     if 16384 < list.len() {
         return DesignRead::Refused(Fault { number: 4, place: 16384 });
@@ -532,9 +541,53 @@ pub fn read_design(list: &[u32]) -> DesignRead
     }
     match header_at(list) {
         Opening::Refused(f) => DesignRead::Refused(f),
-        Opening::Read(header) => {
-            let mut table = [0u32; 4096];
-            read_cells(list, header, &mut table)
+        Opening::Read(header) => read_cells(list, header, table),
+    }
+}
+
+// Reads a design list: the numbers of an accepted one, or the first fault of a refused one.
+pub fn read_design(list: &[u32]) -> DesignRead
+    ensures { λ r. ⌜ r ≡ answer (read (now (list .entry))) ⌝ }
+{
+    let mut table = [0u32; 4096];
+    read_into(list, &mut table)
+}
+
+// The first n words of the table, copied to the slice.
+fn copy(out: &mut [u32], table: &[u32], n: usize)
+    requires { ⌜ n ≤ length (now table) ⌝ }
+    ensures { λ _. ⌜ now (out .exit) ≡ sets (now (out .entry)) 0 (drop 0 (take n (now (table .entry)))) ⌝ }
+{
+    let mut i: usize = 0;
+    while i < n {
+        logic::put(out, i, logic::word_at(table, i));
+        i += 1;
+    }
+}
+
+// Fills the slice by way of the table.
+fn slot_table_by(list: &[u32], out: &mut [u32], table: &mut [u32]) -> SlotTable
+    requires { ⌜ 4096 ≤ length (now table) ⌝ }
+    ensures { λ r. ⌜ (r ≡ tableAnswer (answer (read (now (list .entry)))) (length (now (out .entry))))
+        × (now (out .exit) ≡ tableAfter (read (now (list .entry))) (now (out .entry))) ⌝ }
+{
+    match read_into(list, table) {
+        DesignRead::Refused(f) => SlotTable::Refused(f),
+        DesignRead::Accepted(extent) => {
+            if out.len() < extent.base + extent.added {
+                return SlotTable::Short;
+            }
+            copy(out, table, extent.base + extent.added);
+            SlotTable::Filled(extent)
         }
     }
+}
+
+// What stands at each slot of a design list, as words in a lent slice.
+pub fn slot_table(list: &[u32], out: &mut [u32]) -> SlotTable
+    ensures { λ r. ⌜ (r ≡ tableAnswer (answer (read (now (list .entry)))) (length (now (out .entry))))
+        × (now (out .exit) ≡ tableAfter (read (now (list .entry))) (now (out .entry))) ⌝ }
+{
+    let mut table = [0u32; 4096];
+    slot_table_by(list, out, &mut table)
 }
