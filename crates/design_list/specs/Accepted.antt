@@ -78,7 +78,7 @@ module _ (w : List ℕ) (h : Header) (short : length w ≤ 16384) (long : 4 ≤ 
     added = h .added;
     cells = cells;
     cellReps = reps replacements;
-    netReps = netRepsFrom w (h .base + h .added) (h .netreps) 0 pairs .items
+    netReps = netRepsFrom w (h .base + h .added) (h .netreps) 0 pairs .items;
   }
 
   cells-accepted : {d : Design} {replacements pairs : ℕ} → readCells w h ≡ accepted d replacements pairs → IsAccepted w d replacements pairs
@@ -86,7 +86,7 @@ module _ (w : List ℕ) (h : Header) (short : length w ≤ 16384) (long : 4 ≤ 
   cells-accepted {d} {replacements} {pairs} e =
       let after-cells = onward (cellsOf w (h .base) (h .base + h .added) .scan) _ e in
       let after-reps =
-            onward (cellRepsFrom w (h .base + h .added) (heads cells (h .base)) (h .cellreps) 0 (after-cells .place) .scan) _ (after-cells .rest) in
+      onward (cellRepsFrom w (h .base + h .added) (heads cells (h .base)) (h .cellreps) 0 (after-cells .place) .scan) _ (after-cells .rest) in
       let after-pairs = onward (netRepsFrom w (h .base + h .added) (h .netreps) 0 (after-reps .place) .scan) _ (after-reps .rest) in
       let after-end = onward (finishAt w (after-pairs .place)) _ (after-pairs .rest) in
       let after-voids = onward (voidsAt w (isVoid cells (h .base)) (length cells) (h .cellreps) (h .netreps)) _ (after-end .rest) in
@@ -108,7 +108,7 @@ module _ (w : List ℕ) (h : Header) (short : length w ≤ 16384) (long : 4 ≤ 
         pairs-read = after-pairs .clean;
         pairs-are = refl;
         ended = finish-read w (after-pairs .place) (after-end .clean);
-        voids-read = after-voids .clean
+        voids-read = after-voids .clean;
       } in whole)
 
 pub accepted-read : (w : List ℕ) {d : Design} {replacements pairs : ℕ} → read w ≡ accepted d replacements pairs → IsAccepted w d replacements pairs
@@ -120,6 +120,7 @@ accepted-read w {d} {replacements} {pairs} e = go (ltb 16384 (length w)) (ltb (l
         IsAccepted w d replacements pairs
     opened short long (O.Refused f) o e = let z : _≡_ {A = ℕ} 0 1 = cc in absurd (omega arith)
     opened short long (O.Read h) o e = cells-accepted w h short long o e
+
     go :
         (over under : Bool) → ltb 16384 (length w) ≡ over → ltb (length w) 4 ≡ under →
         cond over (refused (fault 4 16384)) (cond under (refused (fault 1 (length w))) (onOpening (headerAt w) (readCells w)))

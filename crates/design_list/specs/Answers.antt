@@ -39,7 +39,7 @@ netRepsAnswer w void h count replacements pairs =
       cellreps = h .cellreps;
       netreps = h .netreps;
       replacements = replacements;
-      pairs = pairs
+      pairs = pairs;
     })))
 
 unfoldable pub cellRepsAnswer : List ℕ → (ℕ → ℕ → Bool) → (ℕ → Bool) → Header → ℕ → ℕ → DesignRead
@@ -56,6 +56,7 @@ module _ {A : Type 0} (step : ℕ → ℕ → Step) (item : ℕ → A) where
     where
       rest : ℕ → ℕ → Reading A
       rest above n = push (item at) (ascending step item k above n)
+
       go :
           (s : Step) → onStep s rest .scan ≡ S.Clean next →
           ((above n : ℕ) → ascending step item k above n .scan ≡ S.Clean next → length (ascending step item k above n .items) ≡ k) →
@@ -117,10 +118,13 @@ module _ (w : List ℕ) (h : Header) where
       after clean many =
           let walk = walk-cells w (h .base) (h .added) next clean in
           let covered : length (covering (cellsRead .items)) ≡ h .base + h .added = walk-total walk in
-          rw
-          (heads-same (h .base) (cellsRead .items) t (omega arith) (omega arith) (walk-narrow walk),
-          voids-same (h .base) (cellsRead .items) t (omega arith) (omega arith) (walk-narrow walk), many)
+          rw (
+            heads-same (h .base) (cellsRead .items) t (omega arith) (omega arith) (walk-narrow walk),
+            voids-same (h .base) (cellsRead .items) t (omega arith) (omega arith) (walk-narrow walk),
+            many,
+          )
           (sym (cell-reps-answer w h (cellsRead .items) next))
+
       go : (s : Scan) → cellsRead .scan ≡ s → C.Read count next ≡ onCells s (length (cellsRead .items)) →
           cellRepsAnswer w (headsIn (sets t 0 (marks (h .base) (cellsRead .items))) (h .base))
           (isVoidIn (sets t 0 (marks (h .base) (cellsRead .items))) (h .base)) h count next

@@ -44,6 +44,7 @@ module _ (w : List ℕ) (base total : ℕ) where
       Rest after next =
           after ≤ total → total ≤ after + turns → cellsFrom w base total turns after next .scan ≡ S.Clean end →
           Walk after next (cellsFrom w base total turns after next .items) end
+
       go :
           slot < total → (p : Placing) → placedAt w base total slot at ≡ p →
           onPlaced p (λ (after next : ℕ). push (record { slot = slot; cell = cellAt w at }) (cellsFrom w base total turns after next)) .scan ≡ S.Clean end →
@@ -56,6 +57,7 @@ module _ (w : List ℕ) (base total : ℕ) where
           let last : after ≤ total = limit-low w base total slot order (is .within) in
           let ends : after ≡ slot + max 1 width = is .ends in
           placed inside is (rest after next last (omega arith) e)
+
       more :
           (b : Bool) → ltb slot total ≡ b →
           cond b

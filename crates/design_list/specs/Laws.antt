@@ -92,8 +92,9 @@ placed-read w base total slot at {op} {width} {after} {next} read = go (recordAt
         record {
           record-is = rw same-op at (rw same-width at (rw same-next at is));
           ends = rw same-width at same-after;
-          within = rw (sym same-after) at low
+          within = rw (sym same-after) at low;
         }
+
     go :
         (r : Record) → recordAt w total at ≡ r →
         onRecord r (λ (o : Operation) (width₁ next₁ : ℕ).
@@ -142,7 +143,7 @@ module _ (w : List ℕ) (base total : ℕ) where
     scan = rw sub-zero;
     many = rw sub-zero (omega arith);
     table = rw sub-zero;
-    same = refl
+    same = refl;
   }
 
   pub going-done :
@@ -190,13 +191,15 @@ module _ (w : List ℕ) (base total : ℕ) where
         scan = rw turn at (going .scan);
         many = omega arith;
         table = rw turn at (going .table) ∙ painted is (rest .items);
-        same = simp length-sets (going .same)
+        same = simp length-sets (going .same);
       }
     where
       here : Placed
       here = record { slot = slot; cell = cellAt w at }
+
       rest : Reading Placed
       rest = cellsFrom w base total (total - (count + 1)) after next
+
       painted :
           IsPlaced w base total slot at op width after next → (cs : List Placed) →
           sets t slot (marks base (here ∷ cs)) ≡
@@ -255,11 +258,13 @@ header-read w {h} read = base-read (numberAt w 4096 4 0) refl read
     counts base added low top (N.Value a b) (N.Value c d) e =
         let same : record { base = base; added = added; cellreps = a; netreps = c } ≡ h = cc in
         rw (← same) (omega arith)
+
     added-read : (base : ℕ) → base ≤ 4096 → (n : Number) → numberAt w (4096 - base) 4 1 ≡ n →
         onHeaderNumber n (λ (added : ℕ). countsAt w base added) ≡ O.Read h → h .base + h .added ≤ 4096
     added-read base top (N.Refused f) n e = let z : _≡_ {A = ℕ} 0 1 = cc in absurd (omega arith)
     added-read base top (N.Value added next) n e =
         counts base added (number-read w (4096 - base) 4 1 n .bounded) top (numberAt w 4096 4 2) (numberAt w 4096 4 3) e
+
     base-read : (n : Number) → numberAt w 4096 4 0 ≡ n →
         onHeaderNumber n (λ (base : ℕ). onHeaderNumber (numberAt w (4096 - base) 4 1) (λ (added : ℕ). countsAt w base added)) ≡ O.Read h →
         h .base + h .added ≤ 4096

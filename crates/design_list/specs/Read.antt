@@ -72,5 +72,5 @@ answer (accepted d cellRepsAt netRepsAt) = D.Accepted record {
   cellreps = length (d .cellReps);
   netreps = length (d .netReps);
   replacements = cellRepsAt;
-  pairs = netRepsAt
+  pairs = netRepsAt;
 }

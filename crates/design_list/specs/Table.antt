@@ -92,20 +92,20 @@ accepting : (r : Read) {x : Extent} → answer r ≡ D.Accepted x → Accepting 
 accepting (refused e) {x} same = let z : _≡_ {A = ℕ} 0 1 = cc in absurd (omega arith)
 accepting (accepted d replacements pairs) {x} same =
     let same-x : record {
-          base = d .base;
-          added = d .added;
-          cells = length (d .cells);
-          cellreps = length (d .cellReps);
-          netreps = length (d .netReps);
-          replacements = replacements;
-          pairs = pairs
-        } ≡ x = cc in
+      base = d .base;
+      added = d .added;
+      cells = length (d .cells);
+      cellreps = length (d .cellReps);
+      netreps = length (d .netReps);
+      replacements = replacements;
+      pairs = pairs;
+    } ≡ x = cc in
     record {
       d = d;
       replacements = replacements;
       pairs = pairs;
       accepts = refl;
-      same-total = sym (ap (λ (y : Extent). y .base + y .added) same-x)
+      same-total = sym (ap (λ (y : Extent). y .base + y .added) same-x);
     }
 
 module _ (w : List ℕ) where
@@ -128,7 +128,7 @@ module _ (w : List ℕ) where
       let size : length (marks (d .base) (d .cells)) ≡ n = length-map (covering (d .cells)) (markOf (d .base)) ∙ rw (known .cells-are) (walk-total walk) ∙ sym same in
       let held : t′ ≡ sets t 0 (marks (d .base) (d .cells)) = rw accepts at stored in
       let front : take n t′ ≡ marks (d .base) (d .cells) =
-            rw (held, sets-eq (marks (d .base) (d .cells)) t 0 (omega arith)) (take-at (marks (d .base) (d .cells)) (drop (0 + length (marks (d .base) (d .cells))) t) n size) in
+      rw (held, sets-eq (marks (d .base) (d .cells)) t 0 (omega arith)) (take-at (marks (d .base) (d .cells)) (drop (0 + length (marks (d .base) (d .cells))) t) n size) in
       rw (front, accepts, le-ltb (length out) (total d) (omega arith), ← same)
       (sets-eq (marks (d .base) (d .cells)) out 0 (omega arith) ∙ rw (size, zero-add))
 

@@ -34,7 +34,12 @@ pub enum Opening {
 
 // A cell's operation and output width, the slot and the place after it; or the fault met.
 pub enum Placing {
-    Placed { op: Operation, width: usize, after: usize, next: usize },
+    Placed {
+        op: Operation,
+        width: usize,
+        after: usize,
+        next: usize,
+    },
     Refused(Fault),
 }
 
@@ -87,10 +92,21 @@ fn counts_at(list: &[u32], base: usize, added: usize) -> Opening
 {
     match fields::number_at(list, 4096, 4, 2) {
         Number::Refused(f) => Opening::Refused(f),
-        Number::Value { n: cellreps, next: _ } => match fields::number_at(list, 4096, 4, 3) {
+        Number::Value {
+            n: cellreps,
+            next: _,
+        } => match fields::number_at(list, 4096, 4, 3) {
             Number::Refused(f) => Opening::Refused(f),
-            Number::Value { n: netreps, next: _ } => {
-                Opening::Read(Header { base, added, cellreps: cellreps as usize, netreps: netreps as usize })
+            Number::Value {
+                n: netreps,
+                next: _,
+            } => {
+                Opening::Read(Header {
+                    base,
+                    added,
+                    cellreps: cellreps as usize,
+                    netreps: netreps as usize,
+                })
             }
         },
     }
@@ -133,9 +149,17 @@ fn placed_at(list: &[u32], base: usize, total: usize, slot: usize, at: usize) ->
         Record::Read { op, width, next } => {
             let after = slot + slots_of(width);
             if after <= limit_of(base, total, slot) {
-                Placing::Placed { op, width, after, next }
+                Placing::Placed {
+                    op,
+                    width,
+                    after,
+                    next,
+                }
             } else {
-                Placing::Refused(Fault { number: 11, place: at })
+                Placing::Refused(Fault {
+                    number: 11,
+                    place: at,
+                })
             }
         }
     }
@@ -147,7 +171,11 @@ fn mark_word(base: usize, stands: u32, width: usize, first: usize) -> u32
     ensures { λ r. ⌜ r ≡ markWord base stands width first ⌝ }
 {
     let rest = 8 * (width as u32) + 1024 * (first as u32);
-    if first < base { stands + rest } else { stands + 4 + rest }
+    if first < base {
+        stands + rest
+    } else {
+        stands + 4 + rest
+    }
 }
 
 // One word at every place from a start to an end.
@@ -175,8 +203,18 @@ fn cells_at(list: &[u32], base: usize, total: usize, table: &mut [u32]) -> Cells
             Placing::Refused(f) => {
                 return Cells::Refused(f);
             }
-            Placing::Placed { op, width, after, next } => {
-                fill(table, slot, after, mark_word(base, cell::standing_of(op), width, slot));
+            Placing::Placed {
+                op,
+                width,
+                after,
+                next,
+            } => {
+                fill(
+                    table,
+                    slot,
+                    after,
+                    mark_word(base, cell::standing_of(op), width, slot),
+                );
                 slot = after;
                 at = next;
                 count += 1;
@@ -193,7 +231,10 @@ fn listed_number_at(list: &[u32], at: usize) -> Number
     if at < list.len() {
         fields::number_at(list, 536870911, list.len(), at)
     } else {
-        Number::Refused(Fault { number: 1, place: list.len() })
+        Number::Refused(Fault {
+            number: 1,
+            place: list.len(),
+        })
     }
 }
 
@@ -204,7 +245,10 @@ fn listed_net_at(list: &[u32], total: usize, at: usize) -> Scan
     if at < list.len() {
         fields::net_at(list, total, 0, list.len(), at)
     } else {
-        Scan::Refused(Fault { number: 1, place: list.len() })
+        Scan::Refused(Fault {
+            number: 1,
+            place: list.len(),
+        })
     }
 }
 
@@ -226,7 +270,14 @@ fn heads(table: &[u32], base: usize, slot: usize, width: usize) -> bool
 }
 
 // Whether a replacement is right.
-fn replaces(table: &[u32], base: usize, least: usize, slot: usize, op: Operation, width: usize) -> bool
+fn replaces(
+    table: &[u32],
+    base: usize,
+    least: usize,
+    slot: usize,
+    op: Operation,
+    width: usize,
+) -> bool
     ensures { λ r. ⌜ r ≡ replaces (headsIn (now (table .entry)) base) least slot op width ⌝ }
 {
     if least <= slot {
@@ -239,25 +290,48 @@ fn replaces(table: &[u32], base: usize, least: usize, slot: usize, op: Operation
 }
 
 // The cell replacement at a place.
-fn replacement_at(list: &[u32], table: &[u32], base: usize, total: usize, least: usize, at: usize) -> Step
+fn replacement_at(
+    list: &[u32],
+    table: &[u32],
+    base: usize,
+    total: usize,
+    least: usize,
+    at: usize,
+) -> Step
     ensures { λ r. ⌜ r ≡ replacementAt (now (list .entry)) total (headsIn (now (table .entry)) base) least at ⌝ }
 {
     match listed_number_at(list, at) {
         Number::Refused(f) => Step::Refused(f),
-        Number::Value { n: slot, next: start } => match cell_reader::record_at(list, total, start) {
+        Number::Value {
+            n: slot,
+            next: start,
+        } => match cell_reader::record_at(list, total, start) {
             Record::Refused(f) => Step::Refused(f),
             Record::Read { op, width, next } => {
                 if replaces(table, base, least, slot as usize, op, width) {
-                    return Step::Read { least: slot as usize + 1, next };
+                    return Step::Read {
+                        least: slot as usize + 1,
+                        next,
+                    };
                 }
-                Step::Refused(Fault { number: 12, place: at })
+                Step::Refused(Fault {
+                    number: 12,
+                    place: at,
+                })
             }
         },
     }
 }
 
 // The cell replacements.
-fn cell_reps_at(list: &[u32], table: &[u32], base: usize, total: usize, k: usize, start: usize) -> Scan
+fn cell_reps_at(
+    list: &[u32],
+    table: &[u32],
+    base: usize,
+    total: usize,
+    k: usize,
+    start: usize,
+) -> Scan
     ensures { λ r. ⌜ r ≡ cellRepsFrom (now (list .entry)) total (headsIn (now (table .entry)) base) k 0 start .scan ⌝ }
 {
     let mut at = start;
@@ -289,9 +363,15 @@ fn pair_at(list: &[u32], total: usize, least: usize, at: usize) -> Step
             Scan::Clean(next) => {
                 let from = (logic::word_at(list, at) % 536870912) as usize;
                 if least <= from {
-                    return Step::Read { least: from + 1, next };
+                    return Step::Read {
+                        least: from + 1,
+                        next,
+                    };
                 }
-                Step::Refused(Fault { number: 13, place: at })
+                Step::Refused(Fault {
+                    number: 13,
+                    place: at,
+                })
             }
         },
     }
@@ -323,7 +403,14 @@ fn net_reps_at(list: &[u32], total: usize, k: usize, start: usize) -> Scan
 fn finish_at(list: &[u32], at: usize) -> Scan
     ensures { λ r. ⌜ r ≡ finishAt (now (list .entry)) at ⌝ }
 {
-    if at == list.len() { Scan::Clean(at) } else { Scan::Refused(Fault { number: 1, place: at }) }
+    if at == list.len() {
+        Scan::Clean(at)
+    } else {
+        Scan::Refused(Fault {
+            number: 1,
+            place: at,
+        })
+    }
 }
 
 // Whether a slot is that of a Void of the base, by the table's words.
@@ -372,7 +459,10 @@ fn voids_in(list: &[u32], table: &[u32], base: usize, clock: usize, n: usize, st
     let mut left = n;
     while 0 < left {
         if offends(list, table, base, clock, at) {
-            return Scan::Refused(Fault { number: 10, place: at });
+            return Scan::Refused(Fault {
+                number: 10,
+                place: at,
+            });
         }
         at += 1;
         left -= 1;
@@ -426,7 +516,10 @@ fn pair_voids_at(list: &[u32], table: &[u32], base: usize, at: usize) -> Scan
 {
     if at < list.len() {
         if offends(list, table, base, 0, at + 1) {
-            return Scan::Refused(Fault { number: 10, place: at + 1 });
+            return Scan::Refused(Fault {
+                number: 10,
+                place: at + 1,
+            });
         }
         return Scan::Clean(at + 1 + 1);
     }
@@ -446,7 +539,14 @@ fn item_voids_at(list: &[u32], table: &[u32], base: usize, item: Item, at: usize
 }
 
 // k items of a kind.
-fn items_voids_at(list: &[u32], table: &[u32], base: usize, item: Item, k: usize, start: usize) -> Scan
+fn items_voids_at(
+    list: &[u32],
+    table: &[u32],
+    base: usize,
+    item: Item,
+    k: usize,
+    start: usize,
+) -> Scan
     requires { ⌜ length (now list) ≤ 16384 ⌝ }
     ensures { λ r. ⌜ r ≡ scanMany (itemVoidsAt (now (list .entry)) (isVoidIn (now (table .entry)) base) item) k start ⌝ }
 {
@@ -467,13 +567,27 @@ fn items_voids_at(list: &[u32], table: &[u32], base: usize, item: Item, k: usize
 }
 
 // The first word of the list that names a Void of the base where it may not.
-fn voids_at(list: &[u32], table: &[u32], base: usize, cells: usize, cellreps: usize, netreps: usize) -> Scan
+fn voids_at(
+    list: &[u32],
+    table: &[u32],
+    base: usize,
+    cells: usize,
+    cellreps: usize,
+    netreps: usize,
+) -> Scan
     requires { ⌜ length (now list) ≤ 16384 ⌝ }
     ensures { λ r. ⌜ r ≡ voidsAt (now (list .entry)) (isVoidIn (now (table .entry)) base) cells cellreps netreps ⌝ }
 {
     match items_voids_at(list, table, base, Item::Cell, cells, 4) {
         Scan::Refused(f) => Scan::Refused(f),
-        Scan::Clean(replacements) => match items_voids_at(list, table, base, Item::Replacement, cellreps, replacements) {
+        Scan::Clean(replacements) => match items_voids_at(
+            list,
+            table,
+            base,
+            Item::Replacement,
+            cellreps,
+            replacements,
+        ) {
             Scan::Refused(f) => Scan::Refused(f),
             Scan::Clean(pairs) => items_voids_at(list, table, base, Item::Pair, netreps, pairs),
         },
@@ -481,7 +595,14 @@ fn voids_at(list: &[u32], table: &[u32], base: usize, cells: usize, cellreps: us
 }
 
 // From the net replacements on.
-fn read_net_reps(list: &[u32], table: &[u32], header: Header, count: usize, replacements: usize, pairs: usize) -> DesignRead
+fn read_net_reps(
+    list: &[u32],
+    table: &[u32],
+    header: Header,
+    count: usize,
+    replacements: usize,
+    pairs: usize,
+) -> DesignRead
     requires { ⌜ (length (now list) ≤ 16384) × (header .base + header .added ≤ 4096) ⌝ }
     ensures { λ r. ⌜ r ≡ netRepsAnswer (now (list .entry)) (isVoidIn (now (table .entry)) (header .base)) header count replacements pairs ⌝ }
 {
@@ -489,7 +610,14 @@ fn read_net_reps(list: &[u32], table: &[u32], header: Header, count: usize, repl
         Scan::Refused(f) => DesignRead::Refused(f),
         Scan::Clean(next) => match finish_at(list, next) {
             Scan::Refused(f) => DesignRead::Refused(f),
-            Scan::Clean(_) => match voids_at(list, table, header.base, count, header.cellreps, header.netreps) {
+            Scan::Clean(_) => match voids_at(
+                list,
+                table,
+                header.base,
+                count,
+                header.cellreps,
+                header.netreps,
+            ) {
                 Scan::Refused(f) => DesignRead::Refused(f),
                 Scan::Clean(_) => DesignRead::Accepted(Extent {
                     base: header.base,
@@ -506,11 +634,24 @@ fn read_net_reps(list: &[u32], table: &[u32], header: Header, count: usize, repl
 }
 
 // From the cell replacements on.
-fn read_cell_reps(list: &[u32], table: &[u32], header: Header, count: usize, replacements: usize) -> DesignRead
+fn read_cell_reps(
+    list: &[u32],
+    table: &[u32],
+    header: Header,
+    count: usize,
+    replacements: usize,
+) -> DesignRead
     requires { ⌜ (length (now list) ≤ 16384) × (header .base + header .added ≤ 4096) ⌝ }
     ensures { λ r. ⌜ r ≡ cellRepsAnswer (now (list .entry)) (headsIn (now (table .entry)) (header .base)) (isVoidIn (now (table .entry)) (header .base)) header count replacements ⌝ }
 {
-    match cell_reps_at(list, table, header.base, header.base + header.added, header.cellreps, replacements) {
+    match cell_reps_at(
+        list,
+        table,
+        header.base,
+        header.base + header.added,
+        header.cellreps,
+        replacements,
+    ) {
         Scan::Refused(f) => DesignRead::Refused(f),
         Scan::Clean(pairs) => read_net_reps(list, table, header, count, replacements, pairs),
     }
@@ -534,10 +675,16 @@ fn read_into(list: &[u32], table: &mut [u32]) -> DesignRead
     ensures { λ r. ⌜ (r ≡ answer (read (now (list .entry)))) × Stored (read (now (list .entry))) (now (table .entry)) (now (table .exit)) ⌝ }
 {
     if 16384 < list.len() {
-        return DesignRead::Refused(Fault { number: 4, place: 16384 });
+        return DesignRead::Refused(Fault {
+            number: 4,
+            place: 16384,
+        });
     }
     if list.len() < 4 {
-        return DesignRead::Refused(Fault { number: 1, place: list.len() });
+        return DesignRead::Refused(Fault {
+            number: 1,
+            place: list.len(),
+        });
     }
     match header_at(list) {
         Opening::Refused(f) => DesignRead::Refused(f),

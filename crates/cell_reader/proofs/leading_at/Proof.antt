@@ -8,66 +8,51 @@ returns : tie.Need-returns
 unfolding leadingAt firstAt
 returns c = rw (eq-eqb _ _ (c .if1 .taken))
 
-number-at-requires : tie.Need-number-at-requires
-number-at-requires c κs = search needs
-
-enum-known-f : tie.Need-enum-known-f
-enum-known-f c = search needs
-
-enum-known-n : tie.Need-enum-known-n
-enum-known-n c = search needs
-
 returns-2 : tie.Need-returns-2
 unfolding leadingAt firstAt
 returns-2 c =
-    rw
-    (ne-eqb _ _ (c .before .before .before .before .before .before .if1 .left),
-    ← c .before .before .before .before .before .number-at .ensures,
-    c .before .before .before .n .given .1,
-    lt-ltb _ _ (c .if2 .taken))
+    rw (
+      ne-eqb _ _ (c .before .before .before .before .before .before .if1 .left),
+      ← c .before .before .before .before .before .number-at .ensures,
+      c .before .before .before .n .given .1,
+      lt-ltb _ _ (c .if2 .taken),
+    )
 
 returns-3 : tie.Need-returns-3
 unfolding leadingAt firstAt
 returns-3 c =
-    rw
-    (ne-eqb _ _ (c .before .before .before .before .before .before .before .before .if1 .left),
-    ← c .before .before .before .before .before .before .before .number-at .ensures,
-    c .before .before .before .before .before .n .given .1,
-    le-ltb _ _ (c .before .before .if2 .left),
-    eq-eqb _ _ (c .if3 .taken))
-
-second-at-requires : tie.Need-second-at-requires
-second-at-requires c κs = search needs
+    rw (
+      ne-eqb _ _ (c .before .before .before .before .before .before .before .before .if1 .left),
+      ← c .before .before .before .before .before .before .before .number-at .ensures,
+      c .before .before .before .before .before .n .given .1,
+      le-ltb _ _ (c .before .before .if2 .left),
+      eq-eqb _ _ (c .if3 .taken),
+    )
 
 returns-4 : tie.Need-returns-4
 unfolding leadingAt firstAt
 returns-4 c =
-    rw
-    (ne-eqb _ _ (c .before .before .before .before .if1 .left),
-    ← c .before .before .before .number-at .ensures,
-    c .before .f .given .1)
+    rw (
+      ne-eqb _ _ (c .before .before .before .before .if1 .left),
+      ← c .before .before .before .number-at .ensures,
+      c .before .f .given .1,
+    )
 
 returns-5 : tie.Need-returns-5
 unfolding leadingAt firstAt
 returns-5 c =
-    rw
-    (ne-eqb _ _ (c .before .before .before .before .before .before .before .before .before .if1 .left),
-    ← c .before .before .before .before .before .before .before .before .number-at .ensures,
-    c .before .before .before .before .before .before .n .given .1,
-    le-ltb _ _ (c .before .before .before .if2 .left),
-    ne-eqb _ _ (c .before .if3 .left),
-    ← c .second-at .ensures)
+    rw (
+      ne-eqb _ _ (c .before .before .before .before .before .before .before .before .before .if1 .left),
+      ← c .before .before .before .before .before .before .before .before .number-at .ensures,
+      c .before .before .before .before .before .before .n .given .1,
+      le-ltb _ _ (c .before .before .before .if2 .left),
+      ne-eqb _ _ (c .before .if3 .left),
+      ← c .second-at .ensures,
+    )
 
 pub leading-at-spec : {M : Type 1} → statement M
 leading-at-spec =
     tie.close
     (tie.spec
-    returns
-    number-at-requires
-    enum-known-f
-    enum-known-n
-    returns-2
-    returns-3
-    second-at-requires
-    returns-4
-    returns-5)
+    returns (λ c κs. search needs) (λ c. search needs) (λ c. search needs) returns-2 returns-3 (λ c κs. search needs)
+    returns-4 returns-5)

@@ -19,12 +19,6 @@ abbrev μ-loop : tie.MeasureT-loop
 loop-holds : tie.Need-loop-holds Inv-loop μ-loop
 loop-holds c = refl
 
-replacement-at-requires : tie.Need-replacement-at-requires Inv-loop μ-loop
-replacement-at-requires c κs = search needs
-
-enum-known-f : tie.Need-enum-known-f Inv-loop μ-loop
-enum-known-f c = search needs
-
 returns : tie.Need-returns Inv-loop μ-loop
 returns c =
     let call = c .before .before .before in
@@ -32,9 +26,6 @@ returns c =
     sym
     (in-loop .before .loop .inv ∙
     ascending-fault _ _ _ _ _ (in-loop .loop-test .taken) (sym (call .replacement-at .ensures) ∙ c .before .f .given .1))
-
-enum-known-above : tie.Need-enum-known-above Inv-loop μ-loop
-enum-known-above c = search needs
 
 sub-left : tie.Need-sub-left Inv-loop μ-loop
 sub-left c = omega arith
@@ -56,14 +47,5 @@ pub cell-reps-at-spec : {M : Type 1} → statement M
 cell-reps-at-spec =
     tie.close
     (tie.spec
-    Inv-loop
-    μ-loop
-    loop-holds
-    replacement-at-requires
-    enum-known-f
-    returns
-    enum-known-above
-    sub-left
-    loop-less
-    loop-again
-    returns-2)
+    Inv-loop μ-loop loop-holds (λ c κs. search needs) (λ c. search needs) returns (λ c. search needs) sub-left
+    loop-less loop-again returns-2)

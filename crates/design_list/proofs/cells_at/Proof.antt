@@ -21,9 +21,6 @@ loop-holds c = going-start _ _ _ _
 placed-at-requires : tie.Need-placed-at-requires Inv-loop μ-loop
 placed-at-requires c κs = omega (arith, c .before .loop .inv .low)
 
-enum-known-f : tie.Need-enum-known-f Inv-loop μ-loop
-enum-known-f c = search needs
-
 same-length : tie.Need-same-length Inv-loop μ-loop
 same-length c = c .before .before .before .before .before .loop .inv .same
 
@@ -33,21 +30,12 @@ returns c =
     let in-loop = call .before in
     going-fault _ _ _ (in-loop .before .loop .inv) (in-loop .loop-test .taken) (sym (call .placed-at .ensures) ∙ c .before .f .given .1)
 
-enum-known-op : tie.Need-enum-known-op Inv-loop μ-loop
-enum-known-op c = search needs
-
-standing-of-requires : tie.Need-standing-of-requires Inv-loop μ-loop
-standing-of-requires c κs = search needs
-
 mark-word-requires : tie.Need-mark-word-requires Inv-loop μ-loop
 mark-word-requires c κs =
     let told = c .before .before .before in
     let call = told .before .before in
     let is = placed-read _ _ _ _ _ (sym (call .placed-at .ensures) ∙ told .op .given .1) in
     (rw (c .standing-of .ensures) (record-standing (is .record-is)), is .record-is .low-width, omega (arith, call .before .before .loop .inv .low))
-
-fill-requires : tie.Need-fill-requires Inv-loop μ-loop
-fill-requires c κs = search needs
 
 add-count : tie.Need-add-count Inv-loop μ-loop
 add-count c =
@@ -96,19 +84,6 @@ pub cells-at-spec : {M : Type 1} → statement M
 cells-at-spec =
     tie.close
     (tie.spec
-    Inv-loop
-    μ-loop
-    loop-holds
-    placed-at-requires
-    enum-known-f
-    same-length
-    returns
-    enum-known-op
-    standing-of-requires
-    mark-word-requires
-    fill-requires
-    add-count
-    loop-less
-    loop-again
-    same-length-2
+    Inv-loop μ-loop loop-holds placed-at-requires (λ c. search needs) same-length returns (λ c. search needs)
+    (λ c κs. search needs) mark-word-requires (λ c κs. search needs) add-count loop-less loop-again same-length-2
     returns-2)

@@ -19,29 +19,18 @@ abbrev μ-loop : tie.MeasureT-loop
 loop-holds : tie.Need-loop-holds Inv-loop μ-loop
 loop-holds c = (refl, refl)
 
-word-at-requires : tie.Need-word-at-requires Inv-loop μ-loop
-word-at-requires c κs = search needs
-
-put-requires : tie.Need-put-requires Inv-loop μ-loop
-put-requires c κs = search needs
-
-add-i : tie.Need-add-i Inv-loop μ-loop
-add-i c = search needs
-
-loop-less : tie.Need-loop-less Inv-loop μ-loop
-loop-less c = search needs
-
 loop-again : tie.Need-loop-again Inv-loop μ-loop
 loop-again c =
     let call = c .before .before in
     let read = call .before in
     let in-loop = read .before .before in
     let turn = in-loop .before .loop in
-    let start = in-loop .before .before .before .before in
-    (turn .inv .0 ∙
-    copy-turn (turn .out) (start .args .table .now) (turn .i) _ (in-loop .loop-test .taken) (start .pre) ∙
-    rw (call .put .ensures, read .word-at .ensures),
-    rw (call .put .ensures) (simp length-set (turn .inv .1)))
+    let start = in-loop .before .before .before .before in (
+      turn .inv .0 ∙
+          copy-turn (turn .out) (start .args .table .now) (turn .i) _ (in-loop .loop-test .taken) (start .pre) ∙
+          rw (call .put .ensures, read .word-at .ensures),
+      rw (call .put .ensures) (simp length-set (turn .inv .1)),
+    )
 
 same-length : tie.Need-same-length Inv-loop μ-loop
 same-length c = c .before .loop .inv .1
@@ -55,13 +44,5 @@ pub copy-spec : {M : Type 1} → statement M
 copy-spec =
     tie.close
     (tie.spec
-    Inv-loop
-    μ-loop
-    loop-holds
-    word-at-requires
-    put-requires
-    add-i
-    loop-less
-    loop-again
-    same-length
-    returns)
+    Inv-loop μ-loop loop-holds (λ c κs. search needs) (λ c κs. search needs) (λ c. search needs) (λ c. search needs)
+    loop-again same-length returns)

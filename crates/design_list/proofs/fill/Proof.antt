@@ -19,22 +19,14 @@ abbrev μ-loop : tie.MeasureT-loop
 loop-holds : tie.Need-loop-holds Inv-loop μ-loop
 loop-holds c = (refl, refl)
 
-put-requires : tie.Need-put-requires Inv-loop μ-loop
-put-requires c κs = search needs
-
-add-at : tie.Need-add-at Inv-loop μ-loop
-add-at c = search needs
-
-loop-less : tie.Need-loop-less Inv-loop μ-loop
-loop-less c = search needs
-
 loop-again : tie.Need-loop-again Inv-loop μ-loop
 loop-again c =
     let call = c .before .before in
     let in-loop = call .before .before in
-    let turn = in-loop .before .loop in
-    (turn .inv .0 ∙ fill-turn (turn .table) (turn .at) _ _ (in-loop .loop-test .taken) ∙ rw (call .put .ensures),
-    rw (call .put .ensures) (simp length-set (turn .inv .1)))
+    let turn = in-loop .before .loop in (
+      turn .inv .0 ∙ fill-turn (turn .table) (turn .at) _ _ (in-loop .loop-test .taken) ∙ rw (call .put .ensures),
+      rw (call .put .ensures) (simp length-set (turn .inv .1)),
+    )
 
 same-length : tie.Need-same-length Inv-loop μ-loop
 same-length c = c .before .loop .inv .1
@@ -46,12 +38,5 @@ pub fill-spec : {M : Type 1} → statement M
 fill-spec =
     tie.close
     (tie.spec
-    Inv-loop
-    μ-loop
-    loop-holds
-    put-requires
-    add-at
-    loop-less
-    loop-again
-    same-length
+    Inv-loop μ-loop loop-holds (λ c κs. search needs) (λ c. search needs) (λ c. search needs) loop-again same-length
     returns)

@@ -12,4 +12,7 @@ unfolding finishAt
 returns-2 c = rw (ne-eqb _ _ (c .if1 .left))
 
 pub finish-at-spec : {M : Type 1} → statement M
-finish-at-spec = tie.close (tie.spec returns returns-2)
+finish-at-spec =
+    tie.close
+    (tie.spec
+    returns returns-2)

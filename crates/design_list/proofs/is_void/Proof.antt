@@ -4,19 +4,20 @@ use borrow.Author.Needs.{needs}
 use Rattle.design_list.proofs.is_void.Statement.{statement}
 use Rattle.design_list.proofs.is_void.Tie as tie
 
-word-at-requires : tie.Need-word-at-requires
-word-at-requires c κs = search needs
-
 returns : tie.Need-returns
 unfolding isVoidIn
 returns c =
-    rw
-    (lt-ltb _ _ (c .before .if1 .taken),
-    ← c .word-at .ensures)
+    rw (
+      lt-ltb _ _ (c .before .if1 .taken),
+      ← c .word-at .ensures,
+    )
 
 returns-2 : tie.Need-returns-2
 unfolding isVoidIn
 returns-2 c = rw (le-ltb _ _ (c .if1 .left))
 
 pub is-void-spec : {M : Type 1} → statement M
-is-void-spec = tie.close (tie.spec word-at-requires returns returns-2)
+is-void-spec =
+    tie.close
+    (tie.spec
+    (λ c κs. search needs) returns returns-2)

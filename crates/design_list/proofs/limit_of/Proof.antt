@@ -9,4 +9,7 @@ returns-2 : tie.Need-returns-2
 returns-2 c = rw (le-ltb _ _ (c .if1 .left))
 
 pub limit-of-spec : {M : Type 1} → statement M
-limit-of-spec = tie.close (tie.spec returns returns-2)
+limit-of-spec =
+    tie.close
+    (tie.spec
+    returns returns-2)

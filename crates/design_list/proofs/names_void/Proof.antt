@@ -11,23 +11,22 @@ returns c = rw (lt-ltb _ _ (c .if1 .taken))
 returns-2 : tie.Need-returns-2
 unfolding namesVoid
 returns-2 c =
-    rw
-    (le-ltb _ _ (c .before .if1 .left),
-    eq-eqb _ _ (c .if2 .taken))
-
-cast-is-void : tie.Need-cast-is-void
-cast-is-void c = search needs
-
-is-void-requires : tie.Need-is-void-requires
-is-void-requires c κs = search needs
+    rw (
+      le-ltb _ _ (c .before .if1 .left),
+      eq-eqb _ _ (c .if2 .taken),
+    )
 
 returns-3 : tie.Need-returns-3
 unfolding namesVoid
 returns-3 c =
-    rw
-    (le-ltb _ _ (c .before .before .if1 .left),
-    ne-eqb _ _ (c .before .if2 .left),
-    ← c .is-void .ensures)
+    rw (
+      le-ltb _ _ (c .before .before .if1 .left),
+      ne-eqb _ _ (c .before .if2 .left),
+      ← c .is-void .ensures,
+    )
 
 pub names-void-spec : {M : Type 1} → statement M
-names-void-spec = tie.close (tie.spec returns returns-2 cast-is-void is-void-requires returns-3)
+names-void-spec =
+    tie.close
+    (tie.spec
+    returns returns-2 (λ c. search needs) (λ c κs. search needs) returns-3)

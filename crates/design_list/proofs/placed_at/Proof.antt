@@ -8,64 +8,45 @@ use borrow.Author.Needs.{needs}
 use Rattle.design_list.proofs.placed_at.Statement.{statement}
 use Rattle.design_list.proofs.placed_at.Tie as tie
 
-record-at-requires : tie.Need-record-at-requires
-record-at-requires c κs = search needs
-
-enum-known-f : tie.Need-enum-known-f
-enum-known-f c = search needs
-
-enum-known-op : tie.Need-enum-known-op
-enum-known-op c = search needs
-
-slots-of-requires : tie.Need-slots-of-requires
-slots-of-requires c κs = search needs
-
 add-after : tie.Need-add-after
 add-after c =
     let at-record = c .before .before .before .before in
     let read = record-read _ _ _ (sym (at-record .record-at .ensures) ∙ c .before .before .op .given .1) in
     omega (arith, read .low-width, c .slots-of .ensures)
 
-limit-of-requires : tie.Need-limit-of-requires
-limit-of-requires c κs = search needs
-
 returns : tie.Need-returns
 unfolding placedAt
 returns c =
-    rw
-    (← c .before .before .before .record-at .ensures,
-    c .before .f .given .1)
+    rw (
+      ← c .before .before .before .record-at .ensures,
+      c .before .f .given .1,
+    )
 
 returns-2 : tie.Need-returns-2
 unfolding placedAt
 returns-2 c =
-    rw
-    (← c .before .before .before .before .before .before .record-at .ensures,
-    c .before .before .before .before .op .given .1,
-    ← c .before .before .slots-of .ensures,
-    ← c .before .limit-of .ensures,
-    le-leb _ _ (c .if1 .taken))
+    rw (
+      ← c .before .before .before .before .before .before .record-at .ensures,
+      c .before .before .before .before .op .given .1,
+      ← c .before .before .slots-of .ensures,
+      ← c .before .limit-of .ensures,
+      le-leb _ _ (c .if1 .taken),
+    )
 
 returns-3 : tie.Need-returns-3
 unfolding placedAt
 returns-3 c =
-    rw
-    (← c .before .before .before .before .before .before .record-at .ensures,
-    c .before .before .before .before .op .given .1,
-    ← c .before .before .slots-of .ensures,
-    ← c .before .limit-of .ensures,
-    lt-leb _ _ (c .if1 .left))
+    rw (
+      ← c .before .before .before .before .before .before .record-at .ensures,
+      c .before .before .before .before .op .given .1,
+      ← c .before .before .slots-of .ensures,
+      ← c .before .limit-of .ensures,
+      lt-leb _ _ (c .if1 .left),
+    )
 
 pub placed-at-spec : {M : Type 1} → statement M
 placed-at-spec =
     tie.close
     (tie.spec
-    record-at-requires
-    enum-known-f
-    enum-known-op
-    slots-of-requires
-    add-after
-    limit-of-requires
-    returns
-    returns-2
-    returns-3)
+    (λ c κs. search needs) (λ c. search needs) (λ c. search needs) (λ c κs. search needs) add-after
+    (λ c κs. search needs) returns returns-2 returns-3)

@@ -6,52 +6,25 @@ use borrow.Author.Needs.{needs}
 use Rattle.design_list.proofs.read_cells.Statement.{statement}
 use Rattle.design_list.proofs.read_cells.Tie as tie
 
-add-cells-at : tie.Need-add-cells-at
-add-cells-at c = search needs
-
-cells-at-requires : tie.Need-cells-at-requires
-cells-at-requires c κs = search needs
-
-enum-known-f : tie.Need-enum-known-f
-enum-known-f c = search needs
-
-enum-known-count : tie.Need-enum-known-count
-enum-known-count c = search needs
-
-read-cell-reps-requires : tie.Need-read-cell-reps-requires
-read-cell-reps-requires c κs = search needs
-
-same-length : tie.Need-same-length
-same-length c = search needs
-
 returns : tie.Need-returns
 returns c =
     let call = c .before .before .before .before .before in
     (cells-refused _ _ (sym (c .before .f .given .1) ∙ call .cells-at .ensures .0), call .cells-at .ensures .1)
 
-same-length-2 : tie.Need-same-length-2
-same-length-2 c = search needs
-
 returns-2 : tie.Need-returns-2
 returns-2 c =
     let told = c .before .before .before in
     let call = told .before .before .before .before in
-    let start = call .before .before .before .before .before in
-    (c .read-cell-reps .ensures ∙
-    rw (call .cells-at .ensures .1)
-    (cells-answer _ _ (start .args .table .now) (start .pre .2) (sym (told .count .given .1) ∙ call .cells-at .ensures .0)),
-    call .cells-at .ensures .1)
+    let start = call .before .before .before .before .before in (
+      c .read-cell-reps .ensures ∙
+          rw (call .cells-at .ensures .1)
+          (cells-answer _ _ (start .args .table .now) (start .pre .2) (sym (told .count .given .1) ∙ call .cells-at .ensures .0)),
+      call .cells-at .ensures .1,
+    )
 
 pub read-cells-spec : {M : Type 1} → statement M
 read-cells-spec =
     tie.close
     (tie.spec
-    add-cells-at
-    cells-at-requires
-    enum-known-f
-    enum-known-count
-    read-cell-reps-requires
-    same-length
-    returns
-    same-length-2
-    returns-2)
+    (λ c. search needs) (λ c κs. search needs) (λ c. search needs) (λ c. search needs) (λ c κs. search needs)
+    (λ c. search needs) returns (λ c. search needs) returns-2)

@@ -17,15 +17,6 @@ returns-2 : tie.Need-returns-2
 unfolding read Stored
 returns-2 c = rw (le-ltb _ _ (c .before .if1 .left), lt-ltb _ _ (c .if2 .taken)) (refl, tt)
 
-header-at-requires : tie.Need-header-at-requires
-header-at-requires c κs = search needs
-
-enum-known-f : tie.Need-enum-known-f
-enum-known-f c = search needs
-
-enum-known-header : tie.Need-enum-known-header
-enum-known-header c = search needs
-
 read-cells-requires : tie.Need-read-cells-requires
 read-cells-requires c κs =
     let told = c .before .before in
@@ -42,9 +33,6 @@ returns-3 c =
     (le-ltb _ _ (long .before .if1 .left), le-ltb _ _ (long .if2 .left), ← call .header-at .ensures, c .before .f .given .1)
     (refl, tt)
 
-same-length : tie.Need-same-length
-same-length c = search needs
-
 returns-4 : tie.Need-returns-4
 unfolding read
 returns-4 c =
@@ -60,12 +48,5 @@ pub read-into-spec : {M : Type 1} → statement M
 read-into-spec =
     tie.close
     (tie.spec
-    returns
-    returns-2
-    header-at-requires
-    enum-known-f
-    enum-known-header
-    read-cells-requires
-    returns-3
-    same-length
-    returns-4)
+    returns returns-2 (λ c κs. search needs) (λ c. search needs) (λ c. search needs) read-cells-requires returns-3
+    (λ c. search needs) returns-4)

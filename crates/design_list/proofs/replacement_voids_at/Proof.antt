@@ -4,18 +4,13 @@ use borrow.Author.Needs.{needs}
 use Rattle.design_list.proofs.replacement_voids_at.Statement.{statement}
 use Rattle.design_list.proofs.replacement_voids_at.Tie as tie
 
-add-record-voids-at : tie.Need-add-record-voids-at
-add-record-voids-at c = search needs
-
-record-voids-at-requires : tie.Need-record-voids-at-requires
-record-voids-at-requires c κs = search needs
-
 returns : tie.Need-returns
 unfolding replacementVoidsAt
 returns c =
-    rw
-    (lt-ltb _ _ (c .before .if1 .taken),
-    ← c .record-voids-at .ensures)
+    rw (
+      lt-ltb _ _ (c .before .if1 .taken),
+      ← c .record-voids-at .ensures,
+    )
 
 returns-2 : tie.Need-returns-2
 unfolding replacementVoidsAt
@@ -23,4 +18,6 @@ returns-2 c = rw (le-ltb _ _ (c .if1 .left))
 
 pub replacement-voids-at-spec : {M : Type 1} → statement M
 replacement-voids-at-spec =
-    tie.close (tie.spec add-record-voids-at record-voids-at-requires returns returns-2)
+    tie.close
+    (tie.spec
+    (λ c. search needs) (λ c κs. search needs) returns returns-2)

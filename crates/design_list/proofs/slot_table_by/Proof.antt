@@ -8,23 +8,11 @@ use borrow.Author.Needs.{needs}
 use Rattle.design_list.proofs.slot_table_by.Statement.{statement}
 use Rattle.design_list.proofs.slot_table_by.Tie as tie
 
-read-into-requires : tie.Need-read-into-requires
-read-into-requires c κs = search needs
-
-enum-known-f : tie.Need-enum-known-f
-enum-known-f c = search needs
-
-enum-known-extent : tie.Need-enum-known-extent
-enum-known-extent c = search needs
-
 add-if1 : tie.Need-add-if1
 add-if1 c =
     let told = c .before .before in
     let call = told .before .before .before .before in
     omega (arith, table-low _ (sym (call .read-into .ensures .0) ∙ told .extent .given .1))
-
-same-length : tie.Need-same-length
-same-length c = search needs
 
 returns : tie.Need-returns
 returns c =
@@ -33,29 +21,17 @@ returns c =
     let same = sym (call .read-into .ensures .0) ∙ told .extent .given .1 in
     (rw (same, lt-ltb _ _ (c .if1 .taken)), table-short _ same _ (c .if1 .taken))
 
-add-copy : tie.Need-add-copy
-add-copy c = search needs
-
 copy-requires : tie.Need-copy-requires
 copy-requires c κs =
     let told = c .before .before .before .before .before .before in
     let call = told .before .before .before .before in
     omega (arith, table-low _ (sym (call .read-into .ensures .0) ∙ told .extent .given .1), call .read-into .kept)
 
-same-length-2 : tie.Need-same-length-2
-same-length-2 c = search needs
-
 returns-2 : tie.Need-returns-2
 returns-2 c =
     let call = c .before .before .before .before .before in
     let same = sym (call .read-into .ensures .0) ∙ c .before .f .given .1 in
     (rw same, table-refused _ _ same)
-
-same-length-3 : tie.Need-same-length-3
-same-length-3 c = search needs
-
-same-length-4 : tie.Need-same-length-4
-same-length-4 c = search needs
 
 returns-3 : tie.Need-returns-3
 returns-3 c =
@@ -64,25 +40,15 @@ returns-3 c =
     let told = enough .before .before .before in
     let call = told .before .before .before .before in
     let start = call .before .before .before .before .before in
-    let same = sym (call .read-into .ensures .0) ∙ told .extent .given .1 in
-    (rw (same, le-ltb _ _ (enough .if1 .left)),
-    copied .copy .ensures ∙
-    table-filled _ same (start .args .table .now) _ (start .args .out .now) (call .read-into .ensures .1) (start .pre) (enough .if1 .left))
+    let same = sym (call .read-into .ensures .0) ∙ told .extent .given .1 in (
+      rw (same, le-ltb _ _ (enough .if1 .left)),
+      copied .copy .ensures ∙
+          table-filled _ same (start .args .table .now) _ (start .args .out .now) (call .read-into .ensures .1) (start .pre) (enough .if1 .left),
+    )
 
 pub slot-table-by-spec : {M : Type 1} → statement M
 slot-table-by-spec =
     tie.close
     (tie.spec
-    read-into-requires
-    enum-known-f
-    enum-known-extent
-    add-if1
-    same-length
-    returns
-    add-copy
-    copy-requires
-    same-length-2
-    returns-2
-    same-length-3
-    same-length-4
-    returns-3)
+    (λ c κs. search needs) (λ c. search needs) (λ c. search needs) add-if1 (λ c. search needs) returns
+    (λ c. search needs) copy-requires (λ c. search needs) returns-2 (λ c. search needs) (λ c. search needs) returns-3)

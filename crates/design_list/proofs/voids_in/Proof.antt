@@ -23,9 +23,6 @@ abbrev μ-loop : tie.MeasureT-loop
 loop-holds : tie.Need-loop-holds Inv-loop μ-loop
 loop-holds c = (refl, refl)
 
-offends-requires : tie.Need-offends-requires Inv-loop μ-loop
-offends-requires c κs = search needs
-
 returns : tie.Need-returns Inv-loop μ-loop
 returns c =
     let in-loop = c .before .before in
@@ -44,10 +41,11 @@ loop-less c = omega arith
 
 loop-again : tie.Need-loop-again Inv-loop μ-loop
 loop-again c =
-    let in-loop = c .before .before in
-    (in-loop .before .loop .inv .0 ∙
-    many-turn _ _ _ (in-loop .loop-test .taken) (void-clean _ _ _ _ (sym (c .before .offends .ensures) ∙ c .if1 .left)),
-    omega (arith, in-loop .before .loop .inv .1))
+    let in-loop = c .before .before in (
+      in-loop .before .loop .inv .0 ∙
+          many-turn _ _ _ (in-loop .loop-test .taken) (void-clean _ _ _ _ (sym (c .before .offends .ensures) ∙ c .if1 .left)),
+      omega (arith, in-loop .before .loop .inv .1),
+    )
 
 returns-2 : tie.Need-returns-2 Inv-loop μ-loop
 returns-2 c = sym (c .before .loop .inv .0 ∙ many-none _ _ _ (c .loop-test .left))
@@ -56,13 +54,4 @@ pub voids-in-spec : {M : Type 1} → statement M
 voids-in-spec =
     tie.close
     (tie.spec
-    Inv-loop
-    μ-loop
-    loop-holds
-    offends-requires
-    returns
-    add-at
-    sub-left
-    loop-less
-    loop-again
-    returns-2)
+    Inv-loop μ-loop loop-holds (λ c κs. search needs) returns add-at sub-left loop-less loop-again returns-2)
