@@ -78,3 +78,19 @@ outputLen (dff ff) = length (ff .dat)
 -- A cell takes max(1, output width) slots.
 abbrev pub slotsOf : Cell → ℕ
 slotsOf c = max 1 (outputLen c)
+
+-- What stands at a slot, as far as reading nets goes: 0 a Void, 1 a Dff, 2 another cell.
+abbrev pub standing : Cell → ℕ
+standing void = 0
+standing note = 2
+standing (input n) = 2
+standing (ioBuf n) = 2
+standing (unary op a) = 2
+standing (binary op a b) = 2
+standing (mux s a b) = 2
+standing (adc a b c) = 2
+standing (aig a b) = 2
+standing (shift op value amount stride) = 2
+standing (match value enable patterns) = 2
+standing (assign value enable update offset) = 2
+standing (dff ff) = 1

@@ -1,6 +1,6 @@
 // Cells: their operations, and how the body of each is laid out in the words of a design list (cell.rs of the original).
 ghost use mathlib.Core.Path.{_≡_};
-ghost use Rattle.cell.specs.Operation.{operationOf, numbersOf, fieldsOf};
+ghost use Rattle.cell.specs.Operation.{operationOf, lead, numbersOf, body, fieldsOf, standingOf, mayReplace};
 
 // The operations, in the order of their numbers, 0 to 22.
 pub enum Operation {
@@ -85,149 +85,59 @@ pub fn operation_of(number: u32) -> Decoded
     }
 }
 
+// The numbers of a body.
+pub fn lead(count: u32, least: u32, second: u32, within: bool) -> Numbers
+    ensures { λ r. ⌜ r ≡ lead count least second within ⌝ }
+{
+    Numbers {
+        count,
+        least,
+        second,
+        within,
+    }
+}
+
+// The fields of a body, after its numbers.
+pub fn body(controls: usize, nets: usize, constants: usize, patterns: usize, width: usize) -> Fields
+    ensures { λ r. ⌜ r ≡ body controls nets constants patterns width ⌝ }
+{
+    Fields {
+        controls,
+        nets,
+        constants,
+        patterns,
+        width,
+    }
+}
+
 // The numbers that lead an operation's body.
 pub fn numbers_of(op: Operation) -> Numbers
     ensures { λ r. ⌜ r ≡ numbersOf op ⌝ }
 {
     match op {
-        Operation::Void => Numbers {
-            count: 0,
-            least: 0,
-            second: 0,
-            within: false,
-        },
-        Operation::Buf => Numbers {
-            count: 1,
-            least: 0,
-            second: 0,
-            within: false,
-        },
-        Operation::Not => Numbers {
-            count: 1,
-            least: 0,
-            second: 0,
-            within: false,
-        },
-        Operation::And => Numbers {
-            count: 1,
-            least: 0,
-            second: 0,
-            within: false,
-        },
-        Operation::Or => Numbers {
-            count: 1,
-            least: 0,
-            second: 0,
-            within: false,
-        },
-        Operation::Xor => Numbers {
-            count: 1,
-            least: 0,
-            second: 0,
-            within: false,
-        },
-        Operation::Mux => Numbers {
-            count: 1,
-            least: 0,
-            second: 0,
-            within: false,
-        },
-        Operation::Adc => Numbers {
-            count: 1,
-            least: 0,
-            second: 0,
-            within: false,
-        },
-        Operation::Aig => Numbers {
-            count: 0,
-            least: 0,
-            second: 0,
-            within: false,
-        },
-        Operation::Eq => Numbers {
-            count: 1,
-            least: 1,
-            second: 0,
-            within: false,
-        },
-        Operation::ULt => Numbers {
-            count: 1,
-            least: 1,
-            second: 0,
-            within: false,
-        },
-        Operation::SLt => Numbers {
-            count: 1,
-            least: 1,
-            second: 0,
-            within: false,
-        },
-        Operation::Shl => Numbers {
-            count: 3,
-            least: 0,
-            second: 32,
-            within: false,
-        },
-        Operation::UShr => Numbers {
-            count: 3,
-            least: 0,
-            second: 32,
-            within: false,
-        },
-        Operation::SShr => Numbers {
-            count: 3,
-            least: 1,
-            second: 32,
-            within: false,
-        },
-        Operation::XShr => Numbers {
-            count: 3,
-            least: 0,
-            second: 32,
-            within: false,
-        },
-        Operation::Mul => Numbers {
-            count: 1,
-            least: 0,
-            second: 0,
-            within: false,
-        },
-        Operation::Match => Numbers {
-            count: 2,
-            least: 0,
-            second: 63,
-            within: false,
-        },
-        Operation::Assign => Numbers {
-            count: 3,
-            least: 0,
-            second: 63,
-            within: true,
-        },
-        Operation::Dff => Numbers {
-            count: 2,
-            least: 0,
-            second: 1,
-            within: false,
-        },
-        Operation::IoBuf => Numbers {
-            count: 1,
-            least: 0,
-            second: 0,
-            within: false,
-        },
-        Operation::Input => Numbers {
-            count: 1,
-            least: 0,
-            second: 0,
-            within: false,
-        },
-        Operation::Note => Numbers {
-            count: 0,
-            least: 0,
-            second: 0,
-            within: false,
-        },
+        Operation::Void => lead(0, 0, 0, false),
+        Operation::Buf => lead(1, 0, 0, false),
+        Operation::Not => lead(1, 0, 0, false),
+        Operation::And => lead(1, 0, 0, false),
+        Operation::Or => lead(1, 0, 0, false),
+        Operation::Xor => lead(1, 0, 0, false),
+        Operation::Mux => lead(1, 0, 0, false),
+        Operation::Adc => lead(1, 0, 0, false),
+        Operation::Aig => lead(0, 0, 0, false),
+        Operation::Eq => lead(1, 1, 0, false),
+        Operation::ULt => lead(1, 1, 0, false),
+        Operation::SLt => lead(1, 1, 0, false),
+        Operation::Shl => lead(3, 0, 32, false),
+        Operation::UShr => lead(3, 0, 32, false),
+        Operation::SShr => lead(3, 1, 32, false),
+        Operation::XShr => lead(3, 0, 32, false),
+        Operation::Mul => lead(1, 0, 0, false),
+        Operation::Match => lead(2, 0, 63, false),
+        Operation::Assign => lead(3, 0, 63, true),
+        Operation::Dff => lead(2, 0, 1, false),
+        Operation::IoBuf => lead(1, 0, 0, false),
+        Operation::Input => lead(1, 0, 0, false),
+        Operation::Note => lead(0, 0, 0, false),
     }
 }
 
@@ -238,166 +148,90 @@ pub fn fields_of(op: Operation, first: u32, second: u32) -> Fields
     let n = first as usize;
     let m = second as usize;
     match op {
-        Operation::Void => Fields {
-            controls: 0,
-            nets: 0,
-            constants: 0,
-            patterns: 0,
-            width: 0,
-        },
-        Operation::Buf => Fields {
-            controls: 0,
-            nets: n,
-            constants: 0,
-            patterns: 0,
-            width: n,
-        },
-        Operation::Not => Fields {
-            controls: 0,
-            nets: n,
-            constants: 0,
-            patterns: 0,
-            width: n,
-        },
-        Operation::And => Fields {
-            controls: 0,
-            nets: n + n,
-            constants: 0,
-            patterns: 0,
-            width: n,
-        },
-        Operation::Or => Fields {
-            controls: 0,
-            nets: n + n,
-            constants: 0,
-            patterns: 0,
-            width: n,
-        },
-        Operation::Xor => Fields {
-            controls: 0,
-            nets: n + n,
-            constants: 0,
-            patterns: 0,
-            width: n,
-        },
-        Operation::Mux => Fields {
-            controls: 0,
-            nets: 1 + n + n,
-            constants: 0,
-            patterns: 0,
-            width: n,
-        },
-        Operation::Adc => Fields {
-            controls: 0,
-            nets: n + n + 1,
-            constants: 0,
-            patterns: 0,
-            width: n + 1,
-        },
-        Operation::Aig => Fields {
-            controls: 2,
-            nets: 0,
-            constants: 0,
-            patterns: 0,
-            width: 1,
-        },
-        Operation::Eq => Fields {
-            controls: 0,
-            nets: n + n,
-            constants: 0,
-            patterns: 0,
-            width: 1,
-        },
-        Operation::ULt => Fields {
-            controls: 0,
-            nets: n + n,
-            constants: 0,
-            patterns: 0,
-            width: 1,
-        },
-        Operation::SLt => Fields {
-            controls: 0,
-            nets: n + n,
-            constants: 0,
-            patterns: 0,
-            width: 1,
-        },
-        Operation::Shl => Fields {
-            controls: 0,
-            nets: n + m,
-            constants: 0,
-            patterns: 0,
-            width: n,
-        },
-        Operation::UShr => Fields {
-            controls: 0,
-            nets: n + m,
-            constants: 0,
-            patterns: 0,
-            width: n,
-        },
-        Operation::SShr => Fields {
-            controls: 0,
-            nets: n + m,
-            constants: 0,
-            patterns: 0,
-            width: n,
-        },
-        Operation::XShr => Fields {
-            controls: 0,
-            nets: n + m,
-            constants: 0,
-            patterns: 0,
-            width: n,
-        },
-        Operation::Mul => Fields {
-            controls: 0,
-            nets: n + n,
-            constants: 0,
-            patterns: 0,
-            width: n,
-        },
-        Operation::Match => Fields {
-            controls: 0,
-            nets: 1 + n,
-            constants: 0,
-            patterns: m,
-            width: m,
-        },
-        Operation::Assign => Fields {
-            controls: 0,
-            nets: 1 + n + m,
-            constants: 0,
-            patterns: 0,
-            width: n,
-        },
-        Operation::Dff => Fields {
-            controls: 4,
-            nets: n,
-            constants: n + n,
-            patterns: 0,
-            width: n,
-        },
-        Operation::IoBuf => Fields {
-            controls: 0,
-            nets: 0,
-            constants: 0,
-            patterns: 0,
-            width: n,
-        },
-        Operation::Input => Fields {
-            controls: 0,
-            nets: 0,
-            constants: 0,
-            patterns: 0,
-            width: n,
-        },
-        Operation::Note => Fields {
-            controls: 0,
-            nets: 0,
-            constants: 0,
-            patterns: 0,
-            width: 0,
-        },
+        Operation::Void => body(0, 0, 0, 0, 0),
+        Operation::Buf => body(0, n, 0, 0, n),
+        Operation::Not => body(0, n, 0, 0, n),
+        Operation::And => body(0, n + n, 0, 0, n),
+        Operation::Or => body(0, n + n, 0, 0, n),
+        Operation::Xor => body(0, n + n, 0, 0, n),
+        Operation::Mux => body(0, 1 + n + n, 0, 0, n),
+        Operation::Adc => body(0, n + n + 1, 0, 0, n + 1),
+        Operation::Aig => body(2, 0, 0, 0, 1),
+        Operation::Eq => body(0, n + n, 0, 0, 1),
+        Operation::ULt => body(0, n + n, 0, 0, 1),
+        Operation::SLt => body(0, n + n, 0, 0, 1),
+        Operation::Shl => body(0, n + m, 0, 0, n),
+        Operation::UShr => body(0, n + m, 0, 0, n),
+        Operation::SShr => body(0, n + m, 0, 0, n),
+        Operation::XShr => body(0, n + m, 0, 0, n),
+        Operation::Mul => body(0, n + n, 0, 0, n),
+        Operation::Match => body(0, 1 + n, 0, m, m),
+        Operation::Assign => body(0, 1 + n + m, 0, 0, n),
+        Operation::Dff => body(4, n, n + n, 0, n),
+        Operation::IoBuf => body(0, 0, 0, 0, n),
+        Operation::Input => body(0, 0, 0, 0, n),
+        Operation::Note => body(0, 0, 0, 0, 0),
+    }
+}
+
+// What stands at the slots of an operation's cell: 0 a Void, 1 a Dff, 2 another cell.
+pub fn standing_of(op: Operation) -> u32
+    ensures { λ r. ⌜ r ≡ standingOf op ⌝ }
+{
+    match op {
+        Operation::Void => 0,
+        Operation::Buf => 2,
+        Operation::Not => 2,
+        Operation::And => 2,
+        Operation::Or => 2,
+        Operation::Xor => 2,
+        Operation::Mux => 2,
+        Operation::Adc => 2,
+        Operation::Aig => 2,
+        Operation::Eq => 2,
+        Operation::ULt => 2,
+        Operation::SLt => 2,
+        Operation::Shl => 2,
+        Operation::UShr => 2,
+        Operation::SShr => 2,
+        Operation::XShr => 2,
+        Operation::Mul => 2,
+        Operation::Match => 2,
+        Operation::Assign => 2,
+        Operation::Dff => 1,
+        Operation::IoBuf => 2,
+        Operation::Input => 2,
+        Operation::Note => 2,
+    }
+}
+
+// Whether an operation's cell may be the new cell of a replacement.
+pub fn may_replace(op: Operation) -> bool
+    ensures { λ r. ⌜ r ≡ mayReplace op ⌝ }
+{
+    match op {
+        Operation::Void => false,
+        Operation::Buf => true,
+        Operation::Not => true,
+        Operation::And => true,
+        Operation::Or => true,
+        Operation::Xor => true,
+        Operation::Mux => true,
+        Operation::Adc => true,
+        Operation::Aig => true,
+        Operation::Eq => true,
+        Operation::ULt => true,
+        Operation::SLt => true,
+        Operation::Shl => true,
+        Operation::UShr => true,
+        Operation::SShr => true,
+        Operation::XShr => true,
+        Operation::Mul => true,
+        Operation::Match => true,
+        Operation::Assign => true,
+        Operation::Dff => true,
+        Operation::IoBuf => true,
+        Operation::Input => false,
+        Operation::Note => false,
     }
 }

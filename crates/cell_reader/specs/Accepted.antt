@@ -10,8 +10,8 @@ use borrow.Author.Tests.{ltb-true, ltb-false, leb-true, eqb-true, eqb-false}
 use Rattle.logic.specs.Word.{kindOf, payloadOf}
 use Rattle.logic.specs.Table.{tab, length-tab}
 use Rattle.logic.specs.declared.Fault.{Fault}
-use Rattle.cell.specs.Cell.{Cell, outputLen}
-use Rattle.cell.specs.Operation.{operationOf, numbersOf, fieldsOf}
+use Rattle.cell.specs.Cell.{Cell, outputLen, standing}
+use Rattle.cell.specs.Operation.{operationOf, numbersOf, fieldsOf, standingOf}
 use Rattle.cell.specs.declared.Operation.{Operation}
 use Rattle.cell.specs.declared.Operation.the-variants.{Void, Buf, Not, And, Or, Xor, Mux, Adc, Aig, Eq, ULt, SLt, Shl, UShr, SShr, XShr, Mul, Match, Assign, Dff, IoBuf, Input, Note}
 use Rattle.cell.specs.declared.Numbers.{Numbers}
@@ -309,3 +309,62 @@ record-read w total at {op} {width} {next} read = head (headAt w at) refl read
         IsRecord w total at op width next
     head (H.Refused f) h e = let z : _≡_ {A = ℕ} 0 1 = cc in absurd (omega arith)
     head (H.Record o first end) h e = lead o first end (head-read w at h) (leadingAt w (numbersOf o) end first) refl e
+
+-- What stands at the slots of the cell that a body stands for is by its operation.
+standing-in : (w : List ℕ) (op : Operation) (at : ℕ) → standing (cellIn w op at) ≡ standingOf op
+standing-in w Void at = refl
+standing-in w Buf at = refl
+standing-in w Not at = refl
+standing-in w And at = refl
+standing-in w Or at = refl
+standing-in w Xor at = refl
+standing-in w Mux at = refl
+standing-in w Adc at = refl
+standing-in w Aig at = refl
+standing-in w Eq at = refl
+standing-in w ULt at = refl
+standing-in w SLt at = refl
+standing-in w Shl at = refl
+standing-in w UShr at = refl
+standing-in w SShr at = refl
+standing-in w XShr at = refl
+standing-in w Mul at = refl
+standing-in w Match at = refl
+standing-in w Assign at = refl
+standing-in w Dff at = refl
+standing-in w IoBuf at = refl
+standing-in w Input at = refl
+standing-in w Note at = refl
+
+pub standing-at : (w : List ℕ) (at : ℕ) → standing (cellAt w at) ≡ standingOf (opAt w at)
+unfolding cellAt
+standing-at w at = standing-in w (opAt w at) (at + 1)
+
+-- Standings are 0, 1 and 2.
+low-standing : (op : Operation) → standingOf op ≤ 2
+low-standing Void = omega arith
+low-standing Buf = omega arith
+low-standing Not = omega arith
+low-standing And = omega arith
+low-standing Or = omega arith
+low-standing Xor = omega arith
+low-standing Mux = omega arith
+low-standing Adc = omega arith
+low-standing Aig = omega arith
+low-standing Eq = omega arith
+low-standing ULt = omega arith
+low-standing SLt = omega arith
+low-standing Shl = omega arith
+low-standing UShr = omega arith
+low-standing SShr = omega arith
+low-standing XShr = omega arith
+low-standing Mul = omega arith
+low-standing Match = omega arith
+low-standing Assign = omega arith
+low-standing Dff = omega arith
+low-standing IoBuf = omega arith
+low-standing Input = omega arith
+low-standing Note = omega arith
+
+pub record-standing : {w : List ℕ} {total at : ℕ} {op : Operation} {width next : ℕ} → IsRecord w total at op width next → standingOf op ≤ 2
+record-standing {op = op} is = low-standing op

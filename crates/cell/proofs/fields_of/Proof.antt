@@ -3,271 +3,43 @@ use borrow.Author.Needs.{needs}
 use Rattle.cell.proofs.fields_of.Statement.{statement}
 use Rattle.cell.proofs.fields_of.Tie as tie
 
-enum-told : tie.Need-enum-told
-enum-told c = search needs
-
-enum-told-2 : tie.Need-enum-told-2
-enum-told-2 c = search needs
-
-enum-told-3 : tie.Need-enum-told-3
-enum-told-3 c = search needs
-
-enum-told-4 : tie.Need-enum-told-4
-enum-told-4 c = search needs
-
-add-t7 : tie.Need-add-t7
-add-t7 c = search needs
-
-enum-told-5 : tie.Need-enum-told-5
-enum-told-5 c = search needs
-
-add-t8 : tie.Need-add-t8
-add-t8 c = search needs
-
-enum-told-6 : tie.Need-enum-told-6
-enum-told-6 c = search needs
-
-add-t9 : tie.Need-add-t9
-add-t9 c = search needs
-
-enum-told-7 : tie.Need-enum-told-7
-enum-told-7 c = search needs
-
-add-t10 : tie.Need-add-t10
-add-t10 c = search needs
-
-add-t11 : tie.Need-add-t11
-add-t11 c = search needs
-
-enum-told-8 : tie.Need-enum-told-8
-enum-told-8 c = search needs
-
-add-t12 : tie.Need-add-t12
-add-t12 c = search needs
-
-add-t13 : tie.Need-add-t13
-add-t13 c = search needs
-
-add-t14 : tie.Need-add-t14
-add-t14 c = search needs
-
-enum-told-9 : tie.Need-enum-told-9
-enum-told-9 c = search needs
-
-enum-told-10 : tie.Need-enum-told-10
-enum-told-10 c = search needs
-
-add-t15 : tie.Need-add-t15
-add-t15 c = search needs
-
-enum-told-11 : tie.Need-enum-told-11
-enum-told-11 c = search needs
-
-add-t16 : tie.Need-add-t16
-add-t16 c = search needs
-
-enum-told-12 : tie.Need-enum-told-12
-enum-told-12 c = search needs
-
-add-t17 : tie.Need-add-t17
-add-t17 c = search needs
-
-enum-told-13 : tie.Need-enum-told-13
-enum-told-13 c = search needs
-
-add-t18 : tie.Need-add-t18
-add-t18 c = search needs
-
-enum-told-14 : tie.Need-enum-told-14
-enum-told-14 c = search needs
-
-add-t19 : tie.Need-add-t19
-add-t19 c = search needs
-
-enum-told-15 : tie.Need-enum-told-15
-enum-told-15 c = search needs
-
-add-t20 : tie.Need-add-t20
-add-t20 c = search needs
-
-enum-told-16 : tie.Need-enum-told-16
-enum-told-16 c = search needs
-
-add-t21 : tie.Need-add-t21
-add-t21 c = search needs
-
-enum-told-17 : tie.Need-enum-told-17
-enum-told-17 c = search needs
-
-add-t22 : tie.Need-add-t22
-add-t22 c = search needs
-
-enum-told-18 : tie.Need-enum-told-18
-enum-told-18 c = search needs
-
-add-t23 : tie.Need-add-t23
-add-t23 c = search needs
-
-enum-told-19 : tie.Need-enum-told-19
-enum-told-19 c = search needs
-
-add-t24 : tie.Need-add-t24
-add-t24 c = search needs
-
-add-t25 : tie.Need-add-t25
-add-t25 c = search needs
-
-enum-told-20 : tie.Need-enum-told-20
-enum-told-20 c = search needs
-
-add-t26 : tie.Need-add-t26
-add-t26 c = search needs
-
-enum-told-21 : tie.Need-enum-told-21
-enum-told-21 c = search needs
-
-enum-told-22 : tie.Need-enum-told-22
-enum-told-22 c = search needs
-
-enum-told-23 : tie.Need-enum-told-23
-enum-told-23 c = search needs
-
-returns : tie.Need-returns
-returns c = rw (c .enum-told .given .1)
-
-returns-2 : tie.Need-returns-2
-returns-2 c = rw (c .enum-told2 .given .1)
-
-returns-3 : tie.Need-returns-3
-returns-3 c = rw (c .enum-told3 .given .1)
-
-returns-4 : tie.Need-returns-4
-returns-4 c = rw (c .enum-told4 .given .1)
-
-returns-5 : tie.Need-returns-5
-returns-5 c = rw (c .enum-told5 .given .1)
-
-returns-6 : tie.Need-returns-6
-returns-6 c = rw (c .enum-told6 .given .1)
-
-returns-7 : tie.Need-returns-7
-returns-7 c = rw (c .enum-told7 .given .1)
-
-returns-8 : tie.Need-returns-8
-returns-8 c = rw (c .enum-told8 .given .1)
-
-returns-9 : tie.Need-returns-9
-returns-9 c = rw (c .enum-told9 .given .1)
-
-returns-10 : tie.Need-returns-10
-returns-10 c = rw (c .enum-told10 .given .1)
-
-returns-11 : tie.Need-returns-11
-returns-11 c = rw (c .enum-told11 .given .1)
-
-returns-12 : tie.Need-returns-12
-returns-12 c = rw (c .enum-told12 .given .1)
-
-returns-13 : tie.Need-returns-13
-returns-13 c = rw (c .enum-told13 .given .1)
-
-returns-14 : tie.Need-returns-14
-returns-14 c = rw (c .enum-told14 .given .1)
-
-returns-15 : tie.Need-returns-15
-returns-15 c = rw (c .enum-told15 .given .1)
-
-returns-16 : tie.Need-returns-16
-returns-16 c = rw (c .enum-told16 .given .1)
-
-returns-17 : tie.Need-returns-17
-returns-17 c = rw (c .enum-told17 .given .1)
-
-returns-18 : tie.Need-returns-18
-returns-18 c = rw (c .enum-told18 .given .1)
-
-returns-19 : tie.Need-returns-19
-returns-19 c = rw (c .enum-told19 .given .1)
-
-returns-20 : tie.Need-returns-20
-returns-20 c = rw (c .enum-told20 .given .1)
-
-returns-21 : tie.Need-returns-21
-returns-21 c = rw (c .enum-told21 .given .1)
-
-returns-22 : tie.Need-returns-22
-returns-22 c = rw (c .enum-told22 .given .1)
-
-returns-23 : tie.Need-returns-23
-returns-23 c = rw (c .enum-told23 .given .1)
-
 pub fields-of-spec : {M : Type 1} → statement M
 fields-of-spec =
     tie.close
     (tie.spec
-    enum-told
-    enum-told-2
-    enum-told-3
-    enum-told-4
-    add-t7
-    enum-told-5
-    add-t8
-    enum-told-6
-    add-t9
-    enum-told-7
-    add-t10
-    add-t11
-    enum-told-8
-    add-t12
-    add-t13
-    add-t14
-    enum-told-9
-    enum-told-10
-    add-t15
-    enum-told-11
-    add-t16
-    enum-told-12
-    add-t17
-    enum-told-13
-    add-t18
-    enum-told-14
-    add-t19
-    enum-told-15
-    add-t20
-    enum-told-16
-    add-t21
-    enum-told-17
-    add-t22
-    enum-told-18
-    add-t23
-    enum-told-19
-    add-t24
-    add-t25
-    enum-told-20
-    add-t26
-    enum-told-21
-    enum-told-22
-    enum-told-23
-    returns
-    returns-2
-    returns-3
-    returns-4
-    returns-5
-    returns-6
-    returns-7
-    returns-8
-    returns-9
-    returns-10
-    returns-11
-    returns-12
-    returns-13
-    returns-14
-    returns-15
-    returns-16
-    returns-17
-    returns-18
-    returns-19
-    returns-20
-    returns-21
-    returns-22
-    returns-23)
+    (λ c. search needs) (λ c κs. search needs) (λ c. search needs) (λ c κs. search needs) (λ c. search needs)
+    (λ c κs. search needs) (λ c. search needs) (λ c. search needs) (λ c κs. search needs) (λ c. search needs)
+    (λ c. search needs) (λ c κs. search needs) (λ c. search needs) (λ c. search needs) (λ c κs. search needs)
+    (λ c. search needs) (λ c. search needs) (λ c. search needs) (λ c κs. search needs) (λ c. search needs)
+    (λ c. search needs) (λ c. search needs) (λ c. search needs) (λ c κs. search needs) (λ c. search needs)
+    (λ c κs. search needs) (λ c. search needs) (λ c. search needs) (λ c κs. search needs) (λ c. search needs)
+    (λ c. search needs) (λ c κs. search needs) (λ c. search needs) (λ c. search needs) (λ c κs. search needs)
+    (λ c. search needs) (λ c. search needs) (λ c κs. search needs) (λ c. search needs) (λ c. search needs)
+    (λ c κs. search needs) (λ c. search needs) (λ c. search needs) (λ c κs. search needs) (λ c. search needs)
+    (λ c. search needs) (λ c κs. search needs) (λ c. search needs) (λ c. search needs) (λ c κs. search needs)
+    (λ c. search needs) (λ c. search needs) (λ c κs. search needs) (λ c. search needs) (λ c. search needs)
+    (λ c. search needs) (λ c κs. search needs) (λ c. search needs) (λ c. search needs) (λ c κs. search needs)
+    (λ c. search needs) (λ c κs. search needs) (λ c. search needs) (λ c κs. search needs) (λ c. search needs)
+    (λ c κs. search needs) (λ c. rw (c .before .enum-told .given .1, ← c .body .ensures))
+    (λ c. rw (c .before .enum-told2 .given .1, ← c .body2 .ensures))
+    (λ c. rw (c .before .enum-told3 .given .1, ← c .body3 .ensures))
+    (λ c. rw (c .before .enum-told4 .given .1, ← c .body4 .ensures))
+    (λ c. rw (c .before .enum-told5 .given .1, ← c .body5 .ensures))
+    (λ c. rw (c .before .enum-told6 .given .1, ← c .body6 .ensures))
+    (λ c. rw (c .before .enum-told7 .given .1, ← c .body7 .ensures))
+    (λ c. rw (c .before .enum-told8 .given .1, ← c .body8 .ensures))
+    (λ c. rw (c .before .enum-told9 .given .1, ← c .body9 .ensures))
+    (λ c. rw (c .before .enum-told10 .given .1, ← c .body10 .ensures))
+    (λ c. rw (c .before .enum-told11 .given .1, ← c .body11 .ensures))
+    (λ c. rw (c .before .enum-told12 .given .1, ← c .body12 .ensures))
+    (λ c. rw (c .before .enum-told13 .given .1, ← c .body13 .ensures))
+    (λ c. rw (c .before .enum-told14 .given .1, ← c .body14 .ensures))
+    (λ c. rw (c .before .enum-told15 .given .1, ← c .body15 .ensures))
+    (λ c. rw (c .before .enum-told16 .given .1, ← c .body16 .ensures))
+    (λ c. rw (c .before .enum-told17 .given .1, ← c .body17 .ensures))
+    (λ c. rw (c .before .enum-told18 .given .1, ← c .body18 .ensures))
+    (λ c. rw (c .before .enum-told19 .given .1, ← c .body19 .ensures))
+    (λ c. rw (c .before .enum-told20 .given .1, ← c .body20 .ensures))
+    (λ c. rw (c .before .enum-told21 .given .1, ← c .body21 .ensures))
+    (λ c. rw (c .before .enum-told22 .given .1, ← c .body22 .ensures))
+    (λ c. rw (c .before .enum-told23 .given .1, ← c .body23 .ensures)))

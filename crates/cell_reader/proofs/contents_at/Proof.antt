@@ -3,33 +3,6 @@ use borrow.Author.Needs.{needs}
 use Rattle.cell_reader.proofs.contents_at.Statement.{statement}
 use Rattle.cell_reader.proofs.contents_at.Tie as tie
 
-numbers-of-requires : tie.Need-numbers-of-requires
-numbers-of-requires c κs = search needs
-
-leading-at-requires : tie.Need-leading-at-requires
-leading-at-requires c κs = search needs
-
-enum-known-f : tie.Need-enum-known-f
-enum-known-f c = search needs
-
-enum-known-n : tie.Need-enum-known-n
-enum-known-n c = search needs
-
-fields-of-requires : tie.Need-fields-of-requires
-fields-of-requires c κs = search needs
-
-cast-body-at : tie.Need-cast-body-at
-cast-body-at c = search needs
-
-body-at-requires : tie.Need-body-at-requires
-body-at-requires c κs = search needs
-
-enum-known-f-2 : tie.Need-enum-known-f-2
-enum-known-f-2 c = search needs
-
-enum-known-after : tie.Need-enum-known-after
-enum-known-after c = search needs
-
 returns : tie.Need-returns
 unfolding contentsAt
 returns c =
@@ -67,15 +40,5 @@ pub contents-at-spec : {M : Type 1} → statement M
 contents-at-spec =
     tie.close
     (tie.spec
-    numbers-of-requires
-    leading-at-requires
-    enum-known-f
-    enum-known-n
-    fields-of-requires
-    cast-body-at
-    body-at-requires
-    enum-known-f-2
-    enum-known-after
-    returns
-    returns-2
-    returns-3)
+    (λ c κs. search needs) (λ c κs. search needs) (λ c. search needs) (λ c. search needs) (λ c κs. search needs)
+    (λ c. search needs) (λ c κs. search needs) (λ c. search needs) (λ c. search needs) returns returns-2 returns-3)

@@ -8,15 +8,6 @@ returns : tie.Need-returns
 unfolding leadingAt firstAt
 returns c = rw (eq-eqb _ _ (c .if1 .taken))
 
-number-at-requires : tie.Need-number-at-requires
-number-at-requires c κs = search needs
-
-enum-known-f : tie.Need-enum-known-f
-enum-known-f c = search needs
-
-enum-known-n : tie.Need-enum-known-n
-enum-known-n c = search needs
-
 returns-2 : tie.Need-returns-2
 unfolding leadingAt firstAt
 returns-2 c =
@@ -37,9 +28,6 @@ returns-3 c =
       le-ltb _ _ (c .before .before .if2 .left),
       eq-eqb _ _ (c .if3 .taken),
     )
-
-second-at-requires : tie.Need-second-at-requires
-second-at-requires c κs = search needs
 
 returns-4 : tie.Need-returns-4
 unfolding leadingAt firstAt
@@ -66,12 +54,5 @@ pub leading-at-spec : {M : Type 1} → statement M
 leading-at-spec =
     tie.close
     (tie.spec
-    returns
-    number-at-requires
-    enum-known-f
-    enum-known-n
-    returns-2
-    returns-3
-    second-at-requires
-    returns-4
-    returns-5)
+    returns (λ c κs. search needs) (λ c. search needs) (λ c. search needs) returns-2 returns-3 (λ c κs. search needs)
+    returns-4 returns-5)

@@ -4,15 +4,6 @@ use borrow.Author.Needs.{needs}
 use Rattle.cell_reader.proofs.second_at.Statement.{statement}
 use Rattle.cell_reader.proofs.second_at.Tie as tie
 
-number-at-requires : tie.Need-number-at-requires
-number-at-requires c κs = search needs
-
-enum-known-f : tie.Need-enum-known-f
-enum-known-f c = search needs
-
-enum-known-m : tie.Need-enum-known-m
-enum-known-m c = search needs
-
 returns : tie.Need-returns
 unfolding secondAt
 returns c =
@@ -21,9 +12,6 @@ returns c =
       c .before .before .before .m .given .1,
       eq-eqb _ _ (c .if1 .taken),
     )
-
-third-at-requires : tie.Need-third-at-requires
-third-at-requires c κs = search needs
 
 returns-2 : tie.Need-returns-2
 unfolding secondAt
@@ -47,10 +35,4 @@ pub second-at-spec : {M : Type 1} → statement M
 second-at-spec =
     tie.close
     (tie.spec
-    number-at-requires
-    enum-known-f
-    enum-known-m
-    returns
-    third-at-requires
-    returns-2
-    returns-3)
+    (λ c κs. search needs) (λ c. search needs) (λ c. search needs) returns (λ c κs. search needs) returns-2 returns-3)

@@ -3,27 +3,6 @@ use borrow.Author.Needs.{needs}
 use Rattle.cell_reader.proofs.tail_at.Statement.{statement}
 use Rattle.cell_reader.proofs.tail_at.Tie as tie
 
-constants-at-requires : tie.Need-constants-at-requires
-constants-at-requires c κs = search needs
-
-enum-known-f : tie.Need-enum-known-f
-enum-known-f c = search needs
-
-enum-known-patterns : tie.Need-enum-known-patterns
-enum-known-patterns c = search needs
-
-patterns-at-requires : tie.Need-patterns-at-requires
-patterns-at-requires c κs = search needs
-
-enum-known-f-2 : tie.Need-enum-known-f-2
-enum-known-f-2 c = search needs
-
-enum-known-next : tie.Need-enum-known-next
-enum-known-next c = search needs
-
-ends-at-requires : tie.Need-ends-at-requires
-ends-at-requires c κs = search needs
-
 returns : tie.Need-returns
 unfolding tailAt
 returns c =
@@ -57,13 +36,5 @@ pub tail-at-spec : {M : Type 1} → statement M
 tail-at-spec =
     tie.close
     (tie.spec
-    constants-at-requires
-    enum-known-f
-    enum-known-patterns
-    patterns-at-requires
-    enum-known-f-2
-    enum-known-next
-    ends-at-requires
-    returns
-    returns-2
-    returns-3)
+    (λ c κs. search needs) (λ c. search needs) (λ c. search needs) (λ c κs. search needs) (λ c. search needs)
+    (λ c. search needs) (λ c κs. search needs) returns returns-2 returns-3)

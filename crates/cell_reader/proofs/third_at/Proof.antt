@@ -4,21 +4,6 @@ use borrow.Author.Needs.{needs}
 use Rattle.cell_reader.proofs.third_at.Statement.{statement}
 use Rattle.cell_reader.proofs.third_at.Tie as tie
 
-number-at-requires : tie.Need-number-at-requires
-number-at-requires c κs = search needs
-
-enum-known-f : tie.Need-enum-known-f
-enum-known-f c = search needs
-
-enum-known-offset : tie.Need-enum-known-offset
-enum-known-offset c = search needs
-
-cast-if2 : tie.Need-cast-if2
-cast-if2 c = search needs
-
-add-if2 : tie.Need-add-if2
-add-if2 c = search needs
-
 returns : tie.Need-returns
 unfolding thirdAt
 returns c =
@@ -60,12 +45,5 @@ pub third-at-spec : {M : Type 1} → statement M
 third-at-spec =
     tie.close
     (tie.spec
-    number-at-requires
-    enum-known-f
-    enum-known-offset
-    cast-if2
-    add-if2
-    returns
-    returns-2
-    returns-3
-    returns-4)
+    (λ c κs. search needs) (λ c. search needs) (λ c. search needs) (λ c. search needs) (λ c. search needs) returns
+    returns-2 returns-3 returns-4)

@@ -4,15 +4,6 @@ use borrow.Author.Needs.{needs}
 use Rattle.fields.proofs.bit_at.Statement.{statement}
 use Rattle.fields.proofs.bit_at.Tie as tie
 
-word-at-requires : tie.Need-word-at-requires
-word-at-requires c κs = search needs
-
-is-constant-requires : tie.Need-is-constant-requires
-is-constant-requires c κs = search needs
-
-add-t13 : tie.Need-add-t13
-add-t13 c = search needs
-
 returns : tie.Need-returns
 unfolding bitAt
 returns c =
@@ -51,4 +42,5 @@ returns-4 c = rw (le-ltb _ _ (c .if1 .left))
 pub bit-at-spec : {M : Type 1} → statement M
 bit-at-spec =
     tie.close
-    (tie.spec word-at-requires is-constant-requires add-t13 returns returns-2 returns-3 returns-4)
+    (tie.spec
+    (λ c κs. search needs) (λ c κs. search needs) (λ c. search needs) returns returns-2 returns-3 returns-4)

@@ -3,18 +3,6 @@ use borrow.Author.Needs.{needs}
 use Rattle.fields.proofs.constant_at.Statement.{statement}
 use Rattle.fields.proofs.constant_at.Tie as tie
 
-bit-at-requires : tie.Need-bit-at-requires
-bit-at-requires c κs = search needs
-
-enum-known-next : tie.Need-enum-known-next
-enum-known-next c = search needs
-
-enum-told : tie.Need-enum-told
-enum-told c = search needs
-
-enum-known-f : tie.Need-enum-known-f
-enum-known-f c = search needs
-
 returns : tie.Need-returns
 unfolding constantAt
 returns c =
@@ -42,4 +30,5 @@ returns-3 c =
 pub constant-at-spec : {M : Type 1} → statement M
 constant-at-spec =
     tie.close
-    (tie.spec bit-at-requires enum-known-next enum-told enum-known-f returns returns-2 returns-3)
+    (tie.spec
+    (λ c κs. search needs) (λ c. search needs) (λ c. search needs) (λ c. search needs) returns returns-2 returns-3)

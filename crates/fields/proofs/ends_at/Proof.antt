@@ -12,4 +12,7 @@ unfolding endsAt
 returns-2 c = rw (ne-eqb _ _ (c .if1 .left))
 
 pub ends-at-spec : {M : Type 1} → statement M
-ends-at-spec = tie.close (tie.spec returns returns-2)
+ends-at-spec =
+    tie.close
+    (tie.spec
+    returns returns-2)

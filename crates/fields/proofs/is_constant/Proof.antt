@@ -9,4 +9,7 @@ returns-2 : tie.Need-returns-2
 returns-2 c = rw (le-ltb _ _ (c .if1 .left))
 
 pub is-constant-spec : {M : Type 1} → statement M
-is-constant-spec = tie.close (tie.spec returns returns-2)
+is-constant-spec =
+    tie.close
+    (tie.spec
+    returns returns-2)

@@ -13,9 +13,6 @@ returns-2 c =
       eq-eqb _ _ (c .if2 .taken),
     )
 
-cast-result : tie.Need-cast-result
-cast-result c = search needs
-
 returns-3 : tie.Need-returns-3
 returns-3 c =
     rw (
@@ -24,4 +21,7 @@ returns-3 c =
     )
 
 pub is-known-spec : {M : Type 1} → statement M
-is-known-spec = tie.close (tie.spec returns returns-2 cast-result returns-3)
+is-known-spec =
+    tie.close
+    (tie.spec
+    returns returns-2 (λ c. search needs) returns-3)

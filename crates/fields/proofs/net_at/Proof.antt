@@ -4,15 +4,6 @@ use borrow.Author.Needs.{needs}
 use Rattle.fields.proofs.net_at.Statement.{statement}
 use Rattle.fields.proofs.net_at.Tie as tie
 
-word-at-requires : tie.Need-word-at-requires
-word-at-requires c κs = search needs
-
-is-known-requires : tie.Need-is-known-requires
-is-known-requires c κs = search needs
-
-add-t15 : tie.Need-add-t15
-add-t15 c = search needs
-
 returns : tie.Need-returns
 unfolding netAt
 returns c =
@@ -51,4 +42,5 @@ returns-4 c = rw (le-ltb _ _ (c .if1 .left))
 pub net-at-spec : {M : Type 1} → statement M
 net-at-spec =
     tie.close
-    (tie.spec word-at-requires is-known-requires add-t15 returns returns-2 returns-3 returns-4)
+    (tie.spec
+    (λ c κs. search needs) (λ c κs. search needs) (λ c. search needs) returns returns-2 returns-3 returns-4)

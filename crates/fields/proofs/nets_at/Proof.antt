@@ -17,12 +17,6 @@ abbrev μ-loop : tie.MeasureT-loop
 loop-holds : tie.Need-loop-holds Inv-loop μ-loop
 loop-holds c = refl
 
-net-at-requires : tie.Need-net-at-requires Inv-loop μ-loop
-net-at-requires c κs = search needs
-
-enum-known-f : tie.Need-enum-known-f Inv-loop μ-loop
-enum-known-f c = search needs
-
 returns : tie.Need-returns Inv-loop μ-loop
 returns c =
     let call = c .before .before .before in
@@ -30,9 +24,6 @@ returns c =
     sym
     (in-loop .before .loop .inv ∙
     many-fault _ _ _ (in-loop .loop-test .taken) (sym (call .net-at .ensures) ∙ c .before .f .given .1))
-
-enum-known-next : tie.Need-enum-known-next Inv-loop μ-loop
-enum-known-next c = search needs
 
 sub-left : tie.Need-sub-left Inv-loop μ-loop
 sub-left c = omega arith
@@ -54,14 +45,5 @@ pub nets-at-spec : {M : Type 1} → statement M
 nets-at-spec =
     tie.close
     (tie.spec
-    Inv-loop
-    μ-loop
-    loop-holds
-    net-at-requires
-    enum-known-f
-    returns
-    enum-known-next
-    sub-left
-    loop-less
-    loop-again
-    returns-2)
+    Inv-loop μ-loop loop-holds (λ c κs. search needs) (λ c. search needs) returns (λ c. search needs) sub-left
+    loop-less loop-again returns-2)

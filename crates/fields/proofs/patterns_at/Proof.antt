@@ -38,9 +38,6 @@ number-at-requires :
     tie.Need-number-at-requires Inv-loop2 μ-loop2 Inv-loop μ-loop Inv-patterns μ-patterns
 number-at-requires c κs = search needs
 
-enum-known-f : tie.Need-enum-known-f Inv-loop2 μ-loop2 Inv-loop μ-loop Inv-patterns μ-patterns
-enum-known-f c = search needs
-
 returns-2 : tie.Need-returns-2 Inv-loop2 μ-loop2 Inv-loop μ-loop Inv-patterns μ-patterns
 returns-2 c =
     let call = c .before .before .before in
@@ -67,9 +64,6 @@ bit-at-requires :
     tie.Need-bit-at-requires Inv-loop2 μ-loop2 Inv-loop μ-loop Inv-patterns μ-patterns
 bit-at-requires c κs = search needs
 
-enum-known-f-2 : tie.Need-enum-known-f-2 Inv-loop2 μ-loop2 Inv-loop μ-loop Inv-patterns μ-patterns
-enum-known-f-2 c = search needs
-
 returns-3 : tie.Need-returns-3 Inv-loop2 μ-loop2 Inv-loop μ-loop Inv-patterns μ-patterns
 returns-3 c =
     let call = c .before .before .before in
@@ -77,9 +71,6 @@ returns-3 c =
     sym
     (in-loop .before .loop2 .inv ∙
     word-fault _ _ _ _ _ _ _ (in-loop .loop2-test .taken) (sym (call .bit-at .ensures) ∙ c .before .f2 .given .1))
-
-enum-told : tie.Need-enum-told Inv-loop2 μ-loop2 Inv-loop μ-loop Inv-patterns μ-patterns
-enum-told c = search needs
 
 enum-known-next :
     tie.Need-enum-known-next Inv-loop2 μ-loop2 Inv-loop μ-loop Inv-patterns μ-patterns
@@ -128,32 +119,7 @@ pub patterns-at-spec : {M : Type 1} → statement M
 patterns-at-spec =
     tie.close
     (tie.spec
-    Inv-loop2
-    μ-loop2
-    Inv-loop
-    μ-loop
-    Inv-patterns
-    μ-patterns
-    patterns-holds
-    returns
-    number-at-requires
-    enum-known-f
-    returns-2
-    enum-known-alternates
-    loop-holds
-    loop2-holds
-    bit-at-requires
-    enum-known-f-2
-    returns-3
-    enum-told
-    enum-known-next
-    sub-word
-    loop2-less
-    loop2-again
-    sub-alternate
-    loop-less
-    loop-again
-    sub-pattern
-    patterns-less
-    patterns-again
-    returns-4)
+    Inv-loop2 μ-loop2 Inv-loop μ-loop Inv-patterns μ-patterns patterns-holds returns number-at-requires
+    (λ c. search needs) returns-2 enum-known-alternates loop-holds loop2-holds bit-at-requires (λ c. search needs)
+    returns-3 (λ c. search needs) enum-known-next sub-word loop2-less loop2-again sub-alternate loop-less loop-again
+    sub-pattern patterns-less patterns-again returns-4)

@@ -1,0 +1,18 @@
+use borrow.Author.Tests.{eq-eqb, ne-eqb}
+use Rattle.design_list.specs.Items.{finishAt}
+use Rattle.design_list.proofs.finish_at.Statement.{statement}
+use Rattle.design_list.proofs.finish_at.Tie as tie
+
+returns : tie.Need-returns
+unfolding finishAt
+returns c = rw (eq-eqb _ _ (c .if1 .taken))
+
+returns-2 : tie.Need-returns-2
+unfolding finishAt
+returns-2 c = rw (ne-eqb _ _ (c .if1 .left))
+
+pub finish-at-spec : {M : Type 1} → statement M
+finish-at-spec =
+    tie.close
+    (tie.spec
+    returns returns-2)

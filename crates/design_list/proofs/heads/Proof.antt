@@ -1,0 +1,44 @@
+use borrow.Author.Tests.{lt-ltb, le-ltb, eq-eqb, ne-eqb}
+use Rattle.design_list.specs.Marks.{headsIn}
+use borrow.Author.Needs.{needs}
+use Rattle.design_list.proofs.heads.Statement.{statement}
+use Rattle.design_list.proofs.heads.Tie as tie
+
+returns : tie.Need-returns
+unfolding headsIn
+returns c =
+    rw (
+      lt-ltb _ _ (c .before .before .before .if1 .taken),
+      ← c .before .before .word-at .ensures,
+      eq-eqb _ _ (c .before .if2 .taken),
+      eq-eqb _ _ (c .if3 .taken),
+    )
+
+returns-2 : tie.Need-returns-2
+unfolding headsIn
+returns-2 c =
+    rw (
+      lt-ltb _ _ (c .before .before .before .if1 .taken),
+      ← c .before .before .word-at .ensures,
+      eq-eqb _ _ (c .before .if2 .taken),
+      ne-eqb _ _ (c .if3 .left),
+    )
+
+returns-3 : tie.Need-returns-3
+unfolding headsIn
+returns-3 c =
+    rw (
+      lt-ltb _ _ (c .before .before .if1 .taken),
+      ← c .before .word-at .ensures,
+      ne-eqb _ _ (c .if2 .left),
+    )
+
+returns-4 : tie.Need-returns-4
+unfolding headsIn
+returns-4 c = rw (le-ltb _ _ (c .if1 .left))
+
+pub heads-spec : {M : Type 1} → statement M
+heads-spec =
+    tie.close
+    (tie.spec
+    (λ c κs. search needs) (λ c. search needs) returns (λ c. search needs) returns-2 returns-3 returns-4)

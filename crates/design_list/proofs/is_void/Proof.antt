@@ -1,0 +1,23 @@
+use borrow.Author.Tests.{lt-ltb, le-ltb}
+use Rattle.design_list.specs.Marks.{isVoidIn}
+use borrow.Author.Needs.{needs}
+use Rattle.design_list.proofs.is_void.Statement.{statement}
+use Rattle.design_list.proofs.is_void.Tie as tie
+
+returns : tie.Need-returns
+unfolding isVoidIn
+returns c =
+    rw (
+      lt-ltb _ _ (c .before .if1 .taken),
+      ← c .word-at .ensures,
+    )
+
+returns-2 : tie.Need-returns-2
+unfolding isVoidIn
+returns-2 c = rw (le-ltb _ _ (c .if1 .left))
+
+pub is-void-spec : {M : Type 1} → statement M
+is-void-spec =
+    tie.close
+    (tie.spec
+    (λ c κs. search needs) returns returns-2)

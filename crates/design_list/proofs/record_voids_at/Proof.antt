@@ -1,0 +1,26 @@
+use borrow.Author.Tests.{lt-ltb, le-ltb}
+use Rattle.design_list.specs.Voids.{recordVoidsAt}
+use borrow.Author.Needs.{needs}
+use Rattle.design_list.proofs.record_voids_at.Statement.{statement}
+use Rattle.design_list.proofs.record_voids_at.Tie as tie
+
+returns : tie.Need-returns
+unfolding recordVoidsAt
+returns c =
+    rw (
+      lt-ltb _ _ (c .before .before .before .if1 .taken),
+      ← c .before .before .word-at .ensures,
+      ← c .before .clock-at .ensures,
+      ← c .voids-in .ensures,
+    )
+
+returns-2 : tie.Need-returns-2
+unfolding recordVoidsAt
+returns-2 c = rw (le-ltb _ _ (c .if1 .left))
+
+pub record-voids-at-spec : {M : Type 1} → statement M
+record-voids-at-spec =
+    tie.close
+    (tie.spec
+    (λ c κs. search needs) (λ c. search needs) (λ c κs. search needs) (λ c. search needs) (λ c κs. search needs)
+    returns returns-2)

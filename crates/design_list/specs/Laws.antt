@@ -1,0 +1,273 @@
+-- Laws that the loops of the reader go by: filling a table, and one turn of each scan.
+use Prim.Native.Nat.{ℕ, zero, suc, _+_, _-_, _<_, _≤_, max}
+use mathlib.Core.Path.{_≡_, refl, sym, ap, _∙_}
+use mathlib.Core.Bool.{Bool, true, false, cond}
+use mathlib.Core.List.{List, [], _∷_, _++_, map}
+use native.Mathlib.Numerals.{add-one, sub-one}
+use native.Mathlib.Omega.{arith}
+use native.Mathlib.Nat.{add-zero, sub-zero}
+use lib.ListN.{length, set, replicate, length-replicate}
+use lib.Seq.{sets, length-sets}
+use lib.Dec.{ltb, leb, eqb}
+use borrow.Author.Tests.{lt-ltb, le-ltb, leb-true}
+use Rattle.logic.specs.declared.Fault.{Fault}
+use Rattle.cell.specs.Cell.{Cell, outputLen, slotsOf, standing}
+use Rattle.cell.specs.Design.{Placed}
+use Rattle.cell.specs.Operation.{standingOf}
+use Rattle.cell.specs.declared.Operation.{Operation}
+use Rattle.fields.specs.declared.Scan.{Scan}
+use Rattle.fields.specs.declared.Scan.the-variants as S
+use Rattle.fields.specs.declared.Number.{Number}
+use Rattle.fields.specs.declared.Number.the-variants as N
+use Rattle.fields.specs.Field.{fault, numberAt}
+use Rattle.fields.specs.Accepted.{number-read}
+use Rattle.cell_reader.specs.declared.Record.{Record}
+use Rattle.cell_reader.specs.declared.Record.the-variants as R
+use Rattle.cell_reader.specs.Record.{recordAt}
+use Rattle.cell_reader.specs.Parse.{opAt, cellAt}
+use Rattle.cell_reader.specs.Accepted.{IsRecord, record-read, standing-at}
+use Rattle.design_list.specs.declared.Header.{Header}
+use Rattle.design_list.specs.declared.Opening.{Opening}
+use Rattle.design_list.specs.declared.Opening.the-variants as O
+use Rattle.design_list.specs.declared.Placing.{Placing}
+use Rattle.design_list.specs.declared.Placing.the-variants as P
+use Rattle.design_list.specs.declared.Cells.the-variants as C
+use Rattle.design_list.specs.declared.Step.{Step}
+use Rattle.design_list.specs.declared.Step.the-variants as T
+use Rattle.design_list.specs.Slots.{covering, markOf, markWord, marks}
+use Rattle.design_list.specs.Items.{Reading, stop, push, onHeaderNumber, countsAt, headerAt, limitOf, onRecord, onPlaced, placedAt, cellsFrom, cellsOf, onStep, ascending}
+use Rattle.design_list.specs.Marks.{counted}
+use Rattle.design_list.specs.Voids.{offends, voidAt}
+
+pub fill-none : (t : List ℕ) (at end v : ℕ) → end ≤ at → sets t at (replicate (end - at) v) ≡ t
+fill-none t at end v past = let none : end - at ≡ 0 = omega arith in rw none
+
+pub fill-turn :
+    (t : List ℕ) (at end v : ℕ) → at < end → sets t at (replicate (end - at) v) ≡ sets (set t at v) (at + 1) (replicate (end - (at + 1)) v)
+fill-turn t at end v inside = let more : end - at ≡ suc (end - (at + 1)) = omega arith in rw (more, add-one at)
+
+sets-append : (t : List ℕ) (i : ℕ) (a b : List ℕ) → sets t i (a ++ b) ≡ sets (sets t i a) (i + length a) b
+sets-append t i [] b = rw add-zero
+sets-append t i (v ∷ a) b = let shift : i + suc (length a) ≡ suc i + length a = omega arith in sets-append (set t i v) (suc i) a b ∙ rw shift
+
+map-append : {A B : Type 0} (f : A → B) (a b : List A) → map f (a ++ b) ≡ map f a ++ map f b
+map-append f [] b = refl
+map-append f (x ∷ a) b = ap (λ l. f x ∷ l) (map-append f a b)
+
+map-replicate : {A B : Type 0} (f : A → B) (n : ℕ) (x : A) → map f (replicate n x) ≡ replicate n (f x)
+map-replicate f zero x = refl
+map-replicate f (suc n) x = ap (λ l. f x ∷ l) (map-replicate f n x)
+
+-- The words of the slots of one cell and then of the others.
+pub marks-cons : (base : ℕ) (c : Placed) (cs : List Placed) → marks base (c ∷ cs) ≡ replicate (slotsOf (c .cell)) (markOf base c) ++ marks base cs
+unfolding covering
+marks-cons base c cs =
+    map-append (markOf base) (replicate (slotsOf (c .cell)) c) (covering cs) ∙
+    ap (λ (l : List ℕ). l ++ marks base cs) (map-replicate (markOf base) (slotsOf (c .cell)) c)
+
+-- A cell that was placed: its record was read, and its slots end within the limit.
+pub record IsPlaced (w : List ℕ) (base total slot at : ℕ) (op : Operation) (width after next : ℕ) : Type 0 where
+  pub record-is : IsRecord w total at op width next
+  pub ends : after ≡ slot + max 1 width
+  pub within : after ≤ limitOf base total slot
+
+pub placed-read :
+    (w : List ℕ) (base total slot at : ℕ) {op : Operation} {width after next : ℕ} → placedAt w base total slot at ≡ P.Placed op width after next →
+    IsPlaced w base total slot at op width after next
+unfolding placedAt
+placed-read w base total slot at {op} {width} {after} {next} read = go (recordAt w total at) refl read
+  where
+    fits :
+        (o : Operation) (width₁ next₁ : ℕ) → IsRecord w total at o width₁ next₁ →
+        (b : Bool) → leb (slot + max 1 width₁) (limitOf base total slot) ≡ b →
+        cond b (P.Placed o width₁ (slot + max 1 width₁) next₁) (P.Refused (fault 11 at)) ≡ P.Placed op width after next →
+        IsPlaced w base total slot at op width after next
+    fits o width₁ next₁ is false b e = let z : _≡_ {A = ℕ} 0 1 = cc in absurd (omega arith)
+    fits o width₁ next₁ is true b e =
+        let same-op : o ≡ op = cc in
+        let same-width : width₁ ≡ width = cc in
+        let same-next : next₁ ≡ next = cc in
+        let same-after : after ≡ slot + max 1 width₁ = cc in
+        let low : slot + max 1 width₁ ≤ limitOf base total slot = leb-true _ _ b in
+        record {
+          record-is = rw same-op at (rw same-width at (rw same-next at is));
+          ends = rw same-width at same-after;
+          within = rw (sym same-after) at low;
+        }
+
+    go :
+        (r : Record) → recordAt w total at ≡ r →
+        onRecord r (λ (o : Operation) (width₁ next₁ : ℕ).
+        cond (leb (slot + max 1 width₁) (limitOf base total slot)) (P.Placed o width₁ (slot + max 1 width₁) next₁) (P.Refused (fault 11 at)))
+        ≡ P.Placed op width after next → IsPlaced w base total slot at op width after next
+    go (R.Refused f) r e = let z : _≡_ {A = ℕ} 0 1 = cc in absurd (omega arith)
+    go (R.Read o width₁ next₁) r e =
+        fits o width₁ next₁ (record-read w total at r) (leb (slot + max 1 width₁) (limitOf base total slot)) refl e
+
+module _ (w : List ℕ) (base total : ℕ) where
+  cells-done : (turns slot at : ℕ) → total ≤ slot → cellsFrom w base total turns slot at ≡ stop (S.Clean at)
+  unfolding cellsFrom
+  cells-done zero slot at past = refl
+  cells-done (suc turns) slot at past = rw (le-ltb slot total past)
+
+  cells-fault :
+      (turns slot at : ℕ) {e : Fault} → 0 < turns → slot < total → placedAt w base total slot at ≡ P.Refused e →
+      cellsFrom w base total turns slot at ≡ stop (S.Refused e)
+  unfolding cellsFrom
+  cells-fault zero slot at some inside refused = absurd (omega arith)
+  cells-fault (suc turns) slot at some inside refused = rw (lt-ltb slot total inside, refused)
+
+  pub cells-turn :
+      (turns slot at : ℕ) {op : Operation} {width after next : ℕ} → 0 < turns → slot < total →
+      placedAt w base total slot at ≡ P.Placed op width after next →
+      cellsFrom w base total turns slot at ≡ push (record { slot = slot; cell = cellAt w at }) (cellsFrom w base total (turns - 1) after next)
+  unfolding cellsFrom
+  cells-turn zero slot at some inside placed = absurd (omega arith)
+  cells-turn (suc turns) slot at some inside placed = rw (lt-ltb slot total inside, placed, sub-one)
+
+  -- The loop over the cells after `count` of them, with `slot` slots taken and the place `at` reached: reading on from here, and storing the words of
+  -- the slots from here, gives what reading and storing from the start does.
+  pub record Going (t₀ t : List ℕ) (at slot count : ℕ) : Type 0 where
+    pub low : slot ≤ total
+    pub few : count ≤ slot
+    pub scan : cellsOf w base total .scan ≡ cellsFrom w base total (total - count) slot at .scan
+    pub many : length (cellsOf w base total .items) ≡ count + length (cellsFrom w base total (total - count) slot at .items)
+    pub table : sets t₀ 0 (marks base (cellsOf w base total .items)) ≡ sets t slot (marks base (cellsFrom w base total (total - count) slot at .items))
+    pub same : length t ≡ length t₀
+
+  pub going-start : (t : List ℕ) → Going t t 4 0 0
+  unfolding cellsOf
+  going-start t = record {
+    low = omega arith;
+    few = omega arith;
+    scan = rw sub-zero;
+    many = rw sub-zero (omega arith);
+    table = rw sub-zero;
+    same = refl;
+  }
+
+  pub going-done :
+      {t₀ t : List ℕ} {at slot count : ℕ} → Going t₀ t at slot count → total ≤ slot →
+      (C.Read count at ≡ counted (cellsOf w base total)) × (t ≡ sets t₀ 0 (marks base (cellsOf w base total .items)))
+  unfolding covering
+  going-done {t₀} {t} {at} {slot} {count} going past =
+      let done : cellsFrom w base total (total - count) slot at ≡ stop (S.Clean at) = cells-done (total - count) slot at past in
+      let scan : cellsOf w base total .scan ≡ S.Clean at = rw done at (going .scan) in
+      let many : length (cellsOf w base total .items) ≡ count + 0 = rw done at (going .many) in
+      (rw (scan, many, add-zero), sym (rw done at (going .table)))
+
+  pub going-fault :
+      {t₀ t : List ℕ} {at slot count : ℕ} {e : Fault} → Going t₀ t at slot count → slot < total → placedAt w base total slot at ≡ P.Refused e →
+      (C.Refused e ≡ counted (cellsOf w base total)) × (t ≡ sets t₀ 0 (marks base (cellsOf w base total .items)))
+  unfolding covering
+  going-fault {t₀} {t} {at} {slot} {count} {e} going inside refused =
+      let few : count ≤ slot = going .few in
+      let done : cellsFrom w base total (total - count) slot at ≡ stop (S.Refused e) = cells-fault (total - count) slot at (omega arith) inside refused in
+      let scan : cellsOf w base total .scan ≡ S.Refused e = rw done at (going .scan) in
+      (rw scan, sym (rw done at (going .table)))
+
+  pub limit-low : (slot : ℕ) {after : ℕ} → base ≤ total → after ≤ limitOf base total slot → after ≤ total
+  limit-low slot {after} order = go (ltb slot base)
+    where
+      go : (b : Bool) → after ≤ cond b base total → after ≤ total
+      go true low = omega arith
+      go false low = low
+
+  pub going-turn :
+      {t₀ t : List ℕ} {at slot count : ℕ} {op : Operation} {width after next : ℕ} → Going t₀ t at slot count → slot < total → base ≤ total →
+      placedAt w base total slot at ≡ P.Placed op width after next →
+      Going t₀ (sets t slot (replicate (after - slot) (markWord base (standingOf op) width slot))) next after (count + 1)
+  going-turn {t₀} {t} {at} {slot} {count} {op} {width} {after} {next} going inside order placed =
+      let is = placed-read w base total slot at placed in
+      let few : count ≤ slot = going .few in
+      let ends : after ≡ slot + max 1 width = is .ends in
+      let last : after ≤ total = limit-low slot order (is .within) in
+      let fewer : total - count - 1 ≡ total - (count + 1) = omega arith in
+      let turn : cellsFrom w base total (total - count) slot at ≡ push here rest = cells-turn (total - count) slot at (omega arith) inside placed ∙ rw fewer in
+      let many : length (cellsOf w base total .items) ≡ count + suc (length (rest .items)) = rw turn at (going .many) in
+      record {
+        low = last;
+        few = omega arith;
+        scan = rw turn at (going .scan);
+        many = omega arith;
+        table = rw turn at (going .table) ∙ painted is (rest .items);
+        same = simp length-sets (going .same);
+      }
+    where
+      here : Placed
+      here = record { slot = slot; cell = cellAt w at }
+
+      rest : Reading Placed
+      rest = cellsFrom w base total (total - (count + 1)) after next
+
+      painted :
+          IsPlaced w base total slot at op width after next → (cs : List Placed) →
+          sets t slot (marks base (here ∷ cs)) ≡
+          sets (sets t slot (replicate (after - slot) (markWord base (standingOf op) width slot))) after (marks base cs)
+      painted is cs =
+          let same-op : op ≡ opAt w at = is .record-is .same-op in
+          let same-width : width ≡ outputLen (cellAt w at) = is .record-is .same-width in
+          let ends : after ≡ slot + max 1 width = is .ends in
+          let size : after - slot ≡ max 1 width = omega arith in
+          let word : markOf base here ≡ markWord base (standingOf op) width slot = rw (standing-at w at, same-op, same-width) in
+          let count-is : slotsOf (cellAt w at) ≡ after - slot = rw (← same-width, size) in
+          let length-is : slot + length (replicate (after - slot) (markWord base (standingOf op) width slot)) ≡ after = rw (length-replicate) (omega arith) in
+          ap (sets t slot) (marks-cons base here cs) ∙ rw (word, count-is)
+          (sets-append t slot (replicate (after - slot) (markWord base (standingOf op) width slot)) (marks base cs) ∙ rw length-is)
+
+-- A run of replacements at its end, at a turn and at a fault.
+module _ {A : Type 0} (step : ℕ → ℕ → Step) (item : ℕ → A) where
+  pub ascending-none : (k least at : ℕ) → k ≤ 0 → ascending step item k least at .scan ≡ S.Clean at
+  unfolding ascending
+  ascending-none zero least at none = refl
+  ascending-none (suc k) least at none = absurd (omega arith)
+
+  pub ascending-turn :
+      (k least at : ℕ) {above next : ℕ} → 0 < k → step least at ≡ T.Read above next →
+      ascending step item k least at .scan ≡ ascending step item (k - 1) above next .scan
+  unfolding ascending
+  ascending-turn zero least at some read = absurd (omega arith)
+  ascending-turn (suc k) least at some read = rw (read, sub-one)
+
+  pub ascending-fault :
+      (k least at : ℕ) {e : Fault} → 0 < k → step least at ≡ T.Refused e → ascending step item k least at .scan ≡ S.Refused e
+  unfolding ascending
+  ascending-fault zero least at some refused = absurd (omega arith)
+  ascending-fault (suc k) least at some refused = rw refused
+
+-- A word of the second pass.
+module _ (w : List ℕ) (void : ℕ → Bool) (clock at : ℕ) where
+  pub void-clean : offends w void clock at ≡ false → voidAt w void clock at ≡ S.Clean (at + 1)
+  unfolding voidAt
+  void-clean right = rw right
+
+  pub void-fault : offends w void clock at ≡ true → voidAt w void clock at ≡ S.Refused (fault 10 at)
+  unfolding voidAt
+  void-fault wrong = rw wrong
+
+-- A header that was read has at most 4,096 slots.
+pub header-read : (w : List ℕ) {h : Header} → headerAt w ≡ O.Read h → h .base + h .added ≤ 4096
+unfolding headerAt countsAt
+header-read w {h} read = base-read (numberAt w 4096 4 0) refl read
+  where
+    counts : (base added : ℕ) → added ≤ 4096 - base → base ≤ 4096 → (c₁ c₂ : Number) →
+        onHeaderNumber c₁ (λ (cellreps : ℕ). onHeaderNumber c₂ (λ (netreps : ℕ).
+        O.Read record { base = base; added = added; cellreps = cellreps; netreps = netreps })) ≡ O.Read h → h .base + h .added ≤ 4096
+    counts base added low top (N.Refused f) c₂ e = let z : _≡_ {A = ℕ} 0 1 = cc in absurd (omega arith)
+    counts base added low top (N.Value a b) (N.Refused f) e = let z : _≡_ {A = ℕ} 0 1 = cc in absurd (omega arith)
+    counts base added low top (N.Value a b) (N.Value c d) e =
+        let same : record { base = base; added = added; cellreps = a; netreps = c } ≡ h = cc in
+        rw (← same) (omega arith)
+
+    added-read : (base : ℕ) → base ≤ 4096 → (n : Number) → numberAt w (4096 - base) 4 1 ≡ n →
+        onHeaderNumber n (λ (added : ℕ). countsAt w base added) ≡ O.Read h → h .base + h .added ≤ 4096
+    added-read base top (N.Refused f) n e = let z : _≡_ {A = ℕ} 0 1 = cc in absurd (omega arith)
+    added-read base top (N.Value added next) n e =
+        counts base added (number-read w (4096 - base) 4 1 n .bounded) top (numberAt w 4096 4 2) (numberAt w 4096 4 3) e
+
+    base-read : (n : Number) → numberAt w 4096 4 0 ≡ n →
+        onHeaderNumber n (λ (base : ℕ). onHeaderNumber (numberAt w (4096 - base) 4 1) (λ (added : ℕ). countsAt w base added)) ≡ O.Read h →
+        h .base + h .added ≤ 4096
+    base-read (N.Refused f) n e = let z : _≡_ {A = ℕ} 0 1 = cc in absurd (omega arith)
+    base-read (N.Value base next) n e =
+        added-read base (number-read w 4096 4 0 n .bounded) (numberAt w (4096 - base) 4 1) refl e

@@ -1,0 +1,44 @@
+-- Document 01, "Words": a cell takes max(1, output width) slots, one cell after another. What stands at each slot, and the words that say so.
+use Prim.Native.Nat.{ℕ, _+_, _*_}
+use mathlib.Core.List.{List, [], _∷_, _++_, map}
+use mathlib.Core.Bool.{Bool, true, false, cond}
+use lib.ListN.{getD, replicate}
+use lib.Dec.{ltb, leb, eqb}
+use Rattle.cell.specs.Cell.{Cell, note, outputLen, slotsOf, standing}
+use Rattle.cell.specs.Design.{Placed}
+
+-- For each slot in order the cell that takes it, with that cell's first slot.
+unfoldable pub covering : List Placed → List Placed
+covering [] = []
+covering (c ∷ cs) = replicate (slotsOf (c .cell)) c ++ covering cs
+
+abbrev pub nowhere : Placed
+nowhere = record { slot = 0; cell = note }
+
+-- The cell that takes a slot.
+abbrev pub takes : List Placed → ℕ → Placed
+takes cells slot = getD (covering cells) slot nowhere
+
+-- Whether a slot heads a cell of the base that is no Void and has this output width.
+unfoldable pub heads : List Placed → ℕ → ℕ → ℕ → Bool
+heads cells base slot width =
+    cond (ltb slot base)
+    (cond (eqb (takes cells slot .slot) slot)
+    (cond (eqb (standing (takes cells slot .cell)) 0) false (eqb (outputLen (takes cells slot .cell)) width))
+    false)
+    false
+
+-- Whether a slot is that of a Void of the base.
+unfoldable pub isVoid : List Placed → ℕ → ℕ → Bool
+isVoid cells base slot = cond (ltb slot base) (eqb (standing (takes cells slot .cell)) 0) false
+
+-- The word for a slot: what stands there (0 a Void, 1 a Dff, 2 another cell) + 4 × (0 base, 1 added) + 8 × output width + 1,024 × first slot.
+abbrev pub markWord : ℕ → ℕ → ℕ → ℕ → ℕ
+markWord base stands width first = stands + 4 * cond (ltb first base) 0 1 + 8 * width + 1024 * first
+
+abbrev pub markOf : ℕ → Placed → ℕ
+markOf base c = markWord base (standing (c .cell)) (outputLen (c .cell)) (c .slot)
+
+-- The words of all slots.
+abbrev pub marks : ℕ → List Placed → List ℕ
+marks base cells = map (markOf base) (covering cells)
