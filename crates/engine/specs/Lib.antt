@@ -10,3 +10,4 @@ pub mod Steps
 pub mod Written
 pub mod Accepted
 pub mod ReadBack
+pub mod Emit
