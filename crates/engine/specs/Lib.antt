@@ -11,3 +11,5 @@ pub mod Written
 pub mod Accepted
 pub mod ReadBack
 pub mod Emit
+pub mod Structure
+pub mod StructureLaws

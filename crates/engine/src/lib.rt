@@ -37,6 +37,13 @@ pub enum Argument {
     Nothing,
 }
 
+// What a record says of the sort of its term: a width (0 for a Bool), the sort of another term, or the widths of two together.
+pub enum Origin {
+    Given(u32),
+    Same(Term),
+    Joined(Term, Term),
+}
+
 // The operations of two vectors that make a vector, and those that compare.
 pub enum BinaryOp {
     And,
