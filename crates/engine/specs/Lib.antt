@@ -13,3 +13,4 @@ pub mod ReadBack
 pub mod Emit
 pub mod Structure
 pub mod StructureLaws
+pub mod Reached

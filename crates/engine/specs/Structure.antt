@@ -76,15 +76,21 @@ placeOfTerm w k = termPlace (length w) w 0 k
 abbrev pub capped : ℕ → Sort
 capped s = min s noSort
 
--- The sort of term k by the records, through at most n terms.
+-- The sort that an origin says, of the sorts of terms.
 abbrev pub sortFrom : (ℕ → Sort) → Origin → Sort
 sortFrom sort (Given s) = capped s
 sortFrom sort (Same a) = sort (a .0)
 sortFrom sort (Joined a b) = capped (sort (a .0) + sort (b .0))
 
-unfoldable pub sortThrough : ℕ → List ℕ → ℕ → Sort
-sortThrough zero w k = noSort
-sortThrough (suc n) w k = sortFrom (sortThrough n w) (originOf (callAt w (placeOfTerm w k)))
+-- The sort of term k: from a table of the first terms, beyond it by the records of term k and of earlier ones, at most n.
+unfoldable pub sortThrough : ℕ → List ℕ → List ℕ → ℕ → Sort
+sortThrough zero table w k = noSort
+sortThrough (suc n) table w k =
+    cond (ltb k (length table)) (capped (getD table k 0))
+    (sortFrom (λ a. cond (ltb a k) (sortThrough n table w a) noSort) (originOf (callAt w (placeOfTerm w k))))
+
+abbrev pub sortOfTerm : List ℕ → List ℕ → ℕ → Sort
+sortOfTerm table w k = sortThrough (suc k) table w k
 
 -- ---- names
 
