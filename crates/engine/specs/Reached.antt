@@ -27,15 +27,8 @@ use Rattle.engine.specs.WellFormed.{isNumber, isNumberOf, headStands, wr
 use Rattle.engine.specs.Tests.{both, left-of, right-of, refuted}
 use Rattle.engine.specs.Written.{letter-low, suffix-low}
 use Rattle.engine.specs.ReadBack.{Reads, reads-at, stands}
-use Rattle.engine.specs.Structure.{originOf, sortFrom, capped, termPlace, placeOfTerm, sortThrough, declaresAt, declaredFrom}
-use Rattle.engine.specs.StructureLaws.{
-  place-here,
-  place-next,
-  place-skip,
-  declared-end,
-  declared-here,
-  declared-next,
-}
+use Rattle.engine.specs.Structure.{originOf, guarded, sortFrom, capped, termPlace, placeOfTerm, sortThrough, declaresAt, declaredFrom}
+use Rattle.engine.specs.StructureLaws.{Below, sortFrom-ext, place-here, place-next, place-skip, declared-end, declared-here, declared-next}
 use Rattle.engine.specs.declared.Origin.{Origin}
 use Rattle.engine.specs.declared.Origin.the-variants.{Given, Same, Joined}
 
@@ -68,17 +61,10 @@ passes-forward (suc n) w at x end y p = let h = passes-forward n w (nextAt w at)
 
 -- ---- sorts
 
--- The terms that a sort goes by are earlier than k.
-abbrev pub Below : ℕ → Origin → Type 0
-Below k (Given s) = Unit {0}
-Below k (Same a) = a .0 < k
-Below k (Joined a b) = (a .0 < k) × (b .0 < k)
-
-sortFrom-ext : (k : ℕ) (f g : ℕ → Sort) (d : Origin) → Below k d → ((a : ℕ) → a < k → f a ≡ g a)
-    → sortFrom f d ≡ sortFrom g d
-sortFrom-ext k f g (Given s) h e = refl
-sortFrom-ext k f g (Same a) h e = e (a .0) h
-sortFrom-ext k f g (Joined a b) h e = rw (e (a .0) (h .0), e (b .0) (h .1))
+guarded-below : (k : ℕ) (d : Origin) → Below k d → guarded k d ≡ d
+guarded-below k (Given s) h = refl
+guarded-below k (Same a) h = rw (lt-ltb (a .0) k h)
+guarded-below k (Joined a b) h = rw (lt-ltb (a .0) k (h .0), lt-ltb (b .0) k (h .1))
 
 capped-is : (s : ℕ) → s ≤ 64 → capped s ≡ s
 capped-is s h = omega arith
@@ -284,12 +270,11 @@ sort-said n table w end y p h tabled (suc f) k l inside =
     go rest false t =
         let ahead = passes-forward n w 0 start end y p in
         let at-k : termPlace (length w) w 0 (k - 0) ≡ termPlace (length w) w 0 k =
-        ap (termPlace (length w) w 0) (let e : k - 0 ≡ k = omega arith in e) in
+              ap (termPlace (length w) w 0) (let e : k - 0 ≡ k = omega arith in e) in
         let said-k = subst (Says w y k) at-k (finds n (length w) w 0 start end y p (omega arith) k (omega arith) inside) in
-        rw t
-        (sortFrom-ext k (λ a. cond (ltb a k) (sortThrough f table w a) 65) (sortAt (y .sorts))
-        (originOf (callAt w (placeOfTerm w k))) (said-k .earlier)
-        (λ a b. rw (lt-ltb a k b) (rest a (omega arith) (omega arith)))
+        rw (t, guarded-below k (originOf (callAt w (placeOfTerm w k))) (said-k .earlier))
+        (sortFrom-ext k (sortThrough f table w) (sortAt (y .sorts)) (originOf (callAt w (placeOfTerm w k))) (said-k .earlier)
+        (λ a b. rest a (omega arith) (omega arith))
         ∙ sym (said-k .sort-is))
 
 -- ---- names

@@ -82,12 +82,25 @@ sortFrom sort (Given s) = capped s
 sortFrom sort (Same a) = sort (a .0)
 sortFrom sort (Joined a b) = capped (sort (a .0) + sort (b .0))
 
--- The sort of term k: from a table of the first terms, beyond it by the records of term k and of earlier ones, at most n.
+-- An origin that goes by terms earlier than k only; any other says no sort.
+abbrev pub choose : Bool → Origin → Origin → Origin
+choose true a b = a
+choose false a b = b
+
+abbrev pub guarded : ℕ → Origin → Origin
+guarded k (Given s) = Given s
+guarded k (Same a) = choose (ltb (a .0) k) (Same a) (Given noSort)
+guarded k (Joined a b) = choose (ltb (a .0) k) (choose (ltb (b .0) k) (Joined a b) (Given noSort)) (Given noSort)
+
+-- What is known of the sort of term k: from a table of the first terms its sort, beyond it what its record says.
+abbrev pub originBy : List ℕ → List ℕ → ℕ → Origin
+originBy table w k =
+    choose (ltb k (length table)) (Given (getD table k 0)) (guarded k (originOf (callAt w (placeOfTerm w k))))
+
+-- The sort of term k through at most n terms.
 unfoldable pub sortThrough : ℕ → List ℕ → List ℕ → ℕ → Sort
 sortThrough zero table w k = noSort
-sortThrough (suc n) table w k =
-    cond (ltb k (length table)) (capped (getD table k 0))
-    (sortFrom (λ a. cond (ltb a k) (sortThrough n table w a) noSort) (originOf (callAt w (placeOfTerm w k))))
+sortThrough (suc n) table w k = sortFrom (sortThrough n table w) (originBy table w k)
 
 abbrev pub sortOfTerm : List ℕ → List ℕ → ℕ → Sort
 sortOfTerm table w k = sortThrough (suc k) table w k
