@@ -10,3 +10,7 @@ pub mod Steps
 pub mod Written
 pub mod Accepted
 pub mod ReadBack
+pub mod Emit
+pub mod Structure
+pub mod StructureLaws
+pub mod Reached

@@ -1,0 +1,133 @@
+-- `call_list::place_of_term` meets its contract: from each record on, the scan finds the place that it finds from the first.
+-- The measure is how many words are left. Assumes nothing.
+use Prim.Native.Nat.{ℕ, _+_, _-_, _≤_}
+use mathlib.Core.Path.{_≡_, refl, sym, ap, _∙_}
+use borrow.Author.Needs.{needs}
+use native.Mathlib.Omega.{arith}
+use native.Mathlib.Nat.{le-refl}
+use lib.ListN.{length}
+use Rattle.engine.specs.Encode.{makesTerm}
+use Rattle.engine.specs.Structure.{termPlace}
+use Rattle.engine.specs.StructureLaws.{place-end, place-here, place-next, place-skip}
+use Rattle.call_list.proofs.place_of_term.Statement.{statement}
+use Rattle.call_list.proofs.place_of_term.Tie as tie
+
+abbrev Inv-loop : tie.InvT-loop
+Inv-loop calls at₀ left₀ at left =
+    (n : ℕ) × (length calls - at ≤ n) × (termPlace (length calls) calls 0 left₀ ≡ termPlace n calls at left)
+
+abbrev μ-loop : tie.MeasureT-loop
+μ-loop calls at₀ left₀ at left = length calls - at
+
+loop-holds : tie.Need-loop-holds Inv-loop μ-loop
+loop-holds c = (length (c .before .args .calls .now), omega arith, refl)
+
+operation-at-requires : tie.Need-operation-at-requires Inv-loop μ-loop
+operation-at-requires c κs = search needs
+
+makes-term-requires : tie.Need-makes-term-requires Inv-loop μ-loop
+makes-term-requires c κs = search needs
+
+returns : tie.Need-returns Inv-loop μ-loop
+returns c =
+    let made = c .before .before in
+    let turn = made .before .before in
+    let state = turn .before .loop in
+    let w = turn .before .before .before .args .calls .now in
+    let inv = state .inv in
+    let makes = sym (made .makes-term .ensures ∙ ap makesTerm (made .before .operation-at .ensures)) ∙ c .before .if1 .taken in
+    sym (inv .2 ∙ place-here w (state .at) (state .left) (turn .loop-test .taken) (inv .0) (omega arith) makes (c .if2 .taken))
+
+sub-left : tie.Need-sub-left Inv-loop μ-loop
+sub-left c = search needs
+
+add-at : tie.Need-add-at Inv-loop μ-loop
+add-at c = search needs
+
+count-at-requires : tie.Need-count-at-requires Inv-loop μ-loop
+count-at-requires c κs = search needs
+
+cast-at : tie.Need-cast-at Inv-loop μ-loop
+cast-at c = search needs
+
+add-at-2 : tie.Need-add-at-2 Inv-loop μ-loop
+add-at-2 c = search needs
+
+loop-less : tie.Need-loop-less Inv-loop μ-loop
+loop-less c = omega arith
+
+loop-again : tie.Need-loop-again Inv-loop μ-loop
+loop-again c =
+    let made = c .before .before .before in
+    let turn = made .before .before in
+    let state = turn .before .loop in
+    let w = turn .before .before .before .args .calls .now in
+    let inv = state .inv in
+    let makes = sym (made .makes-term .ensures ∙ ap makesTerm (made .before .operation-at .ensures)) ∙ c .before .before .if1 .taken in
+    let next = ap (λ (n : ℕ). state .at + 1 + n) (c .count-at .ensures) in (
+      inv .0 - 1,
+      omega arith,
+      inv .2 ∙ place-next w (state .at) (state .left) (turn .loop-test .taken) (inv .0) (omega arith) makes (c .before .if2 .left)
+          ∙ ap (λ (k : ℕ). termPlace (inv .0 - 1) w k (state .left - 1)) (sym next),
+    )
+
+add-at-3 : tie.Need-add-at-3 Inv-loop μ-loop
+add-at-3 c = search needs
+
+count-at-requires-2 : tie.Need-count-at-requires-2 Inv-loop μ-loop
+count-at-requires-2 c κs = search needs
+
+cast-at-2 : tie.Need-cast-at-2 Inv-loop μ-loop
+cast-at-2 c = search needs
+
+add-at-4 : tie.Need-add-at-4 Inv-loop μ-loop
+add-at-4 c = search needs
+
+loop-less-2 : tie.Need-loop-less-2 Inv-loop μ-loop
+loop-less-2 c = omega arith
+
+loop-again-2 : tie.Need-loop-again-2 Inv-loop μ-loop
+loop-again-2 c =
+    let made = c .before .before in
+    let turn = made .before .before in
+    let state = turn .before .loop in
+    let w = turn .before .before .before .args .calls .now in
+    let inv = state .inv in
+    let makes = sym (made .makes-term .ensures ∙ ap makesTerm (made .before .operation-at .ensures)) ∙ c .before .if1 .left in
+    let next = ap (λ (n : ℕ). state .at + 1 + n) (c .count-at2 .ensures) in (
+      inv .0 - 1,
+      omega arith,
+      inv .2 ∙ place-skip w (state .at) (state .left) (turn .loop-test .taken) (inv .0) (omega arith) makes
+          ∙ ap (λ (k : ℕ). termPlace (inv .0 - 1) w k (state .left)) (sym next),
+    )
+
+returns-2 : tie.Need-returns-2 Inv-loop μ-loop
+returns-2 c =
+    let state = c .before .loop in
+    let inv = state .inv in
+    sym (inv .2 ∙ place-end (inv .0) (c .before .before .before .args .calls .now) (state .at) (state .left) (c .loop-test .left))
+
+pub place-of-term-spec : {M : Type 1} → statement M
+place-of-term-spec =
+    tie.close
+    (tie.spec
+    Inv-loop
+    μ-loop
+    loop-holds
+    operation-at-requires
+    makes-term-requires
+    returns
+    sub-left
+    add-at
+    count-at-requires
+    cast-at
+    add-at-2
+    loop-less
+    loop-again
+    add-at-3
+    count-at-requires-2
+    cast-at-2
+    add-at-4
+    loop-less-2
+    loop-again-2
+    returns-2)

@@ -1,0 +1,79 @@
+-- `engine::declare_bitvec_const` meets its contract: the head, the letter and index, the suffix and width follow one another. Assumes nothing.
+use borrow.Author.Needs.{needs}
+use native.Mathlib.Omega.{arith}
+use Rattle.engine.specs.Emit.{wrote-then}
+use Rattle.engine.proofs.declare_bitvec_const.Statement.{statement}
+use Rattle.engine.proofs.declare_bitvec_const.Tie as tie
+
+head-word-requires : tie.Need-head-word-requires
+head-word-requires c κs = search needs
+
+push-requires : tie.Need-push-requires
+push-requires c κs = search needs
+
+letter-number-requires : tie.Need-letter-number-requires
+letter-number-requires c κs = search needs
+
+number-word-requires : tie.Need-number-word-requires
+number-word-requires c κs = search needs
+
+number-word-requires-2 : tie.Need-number-word-requires-2
+number-word-requires-2 c κs = search needs
+
+push2-requires : tie.Need-push2-requires
+push2-requires c κs = search needs
+
+suffix-number-requires : tie.Need-suffix-number-requires
+suffix-number-requires c κs = search needs
+
+number-word-requires-3 : tie.Need-number-word-requires-3
+number-word-requires-3 c κs = search needs
+
+number-word-requires-4 : tie.Need-number-word-requires-4
+number-word-requires-4 c κs = search needs
+
+push2-requires-2 : tie.Need-push2-requires-2
+push2-requires-2 c κs = search needs
+
+same-length : tie.Need-same-length
+same-length c = search needs
+
+returns : tie.Need-returns
+returns c =
+    let tail = c .before .before in
+    let tail-words = tail .before in
+    let name = tail-words .before .before .before .before .before .before in
+    let name-words = name .before in
+    let head = name-words .before .before .before .before .before .before in
+    let short = head .before .before .before .before .good .0 .0 in
+    let head-wrote = rw (head .before .head-word .ensures) at (head .push .ensures) in
+    let name-wrote =
+    rw (
+      name-words .before .number-word .ensures,
+      name-words .before .before .letter-number .ensures,
+      name-words .number-word2 .ensures,
+    ) at (name .push2 .ensures) in
+    let tail-wrote =
+    rw (
+      tail-words .before .number-word3 .ensures,
+      tail-words .before .before .suffix-number .ensures,
+      tail-words .number-word4 .ensures,
+    ) at (tail .push22 .ensures) in
+    wrote-then (wrote-then head-wrote name-wrote short) tail-wrote short
+
+pub declare-bitvec-const-spec : {M : Type 1} → statement M
+declare-bitvec-const-spec =
+    tie.close
+    (tie.spec
+    head-word-requires
+    push-requires
+    letter-number-requires
+    number-word-requires
+    number-word-requires-2
+    push2-requires
+    suffix-number-requires
+    number-word-requires-3
+    number-word-requires-4
+    push2-requires-2
+    same-length
+    returns)

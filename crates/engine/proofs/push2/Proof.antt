@@ -1,0 +1,24 @@
+-- `engine::push2` meets its contract: the second word is written where the first leaves off. Assumes nothing.
+use borrow.Author.Needs.{needs}
+use native.Mathlib.Omega.{arith}
+use Rattle.engine.specs.Emit.{wrote-then}
+use Rattle.engine.proofs.push2.Statement.{statement}
+use Rattle.engine.proofs.push2.Tie as tie
+
+push-requires : tie.Need-push-requires
+push-requires c κs = search needs
+
+push-requires-2 : tie.Need-push-requires-2
+push-requires-2 c κs = search needs
+
+same-length : tie.Need-same-length
+same-length c = search needs
+
+returns : tie.Need-returns
+returns c =
+    let second = c .before .before in
+    let first = second .before .before .before .before in
+    wrote-then (first .push .ensures) (second .push2 .ensures) (omega arith)
+
+pub push2-spec : {M : Type 1} → statement M
+push2-spec = tie.close (tie.spec push-requires push-requires-2 same-length returns)

@@ -1,0 +1,28 @@
+-- `engine::record2` meets its contract: the arguments are written where the head leaves off. Assumes nothing.
+use borrow.Author.Needs.{needs}
+use native.Mathlib.Omega.{arith}
+use Rattle.engine.specs.Emit.{wrote-then}
+use Rattle.engine.proofs.record2.Statement.{statement}
+use Rattle.engine.proofs.record2.Tie as tie
+
+head-word-requires : tie.Need-head-word-requires
+head-word-requires c κs = search needs
+
+push-requires : tie.Need-push-requires
+push-requires c κs = search needs
+
+push2-requires : tie.Need-push2-requires
+push2-requires c κs = search needs
+
+same-length : tie.Need-same-length
+same-length c = search needs
+
+returns : tie.Need-returns
+returns c =
+    let arguments = c .before .before in
+    let head = arguments .before .before .before .before in
+    wrote-then (rw (head .before .head-word .ensures) at (head .push .ensures)) (arguments .push2 .ensures) (omega arith)
+
+pub record2-spec : {M : Type 1} → statement M
+record2-spec =
+    tie.close (tie.spec head-word-requires push-requires push2-requires same-length returns)

@@ -1,0 +1,28 @@
+-- `engine::record3` meets its contract: two words are written, and two where they leave off. Assumes nothing.
+use borrow.Author.Needs.{needs}
+use native.Mathlib.Omega.{arith}
+use Rattle.engine.specs.Emit.{wrote-then}
+use Rattle.engine.proofs.record3.Statement.{statement}
+use Rattle.engine.proofs.record3.Tie as tie
+
+head-word-requires : tie.Need-head-word-requires
+head-word-requires c κs = search needs
+
+push2-requires : tie.Need-push2-requires
+push2-requires c κs = search needs
+
+push2-requires-2 : tie.Need-push2-requires-2
+push2-requires-2 c κs = search needs
+
+same-length : tie.Need-same-length
+same-length c = search needs
+
+returns : tie.Need-returns
+returns c =
+    let rest = c .before .before in
+    let head = rest .before .before .before .before in
+    wrote-then (rw (head .before .head-word .ensures) at (head .push2 .ensures)) (rest .push22 .ensures) (omega arith)
+
+pub record3-spec : {M : Type 1} → statement M
+record3-spec =
+    tie.close (tie.spec head-word-requires push2-requires push2-requires-2 same-length returns)
