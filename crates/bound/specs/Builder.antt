@@ -11,8 +11,35 @@ use Rattle.logic.specs.declared.Trit.{Trit}
 use Rattle.cell.specs.Cell.{Control}
 use Rattle.smt.specs.Prog.{Prog, ret, op, declare, bind, bind2, _>>=_, Age, curr, past, Half, TritVec, tv, BitVec, buildConcat}
 use Rattle.smt.specs.Builder.{
-  bvConcat, bvConcatOn, bvIsZero, bvToBool, boolToBv, zeros, ones, tvLit, tvConst, tvConcat, tvConcatOn, tvExtract, tvIs0, tvIs1, tvEq,
-  tvRefines, tvNot, tvAnd, tvOr, tvXor, tvMux, collect, netOf, valueOf, invertNet, clockNet, bvNoX, net, controlNet,
+  bvConcat,
+  bvConcatOn,
+  bvIsZero,
+  bvToBool,
+  boolToBv,
+  zeros,
+  ones,
+  tvLit,
+  tvConst,
+  tvConcat,
+  tvConcatOn,
+  tvExtract,
+  tvIs0,
+  tvIs1,
+  tvEq,
+  tvRefines,
+  tvNot,
+  tvAnd,
+  tvOr,
+  tvXor,
+  tvMux,
+  collect,
+  netOf,
+  valueOf,
+  invertNet,
+  clockNet,
+  bvNoX,
+  net,
+  controlNet,
 }
 use Rattle.bound.specs.Costs.{termCost, Costs, CostsOnly, costs-ret, costs-more, costs-seq, sumBy, sum-each}
 
@@ -48,8 +75,17 @@ tvOr-costs a b w = omega arith
 
 pub tvMux-costs : (s a b : TritVec) (w : ℕ) → CostsOnly 112 (tvMux s a b w)
 unfolding tvMux tvIs0 tvIs1 bvToBool _>>=_ Costs
-tvMux-costs s a b w = (omega arith, λ k l. (omega arith, λ m n. (omega arith, λ i j.
-    (omega arith, λ y. (omega arith, λ x. (omega arith, λ sIs0. (omega arith, λ x. (omega arith, λ sIs1. omega arith))))))))
+tvMux-costs s a b w = (
+  omega arith,
+  λ k l. (
+    omega arith,
+    λ m n. (
+      omega arith,
+      λ i j.
+          (omega arith, λ y. (omega arith, λ x. (omega arith, λ sIs0. (omega arith, λ x. (omega arith, λ sIs1. omega arith))))),
+    ),
+  ),
+)
 
 pub bvIsZero-costs : (a : BitVec) (w : ℕ) → w ≤ 64 → CostsOnly 9 (bvIsZero a w)
 unfolding bvIsZero _>>=_ Costs

@@ -17,7 +17,15 @@ use Rattle.smt.specs.Builder.{cell, currNet, currValue, outputNets, overwritten
 use Rattle.bound.specs.Costs.{Costs, CostsOnly, costs-ret, costs-more, costs-seq, sumBy}
 use Rattle.bound.specs.Builder.{tvNot-costs, tvAnd-costs, tvMux-costs, netOf-costs, net-costs, valueOf-costs}
 use Rattle.bound.specs.Cells.{
-  then, matchCost, value-costs, controlNet-costs, tvBinary-costs, shifted-costs, matchCell-costs, dffCell-costs, adcCell-costs,
+  then,
+  matchCost,
+  value-costs,
+  controlNet-costs,
+  tvBinary-costs,
+  shifted-costs,
+  matchCell-costs,
+  dffCell-costs,
+  adcCell-costs,
 }
 use Rattle.bound.specs.Bounded.{Bounded, recordWords, patternWords}
 
@@ -36,8 +44,12 @@ out-costs s w =
 
 length-overwritten : (value : List Net) (offset : ℕ) (update : List Net) → length (overwritten value offset update) ≤ length value + length update
 length-overwritten value offset update =
-    rw (length-append (take offset value) (update ++ drop (offset + length update) value), length-append update (drop (offset + length update) value),
-    length-take offset value, length-drop (offset + length update) value) (omega arith)
+    rw (
+      length-append (take offset value) (update ++ drop (offset + length update) value),
+      length-append update (drop (offset + length update) value),
+      length-take offset value,
+      length-drop (offset + length update) value,
+    ) (omega arith)
 
 module _ (readsPast : ℕ → Bool) where
   pub cell-costs : (s : ℕ) (a : Cell) → Shaped a → Bounded a → CostsOnly (5100 * recordWords a) (cell readsPast s (outputLen a) a)

@@ -19,15 +19,85 @@ use Rattle.cell.specs.Cell as cells
 use Rattle.bitvec.specs.Laws.{length-nat2bv}
 use Rattle.smt.specs.Prog.{Prog, ret, op, _>>=_, curr, past, TritVec, tv, BitVec, bv, vector, buildExtract, buildBvor, buildConcat, buildBvadd}
 use Rattle.smt.specs.Builder.{
-  bvLit, bvBind, zeros, tvBind, tvConcat, bvConcat, bvConcatOn, bvIsZero, boolToBv, tvLit, tvExtract, tvNot, tvAnd, tvOr, tvXor, tvMux, collect, netOf, valueOf, pastValue,
-  outputNets, invertNet, clockNet, currNet, pastNet, bvNoX, net, value, controlNet, carryX, tvAdc, tvEquals, tvLess, tvMul, tvBinary, tvShift,
-  Prepared, halvings, oneHot, firstMatch, overwritten, shiftWidth, zext, extended, prepareAt, prepareShift, shifted, compared, product, sum,
-  matchOf, matchCell, enabled, resetTo, loaded, cleared, dffCell, adcCell, cell, hasClear,
+  bvLit,
+  bvBind,
+  zeros,
+  tvBind,
+  tvConcat,
+  bvConcat,
+  bvConcatOn,
+  bvIsZero,
+  boolToBv,
+  tvLit,
+  tvExtract,
+  tvNot,
+  tvAnd,
+  tvOr,
+  tvXor,
+  tvMux,
+  collect,
+  netOf,
+  valueOf,
+  pastValue,
+  outputNets,
+  invertNet,
+  clockNet,
+  currNet,
+  pastNet,
+  bvNoX,
+  net,
+  value,
+  controlNet,
+  carryX,
+  tvAdc,
+  tvEquals,
+  tvLess,
+  tvMul,
+  tvBinary,
+  tvShift,
+  Prepared,
+  halvings,
+  oneHot,
+  firstMatch,
+  overwritten,
+  shiftWidth,
+  zext,
+  extended,
+  prepareAt,
+  prepareShift,
+  shifted,
+  compared,
+  product,
+  sum,
+  matchOf,
+  matchCell,
+  enabled,
+  resetTo,
+  loaded,
+  cleared,
+  dffCell,
+  adcCell,
+  cell,
+  hasClear,
 }
 use Rattle.bound.specs.Costs.{termCost, Costs, CostsOnly, costs-ret, costs-more, costs-seq, costs-weaken, sumBy, sum-each}
 use Rattle.bound.specs.Builder.{
-  tvNot-costs, tvXor-costs, tvAnd-costs, tvOr-costs, tvMux-costs, tvExtract-costs, tvLit-costs, invertNet-costs, netOf-costs, net-costs,
-  collect-costs, tvConcat-costs, valueOf-costs, bvNoX-costs, boolToBv-costs, bvIsZero-costs,
+  tvNot-costs,
+  tvXor-costs,
+  tvAnd-costs,
+  tvOr-costs,
+  tvMux-costs,
+  tvExtract-costs,
+  tvLit-costs,
+  invertNet-costs,
+  netOf-costs,
+  net-costs,
+  collect-costs,
+  tvConcat-costs,
+  valueOf-costs,
+  bvNoX-costs,
+  boolToBv-costs,
+  bvIsZero-costs,
 }
 
 -- One part after another, where nothing is asked of the first one's result.
@@ -63,9 +133,23 @@ bvConcat-costs (e ∷ l) = costs-more (length l * 3) (suc (length l) * 3) _ _ (o
 carry-step : {X : Type 0} (a b : TritVec) (i n : ℕ) (carry : BitVec) (rest : BitVec → Prog X) (Q : X → Type 0) → ((k : BitVec) → Costs n (rest k) Q)
     → Costs (24 + n) (buildExtract i i (a .x) >>= λ ax. buildExtract i i (b .x) >>= λ bx. buildBvor ax bx >>= λ abx. buildBvor carry abx >>= λ any. bvBind any 1 >>= rest) Q
 unfolding _>>=_ Costs
-carry-step a b i n carry rest Q h =
-    (omega arith, λ ax. (omega arith, λ bx. (omega arith, λ abx. (omega arith, λ any. (omega arith, λ k.
-    costs-more n (24 + n - 4 - 4 - 3 - 3 - 10) (rest (bv k 1)) Q (omega arith) (h (bv k 1)))))))
+carry-step a b i n carry rest Q h = (
+  omega arith,
+  λ ax. (
+    omega arith,
+    λ bx. (
+      omega arith,
+      λ abx. (
+        omega arith,
+        λ any. (
+          omega arith,
+          λ k.
+              costs-more n (24 + n - 4 - 4 - 3 - 3 - 10) (rest (bv k 1)) Q (omega arith) (h (bv k 1)),
+        ),
+      ),
+    ),
+  ),
+)
 
 carryX-costs : (a b : TritVec) (more i : ℕ) (carry : BitVec) → Costs (more * 24) (carryX a b more i carry) (λ r. length r ≡ suc more)
 unfolding carryX

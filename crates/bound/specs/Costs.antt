@@ -69,17 +69,23 @@ module _ {A B : Type 0} (b : ℕ) (g : A → Prog B) (P : A → Type 0) (Q : B �
   pub costs-seq : (a : ℕ) (m : Prog A) → Costs a m P → Costs (a + b) (m >>= g) Q
   unfolding _>>=_ Costs
   costs-seq a (ret x) h = costs-more b (a + b) (g x) Q (omega arith) (rest x h)
-  costs-seq a (op t f) h =
-      (omega arith, λ k. costs-more (a - termCost t + b) (a + b - termCost t) (f k >>= g) Q (omega arith)
-      (costs-seq (a - termCost t) (f k) (h .1 k)))
+  costs-seq a (op t f) h = (
+    omega arith,
+    λ k. costs-more (a - termCost t + b) (a + b - termCost t) (f k >>= g) Q (omega arith)
+        (costs-seq (a - termCost t) (f k) (h .1 k)),
+  )
   costs-seq a (declare z j y f) h =
       (omega arith, λ k. costs-more (a - 5 + b) (a + b - 5) (f k >>= g) Q (omega arith) (costs-seq (a - 5) (f k) (h .1 k)))
-  costs-seq a (bind w t f) h =
-      (omega arith, λ k. costs-more (a - 10 + b) (a + b - 10) (f k >>= g) Q (omega arith)
-      (costs-seq (a - 10) (f k) (h .1 k)))
-  costs-seq a (bind2 w x y f) h =
-      (omega arith, λ k j. costs-more (a - 20 + b) (a + b - 20) (f k j >>= g) Q (omega arith)
-      (costs-seq (a - 20) (f k j) (h .1 k j)))
+  costs-seq a (bind w t f) h = (
+    omega arith,
+    λ k. costs-more (a - 10 + b) (a + b - 10) (f k >>= g) Q (omega arith)
+        (costs-seq (a - 10) (f k) (h .1 k)),
+  )
+  costs-seq a (bind2 w x y f) h = (
+    omega arith,
+    λ k j. costs-more (a - 20 + b) (a + b - 20) (f k j >>= g) Q (omega arith)
+        (costs-seq (a - 20) (f k j) (h .1 k j)),
+  )
 
 -- The sum of a number of each element.
 unfoldable pub sumBy : {A : Type 0} → (A → ℕ) → List A → ℕ
@@ -143,5 +149,5 @@ emit-words n (bind w t f) Q s h =
     omega (arith, h .0)
 emit-words n (bind2 w x y f) Q s h =
     let rest = emit-words (n - 20) (f (s .next) (suc (s .next))) Q (at (suc (suc (suc (suc (s .next))))) (suc (s .temp)) s)
-        (h .1 (s .next) (suc (s .next))) in
+    (h .1 (s .next) (suc (s .next))) in
     omega (arith, h .0)

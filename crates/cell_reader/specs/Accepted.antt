@@ -54,6 +54,7 @@ module _ (w : List ℕ) (numbers : Numbers) (end : ℕ) where
           record { same-n = cc; same-m = cc; after = cc; within = λ _. omega arith }
       choose offset k v a false over b o e =
           record { same-n = cc; same-m = cc; after = cc; within = λ t. let z : true ≡ false = cc in absurd (let y : _≡_ {A = ℕ} 0 1 = cc in omega arith) }
+
       go :
           (v : Number) → numberAt w (2 ^ 29 - 1) end at ≡ v →
           onValue v (λ (offset k : ℕ). cond (numbers .within) (cond (ltb n (offset + m)) (L.Refused (fault 9 at)) (L.Read n m k)) (L.Read n m k))
@@ -84,7 +85,7 @@ module _ (w : List ℕ) (numbers : Numbers) (end : ℕ) where
             same-n = cc;
             second = rw k-after at (rw same at is);
             after = λ _. let y : next ≡ k = cc in omega arith;
-            third = λ other. absurd (other (eqb-true _ _ b))
+            third = λ other. absurd (other (eqb-true _ _ b));
           }
       choose m k is false b e =
           let third = third-read n m k e in
@@ -94,8 +95,9 @@ module _ (w : List ℕ) (numbers : Numbers) (end : ℕ) where
             same-n = third .same-n;
             second = rw k-after at (rw same at is);
             after = λ two. absurd (eqb-false _ _ b two);
-            third = λ _. rw same at (rw k-after at third)
+            third = λ _. rw same at (rw k-after at third);
           }
+
       go :
           (v : Number) → numberAt w (numbers .second) end at ≡ v →
           onValue v (λ (m k : ℕ). cond (eqb (numbers .count) 2) (L.Read n m k) (thirdAt w numbers end n m k)) ≡ L.Read n′ m′ next →
@@ -130,7 +132,7 @@ module _ (w : List ℕ) (numbers : Numbers) (end : ℕ) where
             least = λ _. omega arith;
             second = λ more. absurd (omega arith);
             within = λ more. absurd (omega arith);
-            after = λ _. omega arith
+            after = λ _. omega arith;
           }
       choose n₁ k is some false false l o e =
           let second = second-read n₁ k e in
@@ -145,7 +147,7 @@ module _ (w : List ℕ) (numbers : Numbers) (end : ℕ) where
             least = λ _. omega arith;
             second = λ more. moved-n .second;
             within = λ more. moved-n .third (λ two. omega arith) .within;
-            after = λ most. two-or-three (eqb (numbers .count) 2) refl other most moved-n
+            after = λ most. two-or-three (eqb (numbers .count) 2) refl other most moved-n;
           }
         where
           two-or-three :
@@ -156,12 +158,14 @@ module _ (w : List ℕ) (numbers : Numbers) (end : ℕ) where
               let no-two : numbers .count ≡ 2 → ⊥ = eqb-false _ _ b in
               let k : next ≡ at + 1 + 1 + 1 = s .third no-two .after in
               omega arith
+
       go :
           (v : Number) → numberAt w 63 end at ≡ v → (numbers .count ≡ 0 → ⊥) →
           onValue v (λ (n k : ℕ). cond (ltb n (numbers .least)) (L.Refused (fault 7 at)) (cond (eqb (numbers .count) 1) (L.Read n 0 k) (secondAt w numbers end n k)))
           ≡ L.Read n m next → IsLeading at n m next
       go (N.Refused f) v some e = let z : _≡_ {A = ℕ} 0 1 = cc in absurd (omega arith)
       go (N.Value n₁ k) v some e = choose n₁ k (number-read w _ end at v) some (ltb n₁ (numbers .least)) (eqb (numbers .count) 1) refl refl e
+
       none :
           (b : Bool) → eqb (numbers .count) 0 ≡ b → cond b (L.Read 0 0 at) (firstAt w numbers end at) ≡ L.Read n m next → IsLeading at n m next
       none true b e =
@@ -172,7 +176,7 @@ module _ (w : List ℕ) (numbers : Numbers) (end : ℕ) where
             least = λ more. absurd (omega arith);
             second = λ more. absurd (omega arith);
             within = λ more. absurd (omega arith);
-            after = λ _. omega arith
+            after = λ _. omega arith;
           }
       none false b e = go (numberAt w 63 end at) refl (eqb-false _ _ b) e
 
@@ -231,17 +235,18 @@ body-read w total layout n end at read =
     let nets = both-read (netsAt w total 0 end (layout .nets) (controls .place)) _ (controls .second) in
     let constants = both-read (constantsAt w end (layout .constants) (nets .place)) _ (nets .second) in
     let patterns = both-read (patternsAt w n end (layout .patterns) (constants .place)) _ (constants .second) in
-    let ends = ends-read end (patterns .place) (patterns .second) in
-    (ends .1,
-    record {
-      nets = controls .place;
-      constants = nets .place;
-      patterns = constants .place;
-      controls-read = controls .first;
-      nets-read = nets .first;
-      constants-read = constants .first;
-      patterns-read = patterns .first ∙ ap S.Clean (ends .0)
-    })
+    let ends = ends-read end (patterns .place) (patterns .second) in (
+      ends .1,
+      record {
+        nets = controls .place;
+        constants = nets .place;
+        patterns = constants .place;
+        controls-read = controls .first;
+        nets-read = nets .first;
+        constants-read = constants .first;
+        patterns-read = patterns .first ∙ ap S.Clean (ends .0);
+      },
+    )
 
 -- A record was read: all that the layers above go by.
 pub record IsRecord (w : List ℕ) (total at : ℕ) (op : Operation) (width next : ℕ) : Type 0 where
@@ -288,8 +293,9 @@ record-read w total at {op} {width} {next} read = head (headAt w at) refl read
           m = m;
           start = start;
           leading = rw same-o at (rw same-end at lead);
-          body = rw same-o at (rw same-end at (was .1))
+          body = rw same-o at (rw same-end at (was .1));
         }
+
     lead :
         (o : Operation) (first end : ℕ) → IsHead w at o first end → (l : Leading) → leadingAt w (numbersOf o) end first ≡ l →
         onLeading l (λ (n m start : ℕ). onBody (bodyAt w total (fieldsOf o n m) n end start) (λ (after : ℕ). R.Read o (fieldsOf o n m .width) after))
@@ -297,6 +303,7 @@ record-read w total at {op} {width} {next} read = head (headAt w at) refl read
     lead o first end h (L.Refused f) l e = let z : _≡_ {A = ℕ} 0 1 = cc in absurd (omega arith)
     lead o first end h (L.Read n m start) l e =
         body o first end n m start h (leading-read w (numbersOf o) end first l) (bodyAt w total (fieldsOf o n m) n end start) refl e
+
     head :
         (h : Head) → headAt w at ≡ h → onHead h (λ (o : Operation) (first end : ℕ). contentsAt w total o end first) ≡ R.Read op width next →
         IsRecord w total at op width next

@@ -103,7 +103,7 @@ cellIn w Dff at =
       enable = controlIn w (at + 5);
       dat = netsIn w (numberIn w at) (at + 6);
       clearValue = tritsIn w (numberIn w at) (at + 6 + numberIn w at);
-      resetValue = tritsIn w (numberIn w at) (at + 6 + numberIn w at + numberIn w at)
+      resetValue = tritsIn w (numberIn w at) (at + 6 + numberIn w at + numberIn w at);
     }
 -- #n
 cellIn w IoBuf at = C.ioBuf (numberIn w at)

@@ -17,7 +17,11 @@ pub enum Leading {
 
 // A record's operation, output width and end; or the fault met.
 pub enum Record {
-    Read { op: Operation, width: usize, next: usize },
+    Read {
+        op: Operation,
+        width: usize,
+        next: usize,
+    },
     Refused(Fault),
 }
 
@@ -30,7 +34,10 @@ pub fn third_at(list: &[u32], numbers: Numbers, end: usize, n: u32, m: u32, at: 
         Number::Value { n: offset, next } => {
             if numbers.within {
                 if (n as u64) < offset as u64 + m as u64 {
-                    return Leading::Refused(Fault { number: 9, place: at });
+                    return Leading::Refused(Fault {
+                        number: 9,
+                        place: at,
+                    });
                 }
                 return Leading::Read { n, m, next };
             }
@@ -59,13 +66,20 @@ pub fn leading_at(list: &[u32], numbers: Numbers, end: usize, at: usize) -> Lead
     ensures { λ r. ⌜ r ≡ leadingAt (now (list .entry)) numbers end at ⌝ }
 {
     if numbers.count == 0 {
-        return Leading::Read { n: 0, m: 0, next: at };
+        return Leading::Read {
+            n: 0,
+            m: 0,
+            next: at,
+        };
     }
     match fields::number_at(list, 63, end, at) {
         Number::Refused(f) => Leading::Refused(f),
         Number::Value { n, next } => {
             if n < numbers.least {
-                return Leading::Refused(Fault { number: 7, place: at });
+                return Leading::Refused(Fault {
+                    number: 7,
+                    place: at,
+                });
             }
             if numbers.count == 1 {
                 return Leading::Read { n, m: 0, next };
@@ -81,7 +95,13 @@ pub fn tail_at(list: &[u32], layout: Fields, n: usize, end: usize, at: usize) ->
 {
     match fields::constants_at(list, end, layout.constants, at) {
         Scan::Refused(f) => Scan::Refused(f),
-        Scan::Clean(patterns) => match fields::patterns_at(list, n, end, layout.patterns, patterns) {
+        Scan::Clean(patterns) => match fields::patterns_at(
+            list,
+            n,
+            end,
+            layout.patterns,
+            patterns,
+        ) {
             Scan::Refused(f) => Scan::Refused(f),
             Scan::Clean(next) => fields::ends_at(end, next),
         },
@@ -111,7 +131,11 @@ pub fn contents_at(list: &[u32], total: usize, op: Operation, end: usize, first:
             let layout = cell::fields_of(op, n, m);
             match body_at(list, total, layout, n as usize, end, next) {
                 Scan::Refused(f) => Record::Refused(f),
-                Scan::Clean(after) => Record::Read { op, width: layout.width, next: after },
+                Scan::Clean(after) => Record::Read {
+                    op,
+                    width: layout.width,
+                    next: after,
+                },
             }
         }
     }

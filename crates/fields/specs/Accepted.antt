@@ -39,6 +39,7 @@ number-read w bound end at {n} {next} read =
   where
     value : ℕ
     value = payloadOf (getD w at 0)
+
     go :
         (inside right bounded : Bool) → ltb at end ≡ inside → eqb (kindOf (getD w at 0)) 3 ≡ right → leb value bound ≡ bounded →
         cond inside (cond right (cond bounded (N.Value value (at + 1)) (N.Refused (fault 4 at))) (N.Refused (fault 2 at))) (N.Refused (fault 5 at))
@@ -48,7 +49,7 @@ number-read w bound end at {n} {next} read =
       kind = eqb-true _ _ k;
       value = cc;
       bounded = let same : n ≡ value = cc in let low : value ≤ bound = leb-true _ _ b in omega arith;
-      after = cc
+      after = cc;
     }
     go true true false i k b e = let z : _≡_ {A = ℕ} 0 1 = cc in absurd (omega arith)
     go true false b i k _ e = let z : _≡_ {A = ℕ} 0 1 = cc in absurd (omega arith)
@@ -71,6 +72,7 @@ head-read w at {op} {first} {end} read =
   where
     count : ℕ
     count = payloadOf (getD w at 0) / 32
+
     go :
         (inside right : Bool) (d : Decoded) (fits : Bool) → ltb at (length w) ≡ inside → eqb (kindOf (getD w at 0)) 2 ≡ right →
         operationOf (payloadOf (getD w at 0) % 32) ≡ d → leb (at + 1 + count) (length w) ≡ fits →
@@ -86,7 +88,7 @@ head-read w at {op} {first} {end} read =
       decoded = cc;
       start = cc;
       finish = cc;
-      fits = let same : end ≡ at + 1 + count = cc in let low : at + 1 + count ≤ length w = leb-true _ _ f in omega arith
+      fits = let same : end ≡ at + 1 + count = cc in let low : at + 1 + count ≤ length w = leb-true _ _ f in omega arith;
     }
     go true true (D.Known o) false i k d f e = let z : _≡_ {A = ℕ} 0 1 = cc in absurd (omega arith)
     go true true D.Unknown f i k d _ e = let z : _≡_ {A = ℕ} 0 1 = cc in absurd (omega arith)

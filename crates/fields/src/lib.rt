@@ -28,7 +28,11 @@ pub enum Bit {
 
 // The head of a record: its operation, its first field and where it ends; or the fault met.
 pub enum Head {
-    Record { op: Operation, first: usize, end: usize },
+    Record {
+        op: Operation,
+        first: usize,
+        end: usize,
+    },
     Refused(Fault),
 }
 
@@ -41,15 +45,27 @@ pub fn number_at(list: &[u32], bound: u32, end: usize, at: usize) -> Number
         if word / 536870912 == 3 {
             let payload = word % 536870912;
             if payload <= bound {
-                Number::Value { n: payload, next: at + 1 }
+                Number::Value {
+                    n: payload,
+                    next: at + 1,
+                }
             } else {
-                Number::Refused(Fault { number: 4, place: at })
+                Number::Refused(Fault {
+                    number: 4,
+                    place: at,
+                })
             }
         } else {
-            Number::Refused(Fault { number: 2, place: at })
+            Number::Refused(Fault {
+                number: 2,
+                place: at,
+            })
         }
     } else {
-        Number::Refused(Fault { number: 5, place: at })
+        Number::Refused(Fault {
+            number: 5,
+            place: at,
+        })
     }
 }
 
@@ -86,13 +102,22 @@ pub fn net_at(list: &[u32], total: usize, most: u32, end: usize, at: usize) -> S
             if is_known(total, word % 536870912) {
                 Scan::Clean(at + 1)
             } else {
-                Scan::Refused(Fault { number: 6, place: at })
+                Scan::Refused(Fault {
+                    number: 6,
+                    place: at,
+                })
             }
         } else {
-            Scan::Refused(Fault { number: 2, place: at })
+            Scan::Refused(Fault {
+                number: 2,
+                place: at,
+            })
         }
     } else {
-        Scan::Refused(Fault { number: 5, place: at })
+        Scan::Refused(Fault {
+            number: 5,
+            place: at,
+        })
     }
 }
 
@@ -109,10 +134,16 @@ pub fn bit_at(list: &[u32], end: usize, at: usize) -> Bit
                 Bit::Other
             }
         } else {
-            Bit::Refused(Fault { number: 2, place: at })
+            Bit::Refused(Fault {
+                number: 2,
+                place: at,
+            })
         }
     } else {
-        Bit::Refused(Fault { number: 5, place: at })
+        Bit::Refused(Fault {
+            number: 5,
+            place: at,
+        })
     }
 }
 
@@ -122,7 +153,10 @@ pub fn constant_at(list: &[u32], end: usize, at: usize) -> Scan
 {
     match bit_at(list, end, at) {
         Bit::Constant(next) => Scan::Clean(next),
-        Bit::Other => Scan::Refused(Fault { number: 8, place: at }),
+        Bit::Other => Scan::Refused(Fault {
+            number: 8,
+            place: at,
+        }),
         Bit::Refused(f) => Scan::Refused(f),
     }
 }
@@ -181,7 +215,10 @@ pub fn patterns_at(list: &[u32], n: usize, end: usize, k: usize, start: usize) -
             Number::Refused(f) => {
                 return Scan::Refused(f);
             }
-            Number::Value { n: alternates, next: first } => {
+            Number::Value {
+                n: alternates,
+                next: first,
+            } => {
                 at = first;
                 let mut alternate = alternates;
                 while 0 < alternate {
@@ -206,14 +243,24 @@ pub fn patterns_at(list: &[u32], n: usize, end: usize, k: usize, start: usize) -
             }
         }
     }
-    Scan::Refused(Fault { number: 8, place: at })
+    Scan::Refused(Fault {
+        number: 8,
+        place: at,
+    })
 }
 
 // Whether the fields end where the head's count says.
 pub fn ends_at(end: usize, next: usize) -> Scan
     ensures { λ r. ⌜ r ≡ endsAt end next ⌝ }
 {
-    if next == end { Scan::Clean(end) } else { Scan::Refused(Fault { number: 5, place: next }) }
+    if next == end {
+        Scan::Clean(end)
+    } else {
+        Scan::Refused(Fault {
+            number: 5,
+            place: next,
+        })
+    }
 }
 
 // A record's operation and end, where its count keeps it in the list.
@@ -223,10 +270,17 @@ pub fn record_of(op: Operation, count: u32, len: usize, at: usize) -> Head
     let words = count as usize;
     if at < len {
         if words <= len - (at + 1) {
-            return Head::Record { op, first: at + 1, end: at + 1 + words };
+            return Head::Record {
+                op,
+                first: at + 1,
+                end: at + 1 + words,
+            };
         }
     }
-    Head::Refused(Fault { number: 1, place: len })
+    Head::Refused(Fault {
+        number: 1,
+        place: len,
+    })
 }
 
 // The head of the record at a place.
@@ -238,13 +292,22 @@ pub fn head_at(list: &[u32], at: usize) -> Head
         if word / 536870912 == 2 {
             let payload = word % 536870912;
             match cell::operation_of(payload % 32) {
-                Decoded::Unknown => Head::Refused(Fault { number: 3, place: at }),
+                Decoded::Unknown => Head::Refused(Fault {
+                    number: 3,
+                    place: at,
+                }),
                 Decoded::Known(op) => record_of(op, payload / 32, list.len(), at),
             }
         } else {
-            Head::Refused(Fault { number: 2, place: at })
+            Head::Refused(Fault {
+                number: 2,
+                place: at,
+            })
         }
     } else {
-        Head::Refused(Fault { number: 1, place: list.len() })
+        Head::Refused(Fault {
+            number: 1,
+            place: list.len(),
+        })
     }
 }

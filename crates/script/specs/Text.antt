@@ -10,16 +10,9 @@ use Rattle.bitvec.specs.Bits.{Bits, bit}
 use Rattle.engine.specs.Call.{Name, BinaryOp, Compare, Term, Call}
 use Rattle.engine.specs.Call as c
 use Rattle.engine.specs.Sorts.{Sort, sortOf, start, leaves}
+use Rattle.terms.specs.Made.{made, sortsOf}
 use Rattle.text.specs.Bytes.{ascii, decimal}
 use Rattle.text.specs.Names.{nameText}
-
--- The calls that make terms; the call of term k is at place k.
-unfoldable pub made : List Call → List Call
-made [] = []
-made (c.term t ∷ calls) = c.term t ∷ made calls
-made (c.declare name w ∷ calls) = c.declare name w ∷ made calls
-made (c.assert k ∷ calls) = made calls
-made (c.check ∷ calls) = made calls
 
 -- k and a term's number.
 abbrev pub numbered : ℕ → List ℕ
@@ -34,10 +27,6 @@ spelledAs k c.check = numbered k
 
 abbrev pub reference : List Call → ℕ → List ℕ
 reference before k = spelledAs k (getD (made before) k c.check)
-
--- The sorts of the terms so far.
-abbrev pub sortsOf : List Call → List Sort
-sortsOf before = leaves start before .sorts
 
 -- Bool, or a bit vector of a width.
 abbrev pub sortText : Sort → List ℕ

@@ -18,7 +18,21 @@ use Rattle.rules.specs.Trits as t
 use Rattle.rules.specs.Rules as r
 use Rattle.soundness.specs.Terms.{extract-one}
 use Rattle.soundness.specs.Formula.{
-  TritBits, tb, show, litBits, concatBits, is0, is1, isTrue, extractBits, notBits, andBits, orBits, xorBits, muxBits, invertBits,
+  TritBits,
+  tb,
+  show,
+  litBits,
+  concatBits,
+  is0,
+  is1,
+  isTrue,
+  extractBits,
+  notBits,
+  andBits,
+  orBits,
+  xorBits,
+  muxBits,
+  invertBits,
 }
 
 -- An element that is there does not ask for the default.

@@ -297,8 +297,17 @@ adc-sum : (n : ℕ) (x y : Bits) (d : Bool) → length x ≡ n
     → bvadd (bvadd (concat (false ∷ []) x) (concat (false ∷ []) y)) (concat (zeros n) (d ∷ []))
     ≡ nat2bv (suc n) (bv2nat x + bv2nat y + bit d)
 adc-sum n x y d e =
-    rw (length-nat2bv, length-append x (false ∷ []), e, add-one n, bv2nat-nat2bv, bv2nat-zeros x 1, bv2nat-zeros y 1,
-        carry-number n d, nat2bv-add)
+    rw (
+      length-nat2bv,
+      length-append x (false ∷ []),
+      e,
+      add-one n,
+      bv2nat-nat2bv,
+      bv2nat-zeros x 1,
+      bv2nat-zeros y 1,
+      carry-number n d,
+      nat2bv-add,
+    )
 
 pub adc-shows : {n : ℕ} {x y u v : Bits} {ts us : List Trit} (cx cy : Bool) → Shown n x y ts → Shown n u v us
     → Shows (suc n) (adcBits (tb x y) (tb u v) cx cy n) (r.adc ts us (shows cx cy))

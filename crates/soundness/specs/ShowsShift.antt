@@ -58,8 +58,12 @@ shl-at s t i h = rw (shl-list (length s) (bv2nat t) s (omega arith), getD-take (
 
 pub lshr-at : (s t : Bits) (i : ℕ) → getD (bvlshr s t) i false ≡ getD s (i + bv2nat t) false
 lshr-at s t i =
-    rw (lshr-list (bv2nat t) s, getD-pad (drop (bv2nat t) s) (length s - length (drop (bv2nat t) s)) false i,
-        getD-drop (bv2nat t) s i false, add-comm i (bv2nat t))
+    rw (
+      lshr-list (bv2nat t) s,
+      getD-pad (drop (bv2nat t) s) (length s - length (drop (bv2nat t) s)) false i,
+      getD-drop (bv2nat t) s i false,
+      add-comm i (bv2nat t),
+    )
 
 pub ashr-at : (s t : Bits) (i : ℕ) → i < length s → getD (bvashr s t) i false ≡ getD s (i + bv2nat t) (msb s)
 ashr-at s t i h = go (msb s)

@@ -87,22 +87,21 @@ sort-by o.assert n a sorts = refl
 sort-by o.check n a sorts = refl
 sort-by o.unknown n a sorts = refl
 
--- The rules of the operations by their numbers.
-rule-at : (n : ℕ) → getD (map ruleOf operations) n 8 ≡ ruleOf (opOf n)
-unfolding opOf
-rule-at n = List·getD-map ruleOf operations n unknown
-
 -- Inside a list the default makes no difference.
 any-default : (l : List ℕ) (n d e : ℕ) → n < length l → getD l n d ≡ getD l n e
 any-default [] n d e h = absurd (omega arith)
 any-default (a ∷ l) zero d e h = refl
 any-default (a ∷ l) (suc n) d e h = any-default l n d e (le-of-suc-le-suc h)
 
-pub rule-inside : (n : ℕ) → n < 24 → getD (map ruleOf operations) n 0 ≡ ruleOf (opOf n)
-rule-inside n h = any-default (map ruleOf operations) n 0 8 h ∙ rule-at n
+-- A table of numbers over the operations, in their order.
+module _ (f : Op → ℕ) where
+  pub table-inside : (n : ℕ) → n < 24 → getD (map f operations) n 0 ≡ f (opOf n)
+  unfolding opOf
+  table-inside n h = any-default (map f operations) n 0 (f unknown) h ∙ List·getD-map f operations n unknown
 
-pub rule-past : (n : ℕ) → 24 ≤ n → 8 ≡ ruleOf (opOf n)
-rule-past n h = sym (List·getD-eq-default (map ruleOf operations) 8 h) ∙ rule-at n
+  pub table-past : (n : ℕ) → 24 ≤ n → f unknown ≡ f (opOf n)
+  unfolding opOf
+  table-past n h = sym (List·getD-eq-default (map f operations) (f unknown) h) ∙ List·getD-map f operations n unknown
 
 -- A sort, or 65 for anything wider.
 abbrev pub capped : Sort → Sort

@@ -33,32 +33,35 @@ enum-known-after c = search needs
 returns : tie.Need-returns
 unfolding contentsAt
 returns c =
-    rw
-    (← c .before .before .before .before .numbers-of .ensures,
-    ← c .before .before .before .leading-at .ensures,
-    c .before .f .given .1)
+    rw (
+      ← c .before .before .before .before .numbers-of .ensures,
+      ← c .before .before .before .leading-at .ensures,
+      c .before .f .given .1,
+    )
 
 returns-2 : tie.Need-returns-2
 unfolding contentsAt
 returns-2 c =
-    rw
-    (← c .before .before .before .before .before .before .before .before .before .numbers-of .ensures,
-    ← c .before .before .before .before .before .before .before .before .leading-at .ensures,
-    c .before .before .before .before .before .before .n .given .1,
-    ← c .before .before .before .before .fields-of .ensures,
-    ← c .before .before .before .body-at .ensures,
-    c .before .f2 .given .1)
+    rw (
+      ← c .before .before .before .before .before .before .before .before .before .numbers-of .ensures,
+      ← c .before .before .before .before .before .before .before .before .leading-at .ensures,
+      c .before .before .before .before .before .before .n .given .1,
+      ← c .before .before .before .before .fields-of .ensures,
+      ← c .before .before .before .body-at .ensures,
+      c .before .f2 .given .1,
+    )
 
 returns-3 : tie.Need-returns-3
 unfolding contentsAt
 returns-3 c =
-    rw
-    (← c .before .before .before .before .before .before .before .before .before .numbers-of .ensures,
-    ← c .before .before .before .before .before .before .before .before .leading-at .ensures,
-    c .before .before .before .before .before .before .n .given .1,
-    ← c .before .before .before .before .fields-of .ensures,
-    ← c .before .before .before .body-at .ensures,
-    c .before .after .given .1)
+    rw (
+      ← c .before .before .before .before .before .before .before .before .before .numbers-of .ensures,
+      ← c .before .before .before .before .before .before .before .before .leading-at .ensures,
+      c .before .before .before .before .before .before .n .given .1,
+      ← c .before .before .before .before .fields-of .ensures,
+      ← c .before .before .before .body-at .ensures,
+      c .before .after .given .1,
+    )
 
 pub contents-at-spec : {M : Type 1} → statement M
 contents-at-spec =

@@ -18,17 +18,19 @@ contents-at-requires c κs = search needs
 returns : tie.Need-returns
 unfolding recordAt
 returns c =
-    rw
-    (← c .before .before .before .head-at .ensures,
-    c .before .f .given .1)
+    rw (
+      ← c .before .before .before .head-at .ensures,
+      c .before .f .given .1,
+    )
 
 returns-2 : tie.Need-returns-2
 unfolding recordAt
 returns-2 c =
-    rw
-    (← c .before .before .before .before .head-at .ensures,
-    c .before .before .op .given .1,
-    ← c .contents-at .ensures)
+    rw (
+      ← c .before .before .before .before .head-at .ensures,
+      c .before .before .op .given .1,
+      ← c .contents-at .ensures,
+    )
 
 pub record-at-spec : {M : Type 1} → statement M
 record-at-spec =

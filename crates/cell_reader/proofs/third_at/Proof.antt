@@ -22,35 +22,39 @@ add-if2 c = search needs
 returns : tie.Need-returns
 unfolding thirdAt
 returns c =
-    rw
-    (← c .before .before .before .before .before .number-at .ensures,
-    c .before .before .before .offset .given .1,
-    c .before .if1 .taken,
-    lt-ltb _ _ (c .if2 .taken))
+    rw (
+      ← c .before .before .before .before .before .number-at .ensures,
+      c .before .before .before .offset .given .1,
+      c .before .if1 .taken,
+      lt-ltb _ _ (c .if2 .taken),
+    )
 
 returns-2 : tie.Need-returns-2
 unfolding thirdAt
 returns-2 c =
-    rw
-    (← c .before .before .before .before .before .number-at .ensures,
-    c .before .before .before .offset .given .1,
-    c .before .if1 .taken,
-    le-ltb _ _ (c .if2 .left))
+    rw (
+      ← c .before .before .before .before .before .number-at .ensures,
+      c .before .before .before .offset .given .1,
+      c .before .if1 .taken,
+      le-ltb _ _ (c .if2 .left),
+    )
 
 returns-3 : tie.Need-returns-3
 unfolding thirdAt
 returns-3 c =
-    rw
-    (← c .before .before .before .number-at .ensures,
-    c .before .f .given .1)
+    rw (
+      ← c .before .before .before .number-at .ensures,
+      c .before .f .given .1,
+    )
 
 returns-4 : tie.Need-returns-4
 unfolding thirdAt
 returns-4 c =
-    rw
-    (← c .before .before .before .before .number-at .ensures,
-    c .before .before .offset .given .1,
-    c .if1 .left)
+    rw (
+      ← c .before .before .before .before .number-at .ensures,
+      c .before .before .offset .given .1,
+      c .if1 .left,
+    )
 
 pub third-at-spec : {M : Type 1} → statement M
 third-at-spec =

@@ -16,30 +16,33 @@ add-t13 c = search needs
 returns : tie.Need-returns
 unfolding bitAt
 returns c =
-    rw
-    (lt-ltb _ _ (c .before .before .before .before .if1 .taken),
-    ← c .before .before .before .word-at .ensures,
-    eq-eqb _ _ (c .before .before .if2 .taken),
-    ← c .before .is-constant .ensures,
-    c .if3 .taken)
+    rw (
+      lt-ltb _ _ (c .before .before .before .before .if1 .taken),
+      ← c .before .before .before .word-at .ensures,
+      eq-eqb _ _ (c .before .before .if2 .taken),
+      ← c .before .is-constant .ensures,
+      c .if3 .taken,
+    )
 
 returns-2 : tie.Need-returns-2
 unfolding bitAt
 returns-2 c =
-    rw
-    (lt-ltb _ _ (c .before .before .before .before .if1 .taken),
-    ← c .before .before .before .word-at .ensures,
-    eq-eqb _ _ (c .before .before .if2 .taken),
-    ← c .before .is-constant .ensures,
-    c .if3 .left)
+    rw (
+      lt-ltb _ _ (c .before .before .before .before .if1 .taken),
+      ← c .before .before .before .word-at .ensures,
+      eq-eqb _ _ (c .before .before .if2 .taken),
+      ← c .before .is-constant .ensures,
+      c .if3 .left,
+    )
 
 returns-3 : tie.Need-returns-3
 unfolding bitAt
 returns-3 c =
-    rw
-    (lt-ltb _ _ (c .before .before .if1 .taken),
-    ← c .before .word-at .ensures,
-    ne-eqb _ _ (c .if2 .left))
+    rw (
+      lt-ltb _ _ (c .before .before .if1 .taken),
+      ← c .before .word-at .ensures,
+      ne-eqb _ _ (c .if2 .left),
+    )
 
 returns-4 : tie.Need-returns-4
 unfolding bitAt

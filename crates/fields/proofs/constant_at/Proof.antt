@@ -18,23 +18,26 @@ enum-known-f c = search needs
 returns : tie.Need-returns
 unfolding constantAt
 returns c =
-    rw
-    (← c .before .before .before .bit-at .ensures,
-    c .before .next .given .1)
+    rw (
+      ← c .before .before .before .bit-at .ensures,
+      c .before .next .given .1,
+    )
 
 returns-2 : tie.Need-returns-2
 unfolding constantAt
 returns-2 c =
-    rw
-    (← c .before .before .bit-at .ensures,
-    c .enum-told .given .1)
+    rw (
+      ← c .before .before .bit-at .ensures,
+      c .enum-told .given .1,
+    )
 
 returns-3 : tie.Need-returns-3
 unfolding constantAt
 returns-3 c =
-    rw
-    (← c .before .before .before .bit-at .ensures,
-    c .before .f .given .1)
+    rw (
+      ← c .before .before .before .bit-at .ensures,
+      c .before .f .given .1,
+    )
 
 pub constant-at-spec : {M : Type 1} → statement M
 constant-at-spec =

@@ -25,28 +25,31 @@ record-of-requires c κs = search needs
 returns : tie.Need-returns
 unfolding headAt
 returns c =
-    rw
-    (lt-ltb _ _ (c .before .before .before .before .before .if1 .taken),
-    eq-eqb _ _ (c .before .before .before .if2 .taken),
-    ← c .before .before .operation-of .ensures,
-    c .enum-told .given .1)
+    rw (
+      lt-ltb _ _ (c .before .before .before .before .before .if1 .taken),
+      eq-eqb _ _ (c .before .before .before .if2 .taken),
+      ← c .before .before .operation-of .ensures,
+      c .enum-told .given .1,
+    )
 
 returns-2 : tie.Need-returns-2
 unfolding headAt
 returns-2 c =
-    rw
-    (lt-ltb _ _ (c .before .before .before .before .before .before .before .if1 .taken),
-    eq-eqb _ _ (c .before .before .before .before .before .if2 .taken),
-    ← c .before .before .before .before .operation-of .ensures,
-    c .before .before .op .given .1,
-    ← c .record-of .ensures)
+    rw (
+      lt-ltb _ _ (c .before .before .before .before .before .before .before .if1 .taken),
+      eq-eqb _ _ (c .before .before .before .before .before .if2 .taken),
+      ← c .before .before .before .before .operation-of .ensures,
+      c .before .before .op .given .1,
+      ← c .record-of .ensures,
+    )
 
 returns-3 : tie.Need-returns-3
 unfolding headAt
 returns-3 c =
-    rw
-    (lt-ltb _ _ (c .before .before .if1 .taken),
-    ne-eqb _ _ (c .if2 .left))
+    rw (
+      lt-ltb _ _ (c .before .before .if1 .taken),
+      ne-eqb _ _ (c .if2 .left),
+    )
 
 returns-4 : tie.Need-returns-4
 unfolding headAt

@@ -8,18 +8,20 @@ returns c = rw (lt-ltb _ _ (c .if1 .taken))
 
 returns-2 : tie.Need-returns-2
 returns-2 c =
-    rw
-    (le-ltb _ _ (c .before .if1 .left),
-    eq-eqb _ _ (c .if2 .taken))
+    rw (
+      le-ltb _ _ (c .before .if1 .left),
+      eq-eqb _ _ (c .if2 .taken),
+    )
 
 cast-result : tie.Need-cast-result
 cast-result c = search needs
 
 returns-3 : tie.Need-returns-3
 returns-3 c =
-    rw
-    (le-ltb _ _ (c .before .if1 .left),
-    ne-eqb _ _ (c .if2 .left))
+    rw (
+      le-ltb _ _ (c .before .if1 .left),
+      ne-eqb _ _ (c .if2 .left),
+    )
 
 pub is-known-spec : {M : Type 1} → statement M
 is-known-spec = tie.close (tie.spec returns returns-2 cast-result returns-3)

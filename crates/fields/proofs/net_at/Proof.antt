@@ -16,30 +16,33 @@ add-t15 c = search needs
 returns : tie.Need-returns
 unfolding netAt
 returns c =
-    rw
-    (lt-ltb _ _ (c .before .before .before .before .if1 .taken),
-    ← c .before .before .before .word-at .ensures,
-    le-leb _ _ (c .before .before .if2 .taken),
-    ← c .before .is-known .ensures,
-    c .if3 .taken)
+    rw (
+      lt-ltb _ _ (c .before .before .before .before .if1 .taken),
+      ← c .before .before .before .word-at .ensures,
+      le-leb _ _ (c .before .before .if2 .taken),
+      ← c .before .is-known .ensures,
+      c .if3 .taken,
+    )
 
 returns-2 : tie.Need-returns-2
 unfolding netAt
 returns-2 c =
-    rw
-    (lt-ltb _ _ (c .before .before .before .before .if1 .taken),
-    ← c .before .before .before .word-at .ensures,
-    le-leb _ _ (c .before .before .if2 .taken),
-    ← c .before .is-known .ensures,
-    c .if3 .left)
+    rw (
+      lt-ltb _ _ (c .before .before .before .before .if1 .taken),
+      ← c .before .before .before .word-at .ensures,
+      le-leb _ _ (c .before .before .if2 .taken),
+      ← c .before .is-known .ensures,
+      c .if3 .left,
+    )
 
 returns-3 : tie.Need-returns-3
 unfolding netAt
 returns-3 c =
-    rw
-    (lt-ltb _ _ (c .before .before .if1 .taken),
-    ← c .before .word-at .ensures,
-    lt-leb _ _ (c .if2 .left))
+    rw (
+      lt-ltb _ _ (c .before .before .if1 .taken),
+      ← c .before .word-at .ensures,
+      lt-leb _ _ (c .if2 .left),
+    )
 
 returns-4 : tie.Need-returns-4
 unfolding netAt

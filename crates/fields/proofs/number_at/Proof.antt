@@ -13,28 +13,31 @@ add-t14 c = search needs
 returns : tie.Need-returns
 unfolding numberAt
 returns c =
-    rw
-    (lt-ltb _ _ (c .before .before .before .if1 .taken),
-    ← c .before .before .word-at .ensures,
-    eq-eqb _ _ (c .before .if2 .taken),
-    le-leb _ _ (c .if3 .taken))
+    rw (
+      lt-ltb _ _ (c .before .before .before .if1 .taken),
+      ← c .before .before .word-at .ensures,
+      eq-eqb _ _ (c .before .if2 .taken),
+      le-leb _ _ (c .if3 .taken),
+    )
 
 returns-2 : tie.Need-returns-2
 unfolding numberAt
 returns-2 c =
-    rw
-    (lt-ltb _ _ (c .before .before .before .if1 .taken),
-    ← c .before .before .word-at .ensures,
-    eq-eqb _ _ (c .before .if2 .taken),
-    lt-leb _ _ (c .if3 .left))
+    rw (
+      lt-ltb _ _ (c .before .before .before .if1 .taken),
+      ← c .before .before .word-at .ensures,
+      eq-eqb _ _ (c .before .if2 .taken),
+      lt-leb _ _ (c .if3 .left),
+    )
 
 returns-3 : tie.Need-returns-3
 unfolding numberAt
 returns-3 c =
-    rw
-    (lt-ltb _ _ (c .before .before .if1 .taken),
-    ← c .before .word-at .ensures,
-    ne-eqb _ _ (c .if2 .left))
+    rw (
+      lt-ltb _ _ (c .before .before .if1 .taken),
+      ← c .before .word-at .ensures,
+      ne-eqb _ _ (c .if2 .left),
+    )
 
 returns-4 : tie.Need-returns-4
 unfolding numberAt
