@@ -1,3 +1,4 @@
 pub mod Text
 pub mod Shape
 pub mod Pieces
+pub mod Operation

@@ -3,7 +3,8 @@
 use terms::Found;
 ghost use mathlib.Core.Path.{_≡_};
 ghost use mathlib.Core.List.{_∷_, []};
-ghost use lib.ListN.{getD};
+ghost use Prim.Native.Nat.{_-_, _≤_};
+ghost use lib.ListN.{length, getD, take, drop};
 ghost use Rattle.engine.specs.Call as c;
 ghost use Rattle.engine.specs.Encode.{opOf, letters, suffixes};
 ghost use Rattle.text.specs.Names.{letterText, suffixText, nameText};
@@ -11,7 +12,7 @@ ghost use Rattle.text.specs.Write.{Wrote};
 ghost use Rattle.terms.specs.Find.{firstCalls};
 ghost use Rattle.terms.specs.Sort.{payloads};
 ghost use Rattle.script.specs.Text.{numbered, reference};
-ghost use Rattle.script.specs.Shape.{shapeOf, arityOf, nameOf};
+ghost use Rattle.script.specs.Shape.{shapeOf, arityOf, nameOf, operationText};
 
 // The shape of each operation's line: an application (0), a Bool (1), an and (2), a literal (3), an extract (4), a declaration (5), an
 // assertion (6), check (7).
@@ -138,4 +139,55 @@ fn put_reference(text: &mut [u8], at: usize, calls: &[u32], records: usize, term
             put_numbered(text, at, term)
         }
     }
+}
+
+// Writes the part of a list of bytes between two places.
+fn put_part(text: &mut [u8], at: usize, bytes: &[u8], start: usize, end: usize) -> usize
+    requires { ⌜ (start ≤ end) × (end ≤ length (now bytes)) ⌝ }
+    ensures { λ r. ⌜ Wrote (now (text .entry)) (now (text .exit)) at r (take (end - start) (drop start (now (bytes .entry)))) ⌝ }
+{
+    text::put_bytes(text, at, &bytes[start..end])
+}
+
+// Where each operation's name starts among the names, and the next one's.
+const NAME_STARTS: [usize; 25] = [
+    0,
+    0,
+    3,
+    6,
+    9,
+    9,
+    10,
+    13,
+    19,
+    19,
+    24,
+    29,
+    33,
+    38,
+    43,
+    49,
+    54,
+    59,
+    64,
+    70,
+    76,
+    81,
+    81,
+    81,
+    81,
+];
+
+// Writes the name of an operation.
+fn put_operation(text: &mut [u8], at: usize, op: u32) -> usize
+    ensures { λ r. ⌜ Wrote (now (text .entry)) (now (text .exit)) at r (operationText (opOf op)) ⌝ }
+{
+    if op < 24 {
+        let start = NAME_STARTS[op as usize];
+        let end = NAME_STARTS[op as usize + 1];
+        let names =
+            b"itenotand=iteconcatbvnotbvandbvorbvxorbvaddbvcompbvultbvsltbvshlbvlshrbvashrbvmul";
+        return put_part(text, at, names, start, end);
+    }
+    at
 }
