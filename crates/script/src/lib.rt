@@ -2,16 +2,22 @@
 // writes a piece from a place on and gives the next place; past the slice's end it only counts.
 use terms::Found;
 ghost use mathlib.Core.Path.{_≡_};
-ghost use mathlib.Core.List.{_∷_, []};
-ghost use Prim.Native.Nat.{_-_, _≤_};
+ghost use mathlib.Core.List.{_∷_, [], _++_};
+ghost use Prim.Native.Nat.{_-_, _≤_, _<_};
 ghost use lib.ListN.{length, getD, take, drop};
 ghost use Rattle.engine.specs.Call as c;
-ghost use Rattle.engine.specs.Encode.{opOf, letters, suffixes};
+ghost use Rattle.engine.specs.Encode.{opOf, letters, suffixes, countAt};
+ghost use Rattle.script.specs.Literal.{LiteralFits, digitOr, literalNumber};
+ghost use Rattle.script.specs.Record.{shapeAt, bodyAt};
 ghost use Rattle.text.specs.Names.{letterText, suffixText, nameText};
 ghost use Rattle.text.specs.Write.{Wrote};
 ghost use Rattle.terms.specs.Find.{firstCalls};
 ghost use Rattle.terms.specs.Sort.{payloads};
-ghost use Rattle.script.specs.Text.{numbered, reference};
+ghost use Rattle.script.specs.Text.{numbered, reference, sortText, boolText, bitsText, literalText, extractText, spaced, applied, conjunction};
+ghost use Rattle.script.specs.Pieces.{argumentTexts, extractionText};
+ghost use Rattle.text.specs.Bytes.{ascii};
+ghost use Rattle.bitvec.specs.Bits.{nat2bv};
+ghost use lib.Dec.{eqb};
 ghost use Rattle.script.specs.Shape.{shapeOf, arityOf, nameOf, operationText};
 
 // The shape of each operation's line: an application (0), a Bool (1), an and (2), a literal (3), an extract (4), a declaration (5), an
@@ -190,4 +196,189 @@ fn put_operation(text: &mut [u8], at: usize, op: u32) -> usize
         return put_part(text, at, names, start, end);
     }
     at
+}
+
+// Writes a space and a term.
+fn put_argument(text: &mut [u8], at: usize, calls: &[u32], records: usize, term: usize) -> usize
+    ensures { λ r. ⌜ Wrote (now (text .entry)) (now (text .exit)) at r (ascii " " ++ reference (firstCalls (now (calls .entry)) records) term) ⌝ }
+{
+    let next = text::put_byte(text, at, b' ');
+    put_reference(text, next, calls, records, term)
+}
+
+// Writes the first arguments of a record, each after a space.
+fn put_arguments(
+    text: &mut [u8],
+    start: usize,
+    calls: &[u32],
+    records: usize,
+    head: usize,
+    n: u32,
+) -> usize
+    ensures { λ r. ⌜ Wrote (now (text .entry)) (now (text .exit)) start r (spaced (argumentTexts (now (calls .entry)) records head n)) ⌝ }
+{
+    let mut at = start;
+    let mut i = 0;
+    while i < n {
+        at = put_argument(
+            text,
+            at,
+            calls,
+            records,
+            terms::term_argument(calls, head, i),
+        );
+        i += 1;
+    }
+    at
+}
+
+// Writes an operation and the first arguments of a record, in parentheses.
+fn put_application(
+    text: &mut [u8],
+    at: usize,
+    calls: &[u32],
+    records: usize,
+    head: usize,
+    op: u32,
+    n: u32,
+) -> usize
+    ensures { λ r. ⌜ Wrote (now (text .entry)) (now (text .exit)) at r (applied (operationText (opOf op)) (argumentTexts (now (calls .entry)) records head n)) ⌝ }
+{
+    let operation = text::put_byte(text, at, b'(');
+    let arguments = put_operation(text, operation, op);
+    let closing = put_arguments(text, arguments, calls, records, head, n);
+    text::put_byte(text, closing, b')')
+}
+
+// Writes an and; one of one argument is that argument.
+fn put_conjunction(
+    text: &mut [u8],
+    at: usize,
+    calls: &[u32],
+    records: usize,
+    head: usize,
+    n: u32,
+) -> usize
+    ensures { λ r. ⌜ Wrote (now (text .entry)) (now (text .exit)) at r (conjunction (argumentTexts (now (calls .entry)) records head n)) ⌝ }
+{
+    if n == 1 {
+        return put_reference(
+            text,
+            at,
+            calls,
+            records,
+            terms::term_argument(calls, head, 0),
+        );
+    }
+    put_application(text, at, calls, records, head, 3, n)
+}
+
+// Writes a Bool, by its number.
+fn put_bool(text: &mut [u8], at: usize, number: u32) -> usize
+    ensures { λ r. ⌜ Wrote (now (text .entry)) (now (text .exit)) at r (boolText (eqb number 1)) ⌝ }
+{
+    if number == 1 {
+        return text::put_bytes(text, at, b"true");
+    }
+    text::put_bytes(text, at, b"false")
+}
+
+// Writes the low bits of a number, the highest first.
+fn put_bits(text: &mut [u8], at: usize, n: u64, width: u32) -> usize
+    ensures { λ r. ⌜ Wrote (now (text .entry)) (now (text .exit)) at r (bitsText (nat2bv width n)) ⌝ }
+{
+    if width == 0 {
+        return at;
+    }
+    let last = put_bits(text, at, n / 2, width - 1);
+    text::put_byte(text, last, (48 + n % 2) as u8)
+}
+
+// Writes the operation of an extract with its two numbers.
+fn put_extract(text: &mut [u8], at: usize, high: usize, low: usize) -> usize
+    ensures { λ r. ⌜ Wrote (now (text .entry)) (now (text .exit)) at r (extractText high low) ⌝ }
+{
+    let first = text::put_bytes(text, at, b"(_ extract ");
+    let space = text::put_number(text, first, high);
+    let second = text::put_byte(text, space, b' ');
+    let closing = text::put_number(text, second, low);
+    text::put_byte(text, closing, b')')
+}
+
+// Writes the part of a vector that a record takes out.
+fn put_extraction(text: &mut [u8], at: usize, calls: &[u32], records: usize, head: usize) -> usize
+    ensures { λ r. ⌜ Wrote (now (text .entry)) (now (text .exit)) at r (extractionText (now (calls .entry)) records head) ⌝ }
+{
+    let operation = text::put_byte(text, at, b'(');
+    let high = terms::term_argument(calls, head, 0);
+    let argument = put_extract(text, operation, high, terms::term_argument(calls, head, 1));
+    let closing = put_argument(
+        text,
+        argument,
+        calls,
+        records,
+        terms::term_argument(calls, head, 2),
+    );
+    text::put_byte(text, closing, b')')
+}
+
+// Writes a sort.
+fn put_sort(text: &mut [u8], at: usize, sort: u32) -> usize
+    ensures { λ r. ⌜ Wrote (now (text .entry)) (now (text .exit)) at r (sortText sort) ⌝ }
+{
+    if sort == 0 {
+        return text::put_bytes(text, at, b"Bool");
+    }
+    let width = text::put_bytes(text, at, b"(_ BitVec ");
+    let closing = text::put_number(text, width, sort as usize);
+    text::put_byte(text, closing, b')')
+}
+
+// The 16-bit number j of a literal, or 0 past the last.
+fn digit(calls: &[u32], head: usize, j: u32) -> u64
+    requires { ⌜ j < 4 ⌝ }
+    ensures { λ r. ⌜ (r ≡ digitOr (payloads (now (calls .entry)) head) (countAt (now (calls .entry)) head) j) × (r < 65536) ⌝ }
+{
+    if j + 1 < terms::count(calls, head) {
+        return (terms::argument(calls, head, j + 1) % 65536) as u64;
+    }
+    0
+}
+
+// The number of a literal of at most 64 bits.
+fn literal_number(calls: &[u32], head: usize) -> u64
+    requires { ⌜ LiteralFits (now calls) head ⌝ }
+    ensures { λ r. ⌜ r ≡ literalNumber (now (calls .entry)) head ⌝ }
+{
+    let low = digit(calls, head, 0) + 65536 * digit(calls, head, 1);
+    low + 4294967296 * digit(calls, head, 2) + 281474976710656 * digit(calls, head, 3)
+}
+
+// Writes a literal, #b and every digit.
+fn put_literal(text: &mut [u8], at: usize, calls: &[u32], head: usize) -> usize
+    requires { ⌜ LiteralFits (now calls) head ⌝ }
+    ensures { λ r. ⌜ Wrote (now (text .entry)) (now (text .exit)) at r (literalText (nat2bv (payloads (now (calls .entry)) head 0) (literalNumber (now (calls .entry)) head))) ⌝ }
+{
+    let digits = text::put_bytes(text, at, b"#b");
+    put_bits(
+        text,
+        digits,
+        literal_number(calls, head),
+        terms::argument(calls, head, 0),
+    )
+}
+
+// Writes the term that a record makes, by its shape.
+fn put_body(text: &mut [u8], at: usize, calls: &[u32], records: usize, head: usize) -> usize
+    requires { ⌜ (shapeAt (now calls) head ≡ 3 → LiteralFits (now calls) head) ⌝ }
+    ensures { λ r. ⌜ Wrote (now (text .entry)) (now (text .exit)) at r (bodyAt (now (calls .entry)) records head) ⌝ }
+{
+    let op = terms::operation(calls, head);
+    match shape(op) {
+        1 => put_bool(text, at, terms::argument(calls, head, 0)),
+        2 => put_conjunction(text, at, calls, records, head, terms::count(calls, head)),
+        3 => put_literal(text, at, calls, head),
+        4 => put_extraction(text, at, calls, records, head),
+        _ => put_application(text, at, calls, records, head, op, arity(op) as u32),
+    }
 }
