@@ -13,7 +13,9 @@ use Rattle.terms.specs.Find.{firstCalls}
 use Rattle.terms.specs.Sort.{payloads}
 use Rattle.script.specs.Text.{reference, applied, line}
 use Rattle.script.specs.Pieces.{argumentTexts}
-use Rattle.script.specs.Shape.{shapeOf, arityOf, operationText, bodyBy, lineBy, line-by}
+use Rattle.script.specs.Literal.{LiteralFits}
+use Rattle.text.specs.Bytes.{ascii}
+use Rattle.script.specs.Shape.{shapeOf, arityOf, operationText, nameOf, bodyBy, defineLine, declareLine, assertLine, lineBy, line-by}
 
 abbrev pub shapeAt : List ℕ → ℕ → ℕ
 shapeAt w head = shapeOf (operationAt w head)
@@ -32,3 +34,39 @@ pub body-applied : (w : List ℕ) (records head : ℕ) → (shapeAt w head ≡ 1
     → bodyAt w records head ≡ applied (operationText (operationAt w head)) (argumentTexts w records head (arityOf (operationAt w head)))
 body-applied w records head one two three four =
     rw (ne-eqb (shapeAt w head) 1 one, ne-eqb (shapeAt w head) 2 two, ne-eqb (shapeAt w head) 3 three, ne-eqb (shapeAt w head) 4 four)
+
+-- What the writer needs of a record: a literal's numbers are of 16 bits, and a term has a sort.
+pub record Ready (w : List ℕ) (records head : ℕ) : Type 0 where
+  pub literal : shapeAt w head ≡ 3 → LiteralFits w head
+  pub sort : sortOfCall (sortsOf (firstCalls w records)) (callAt w head) ≤ 65
+
+-- The line of the record at a place, after some records that make some terms.
+abbrev pub defineAt : List ℕ → ℕ → ℕ → ℕ → List ℕ
+defineAt w records head term = defineLine term (sortOfCall (sortsOf (firstCalls w records)) (callAt w head)) (bodyAt w records head)
+
+abbrev pub declareAt : List ℕ → ℕ → List ℕ
+declareAt w head = declareLine (nameOf (payloads w head)) (payloads w head 3)
+
+abbrev pub assertAt : List ℕ → ℕ → ℕ → List ℕ
+assertAt w records head = assertLine (reference (firstCalls w records) (payloads w head 0))
+
+abbrev pub lineAt : List ℕ → ℕ → ℕ → List ℕ
+lineAt w records head = line (firstCalls w records) (callAt w head)
+
+module _ (w : List ℕ) (records head : ℕ) where
+  by-shape : lineAt w records head ≡ lineBy (shapeAt w head) (firstCalls w records) (operationAt w head) (countAt w head) (payloads w head)
+  by-shape = line-by (operationAt w head) (countAt w head) (payloads w head) (firstCalls w records)
+
+  pub line-declared : shapeAt w head ≡ 5 → lineAt w records head ≡ declareAt w head
+  line-declared e = by-shape ∙ rw e
+
+  pub line-asserted : shapeAt w head ≡ 6 → lineAt w records head ≡ assertAt w records head
+  line-asserted e = by-shape ∙ rw e
+
+  pub line-checked : shapeAt w head ≡ 7 → lineAt w records head ≡ ascii "(check-sat)\n"
+  line-checked e = by-shape ∙ rw e
+
+  pub line-defined : (term : ℕ) → term ≡ length (made (firstCalls w records)) → (shapeAt w head ≡ 5 → ⊥) → (shapeAt w head ≡ 6 → ⊥)
+      → (shapeAt w head ≡ 7 → ⊥) → lineAt w records head ≡ defineAt w records head term
+  line-defined term many five six seven =
+      by-shape ∙ rw (ne-eqb (shapeAt w head) 5 five, ne-eqb (shapeAt w head) 6 six, ne-eqb (shapeAt w head) 7 seven, many)

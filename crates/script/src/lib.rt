@@ -8,7 +8,8 @@ ghost use lib.ListN.{length, getD, take, drop};
 ghost use Rattle.engine.specs.Call as c;
 ghost use Rattle.engine.specs.Encode.{opOf, letters, suffixes, countAt};
 ghost use Rattle.script.specs.Literal.{LiteralFits, digitOr, literalNumber};
-ghost use Rattle.script.specs.Record.{shapeAt, bodyAt};
+ghost use Rattle.script.specs.Record.{shapeAt, bodyAt, defineAt, declareAt, assertAt, lineAt, Ready};
+ghost use Rattle.terms.specs.Made.{made};
 ghost use Rattle.text.specs.Names.{letterText, suffixText, nameText};
 ghost use Rattle.text.specs.Write.{Wrote};
 ghost use Rattle.terms.specs.Find.{firstCalls};
@@ -380,5 +381,72 @@ fn put_body(text: &mut [u8], at: usize, calls: &[u32], records: usize, head: usi
         3 => put_literal(text, at, calls, head),
         4 => put_extraction(text, at, calls, records, head),
         _ => put_application(text, at, calls, records, head, op, arity(op) as u32),
+    }
+}
+
+// Writes the line that defines the term of a record.
+fn put_define(
+    text: &mut [u8],
+    at: usize,
+    calls: &[u32],
+    records: usize,
+    head: usize,
+    term: usize,
+) -> usize
+    requires { ⌜ Ready (now calls) records head ⌝ }
+    ensures { λ r. ⌜ Wrote (now (text .entry)) (now (text .exit)) at r (defineAt (now (calls .entry)) records head term) ⌝ }
+{
+    let name = text::put_bytes(text, at, b"(define-fun ");
+    let parameters = put_numbered(text, name, term);
+    let sort = text::put_bytes(text, parameters, b" () ");
+    let space = put_sort(text, sort, terms::sort_of_record(calls, records, head));
+    let body = text::put_byte(text, space, b' ');
+    let closing = put_body(text, body, calls, records, head);
+    text::put_bytes(text, closing, b")\n")
+}
+
+// Writes the line of a declaration.
+fn put_declare(text: &mut [u8], at: usize, calls: &[u32], head: usize) -> usize
+    ensures { λ r. ⌜ Wrote (now (text .entry)) (now (text .exit)) at r (declareAt (now (calls .entry)) head) ⌝ }
+{
+    let name = text::put_bytes(text, at, b"(declare-const ");
+    let space = put_declared(text, name, calls, head);
+    let sort = text::put_byte(text, space, b' ');
+    let closing = put_sort(text, sort, terms::argument(calls, head, 3));
+    text::put_bytes(text, closing, b")\n")
+}
+
+// Writes the line of an assertion.
+fn put_assert(text: &mut [u8], at: usize, calls: &[u32], records: usize, head: usize) -> usize
+    ensures { λ r. ⌜ Wrote (now (text .entry)) (now (text .exit)) at r (assertAt (now (calls .entry)) records head) ⌝ }
+{
+    let term = text::put_bytes(text, at, b"(assert ");
+    let closing = put_reference(
+        text,
+        term,
+        calls,
+        records,
+        terms::term_argument(calls, head, 0),
+    );
+    text::put_bytes(text, closing, b")\n")
+}
+
+// Writes the line of the record at a place, after some records that make some terms.
+fn put_record(
+    text: &mut [u8],
+    at: usize,
+    calls: &[u32],
+    records: usize,
+    head: usize,
+    term: usize,
+) -> usize
+    requires { ⌜ Ready (now calls) records head × (term ≡ length (made (firstCalls (now calls) records))) ⌝ }
+    ensures { λ r. ⌜ Wrote (now (text .entry)) (now (text .exit)) at r (lineAt (now (calls .entry)) records head) ⌝ }
+{
+    match shape(terms::operation(calls, head)) {
+        5 => put_declare(text, at, calls, head),
+        6 => put_assert(text, at, calls, records, head),
+        7 => text::put_bytes(text, at, b"(check-sat)\n"),
+        _ => put_define(text, at, calls, records, head, term),
     }
 }
