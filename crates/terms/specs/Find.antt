@@ -2,7 +2,7 @@
 use mathlib.Core.Path.{_≡_, refl, sym, ap, _∙_}
 use mathlib.Core.Bool.{Bool, true, false, cond}
 use mathlib.Core.List.{List, [], _∷_, _++_, map, append-assoc, append-nil}
-use Prim.Native.Nat.{ℕ, zero, suc, _+_, _-_, _<_, _≤_, _%_}
+use Prim.Native.Nat.{ℕ, zero, suc, _+_, _-_, _<_, _≤_, _%_, _^_, min}
 use native.Mathlib.Nat.{le-refl, le-trans, zero-add, suc-add}
 use native.Mathlib.Numerals.{add-one}
 use native.Mathlib.Omega.{arith}
@@ -81,6 +81,10 @@ made-one (c.term t) = refl
 made-one (c.declare name w) = refl
 made-one (c.assert k) = refl
 made-one c.check = refl
+
+-- A number as a machine word has it; no place or term of a lent list reaches the largest.
+abbrev pub word : ℕ → ℕ
+word n = min n (2 ^ 64 - 1)
 
 -- How many terms the record at a place makes.
 abbrev pub madeAt : List ℕ → ℕ → ℕ

@@ -7,7 +7,7 @@ ghost use Rattle.engine.specs.Encode.{makesTerm, opOf, countAt, argumentAt, nex
 ghost use Rattle.engine.specs.Sorts.{sortAt};
 ghost use Rattle.terms.specs.Made.{sortsOf, sortOfCall};
 ghost use Rattle.terms.specs.Sort.{ruleOf, capped, PlainSort};
-ghost use Rattle.terms.specs.Find.{madeAt, FoundIn, firstCalls};
+ghost use Rattle.terms.specs.Find.{madeAt, FoundIn, firstCalls, word};
 
 // Where a term's record begins, and how many records come before it.
 pub enum Found {
@@ -36,24 +36,28 @@ pub fn makes_term(op: u32) -> bool
     op < 22
 }
 
-// How many terms there are after the record at a place.
-fn terms_after(calls: &[u32], at: usize, terms: usize) -> usize
-    requires { ⌜ terms + 1 < 2 ^ 64 ⌝ }
-    ensures { λ r. ⌜ r ≡ terms + madeAt (now (calls .entry)) at ⌝ }
+// How many terms there are after the record at a place; the largest number stays.
+pub fn terms_after(calls: &[u32], at: usize, terms: usize) -> usize
+    ensures { λ r. ⌜ r ≡ word (terms + madeAt (now (calls .entry)) at) ⌝ }
 {
     if makes_term(operation(calls, at)) {
-        terms + 1
-    } else {
-        terms
+        if terms < 18446744073709551615 {
+            return terms + 1;
+        }
     }
+    terms
 }
 
-// The place after the record at a place.
-fn next_record(calls: &[u32], at: usize) -> usize
-    requires { ⌜ at < length (now calls) ⌝ }
-    ensures { λ r. ⌜ r ≡ nextAt (now (calls .entry)) at ⌝ }
+// The place after the record at a place; the largest place stays.
+pub fn next_record(calls: &[u32], at: usize) -> usize
+    ensures { λ r. ⌜ r ≡ word (nextAt (now (calls .entry)) at) ⌝ }
 {
-    at + 1 + count(calls, at) as usize
+    let n = count(calls, at) as usize;
+    if at < 18446744073709551615 - n {
+        at + 1 + n
+    } else {
+        18446744073709551615
+    }
 }
 
 // Finds the record that makes a term among the first records.

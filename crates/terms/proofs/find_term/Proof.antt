@@ -7,6 +7,8 @@ use native.Mathlib.Omega.{arith}
 use lib.ListN.{length}
 use Rattle.terms.specs.Find.{Reached, reached-start, reached-next, found-here, found-end, found-none}
 use Rattle.terms.specs.Find.{made-low}
+use Rattle.engine.specs.Encode.{nextAt}
+use Rattle.terms.specs.Find.{madeAt, word}
 use Rattle.terms.proofs.find_term.Statement.{statement}
 use Rattle.terms.proofs.find_term.Tie as tie
 
@@ -34,8 +36,12 @@ returns-2 c =
     let inside = counted .before in
     let turn = inside .before in
     let looped = turn .before in
+    let start = looped .before .before in
     let inv = looped .loop .inv in
-    found-here _ _ (inv .3) (inv .2) (inv .0) (turn .loop-test .taken) (inside .if1 .left) (rw (counted .terms-after .ensures) at (c .if2 .taken))
+    let one = made-low (start .args .calls .now) (looped .loop .at) in
+    let below : start .args .term < looped .loop .seen + madeAt (start .args .calls .now) (looped .loop .at) =
+    omega (arith, counted .terms-after .ensures, c .if2 .taken, inv .2) in
+    found-here _ _ (inv .3) (inv .2) (inv .0) (turn .loop-test .taken) (inside .if1 .left) below
 
 next-record-requires : tie.Need-next-record-requires Inv-loop μ-loop
 next-record-requires c κs = search needs
@@ -54,11 +60,15 @@ loop-again c =
     let looped = turn .before in
     let start = looped .before .before in
     let inv = looped .loop .inv in
-    let one = made-low (start .args .calls .now) (looped .loop .at) in (
+    let one = made-low (start .args .calls .now) (looped .loop .at) in
+    let seen : word (looped .loop .seen + madeAt (start .args .calls .now) (looped .loop .at))
+    ≡ looped .loop .seen + madeAt (start .args .calls .now) (looped .loop .at) = omega (arith, inv .1, start .fits .records) in
+    let next : word (nextAt (start .args .calls .now) (looped .loop .at)) ≡ nextAt (start .args .calls .now) (looped .loop .at) =
+    omega (arith, start .good .0, inside .if1 .left) in (
       omega arith,
       omega (arith, counted .terms-after .ensures, inv .1),
       omega (arith, c .before .if2 .left),
-      rw (c .next-record .ensures, counted .terms-after .ensures) (reached-next (inv .3) (inside .if1 .left)),
+      rw (c .next-record .ensures, counted .terms-after .ensures, seen, next) (reached-next (inv .3) (inside .if1 .left)),
     )
 
 returns-3 : tie.Need-returns-3 Inv-loop μ-loop
