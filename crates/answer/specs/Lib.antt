@@ -5,3 +5,4 @@ pub mod Place
 pub mod Step
 pub mod Entries
 pub mod Model
+pub mod Printed

@@ -12,16 +12,17 @@ use borrow.Author.Tests.{lt-ltb, le-ltb, eq-eqb, ne-eqb}
 use Rattle.logic.specs.declared.Fault.{Fault}
 use Rattle.engine.specs.Call.{Name}
 use Rattle.text.specs.Names.{askedFrom, asked}
+use Rattle.text.specs.Write.{overwrite, overwrite-fits}
 use Rattle.answer.specs.declared.Mark.the-variants.{Fine, Bad}
 use Rattle.answer.specs.declared.Step.{Step}
 use Rattle.answer.specs.declared.Step.the-variants as step
 use Rattle.answer.specs.declared.Verdict.{Verdict}
 use Rattle.answer.specs.declared.Verdict.the-variants as verdict
-use Rattle.answer.specs.Token.{Token}
-use Rattle.answer.specs.Reply.{Result, Reader, Reply, got, refused, return, onGot, pairs, table, badMark, expect, ended, model, satisfied, unsat, bad}
+use Rattle.answer.specs.Token.{Token, tokensOf}
+use Rattle.answer.specs.Reply.{Result, Reader, Reply, got, refused, return, onGot, pairs, table, badMark, expect, ended, model, satisfied, unsat, sat, bad, refuse, reply, replyTo, tableAfter, answerOf, Read}
 use Rattle.answer.specs.Place.{tokensFrom}
-use Rattle.answer.specs.Step.{entries}
-use Rattle.answer.specs.Entries.{forget, nothing, entries-table}
+use Rattle.answer.specs.Step.{entries, written}
+use Rattle.answer.specs.Entries.{forget, nothing, entries-table, whole}
 
 module _ (marks : List ℕ) (i : ℕ) (inside : i < length marks) where
   pub mark-bad : 2 < getD marks i 0 → badMark i (drop i marks) ≡ Bad i
@@ -54,12 +55,12 @@ module _ (marks : List ℕ) (i : ℕ) (past : length marks ≤ i) where
   unfolding askedFrom
   asked-done = rw (drop-of-length-le marks past)
 
--- What the code says of what follows sat: the fault, or the bits, and the place from which the entries of their table are read.
-abbrev pub ModelAt : List ℕ → List ℕ → ℕ → Step → Type 0
-ModelAt text marks at (step.Refused e) = model (asked marks) (tokensFrom text at) ≡ refused e
-ModelAt text marks at (step.At first) =
+-- What the code says of a reading of bits: the fault, or the place from which the entries of their table are read.
+abbrev pub Tabled : List ℕ → List ℕ → Result (List Bool) → Step → Type 0
+Tabled text marks result (step.Refused e) = result ≡ refused e
+Tabled text marks result (step.At first) =
     (bits : List Bool) × (left rest : List Token)
-    × (model (asked marks) (tokensFrom text at) ≡ got bits left)
+    × (result ≡ got bits left)
     × (entries 0 marks (tokensFrom text first) ≡ got (table marks bits) rest)
 
 -- The reply that the first token leads to.
@@ -113,3 +114,46 @@ module _ (marks : List ℕ) (tokens : List Token) where
           → (bits : List Bool) × (pairs (asked marks) tokens ≡ got bits left) × (entries 0 marks tokens ≡ got (table marks bits) left)
       go (got bits u) e q = let same : u ≡ left = cc in (bits, rw same at e, rw (entries-table 0 marks tokens, e, same))
       go (refused x) e q = let z : _≡_ {A = ℕ} 0 1 = cc in absurd (omega arith)
+
+-- With nothing asked, every entry is absent.
+pub nothing-table : (marks : List ℕ) (tokens : List Token) → nothing (asked marks) ≡ true → entries 0 marks tokens ≡ got (table marks []) tokens
+unfolding pairs
+nothing-table marks tokens e = rw (entries-table 0 marks tokens, empty (asked marks) e)
+  where
+    empty : (names : List Name) → nothing names ≡ true → names ≡ []
+    empty [] e = refl
+    empty (name ∷ names) e = let z : _≡_ {A = ℕ} 0 1 = cc in absurd (omega arith)
+
+-- The whole text's tokens are those from its start.
+pub tokens-start : (text : List ℕ) → tokensOf text ≡ tokensFrom text 0
+unfolding tokensFrom
+tokens-start text = refl
+
+-- Marks first, then room, then the text.
+module _ (text marks : List ℕ) (room : ℕ) where
+  pub reply-marks : {slot : ℕ} → badMark 0 marks ≡ Bad slot → replyTo text marks room ≡ refuse 2 slot
+  unfolding replyTo
+  reply-marks e = rw e
+
+  pub reply-room : badMark 0 marks ≡ Fine → room < length marks → replyTo text marks room ≡ refuse 15 (length marks)
+  unfolding replyTo
+  reply-room e short = rw (e, lt-ltb _ _ short)
+
+  pub reply-text : badMark 0 marks ≡ Fine → length marks ≤ room → replyTo text marks room ≡ reply (asked marks) (tokensOf text)
+  unfolding replyTo
+  reply-text e fits = rw (e, le-ltb _ _ fits)
+
+-- A reading told as a whole by its reply.
+module _ (text marks before : List ℕ) where
+  pub read-as : {after : List ℕ} {r : Reply} → replyTo text marks (length before) ≡ r → after ≡ tableAfter r marks before
+      → Read text marks before after (answerOf r)
+  read-as e w = record { answers = rw e; writes = rw e w }
+
+-- The table that the entries write is the reply's.
+pub table-written : (marks before : List ℕ) (tokens : List Token) {after : List ℕ} (bits : List Bool) {left : List Token}
+    → length marks ≤ length before → entries 0 marks tokens ≡ got (table marks bits) left
+    → after ≡ overwrite before 0 (written 0 marks tokens) → after ≡ table marks bits ++ drop (length marks) before
+table-written marks before tokens bits room e w =
+    let all = whole 0 marks tokens e in
+    let fits : length (table marks bits) ≤ length before = rw (all .each) room in
+    w ∙ rw (all .all, overwrite-fits before (table marks bits) fits, all .each)

@@ -3,11 +3,14 @@ use logic::Fault;
 use logic::Readback;
 ghost use mathlib.Core.Path.{_≡_};
 ghost use mathlib.Core.Bool.{_||_};
+ghost use mathlib.Core.List.{List};
 ghost use Prim.Native.Nat.{_≤_};
 ghost use lib.ListN.{length};
 ghost use lib.Seq.{slice};
-ghost use Rattle.answer.specs.Token.{white, parenthesis};
-ghost use Rattle.answer.specs.Reply.{same, expectSpelled, expectName, value, pairSpelled, ended, badMark};
+ghost use Rattle.answer.specs.Token.{white, parenthesis, tokensOf};
+ghost use Rattle.engine.specs.Call.{Name};
+ghost use Rattle.answer.specs.Reply.{same, expectSpelled, expectName, value, pairSpelled, ended, badMark, model, reply, Read};
+ghost use Rattle.answer.specs.Model.{listed, Tabled, replyAfter};
 ghost use Rattle.answer.specs.Place.{Skipped, Found, runEnd, tokensFrom};
 ghost use Rattle.answer.specs.Step.{endResult, stepResult, bitResult, entryResult, trit, entryOf, entries, written};
 ghost use Rattle.answer.specs.Entries.{forget, nothing};
@@ -371,4 +374,97 @@ fn bad_mark(recorded: &[u8]) -> Mark
         slot += 1;
     }
     Mark::Fine
+}
+
+// Reads the pairs and the list's end, from the place of the first pair, which it gives back.
+fn pairs_at(text: &[u8], first: usize, recorded: &[u8]) -> Step
+    ensures { λ r. ⌜ Tabled (now (text .entry)) (now (recorded .entry)) (listed (asked (now (recorded .entry))) (tokensFrom (now (text .entry)) first)) r ⌝ }
+{
+    match scan_entries(text, first, recorded) {
+        Step::Refused(e) => Step::Refused(e),
+        Step::At(closing) => match expect_word(text, closing, b")") {
+            Step::Refused(e) => Step::Refused(e),
+            Step::At(last) => match end_at(text, last) {
+                Step::Refused(e) => Step::Refused(e),
+                Step::At(_) => Step::At(first),
+            },
+        },
+    }
+}
+
+// Reads what follows sat, and gives the place of the first pair.
+fn model_at(text: &[u8], at: usize, recorded: &[u8]) -> Step
+    ensures { λ r. ⌜ Tabled (now (text .entry)) (now (recorded .entry)) (model (asked (now (recorded .entry))) (tokensFrom (now (text .entry)) at)) r ⌝ }
+{
+    if nothing_asked(recorded) {
+        return match end_at(text, at) {
+            Step::Refused(e) => Step::Refused(e),
+            Step::At(_) => Step::At(at),
+        };
+    }
+    match expect_word(text, at, b"(") {
+        Step::Refused(e) => Step::Refused(e),
+        Step::At(first) => pairs_at(text, first, recorded),
+    }
+}
+
+// Reads the answer's first token.
+fn verdict_of(text: &[u8]) -> Verdict
+    ensures { λ r. ⌜ ((names : List Name) → reply names (tokensOf (now (text .entry))) ≡ replyAfter (now (text .entry)) names r) ⌝ }
+{
+    match next_token(text, 0) {
+        Next::End => Verdict::Refused(Fault {
+            number: 16,
+            place: 0,
+        }),
+        Next::Token(start, end) => {
+            if token_is(text, start, end, b"sat") {
+                return Verdict::Sat(end);
+            }
+            if token_is(text, start, end, b"unsat") {
+                return Verdict::Unsat;
+            }
+            if token_is(text, start, end, b"unknown") {
+                return Verdict::Refused(Fault {
+                    number: 18,
+                    place: start,
+                });
+            }
+            Verdict::Refused(Fault {
+                number: 16,
+                place: start,
+            })
+        }
+    }
+}
+
+// Reads a solver's answer against the recorded marks. After sat the table has an entry for each mark; otherwise it stays as it was.
+pub fn read_answer(text: &[u8], recorded: &[u8], trits: &mut [u8]) -> Answer
+    ensures { λ r. ⌜ Read (now (text .entry)) (now (recorded .entry)) (now (trits .entry)) (now (trits .exit)) r ⌝ }
+{
+    match bad_mark(recorded) {
+        Mark::Bad(slot) => Answer::Refused(Fault {
+            number: 2,
+            place: slot,
+        }),
+        Mark::Fine => {
+            if trits.len() < recorded.len() {
+                return Answer::Refused(Fault {
+                    number: 15,
+                    place: recorded.len(),
+                });
+            }
+            match verdict_of(text) {
+                Verdict::Unsat => Answer::Unsat,
+                Verdict::Refused(e) => Answer::Refused(e),
+                Verdict::Sat(at) => match model_at(text, at, recorded) {
+                    Step::Refused(e) => Answer::Refused(e),
+                    Step::At(first) => {
+                        write_entries(text, first, recorded, trits);
+                        Answer::Sat
+                    }
+                },
+            }
+        }
+    }
 }

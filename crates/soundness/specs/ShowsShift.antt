@@ -1,16 +1,191 @@
--- Passed on from the crate smt, where the model and what is proved of its terms stand together.
-pub use Rattle.smt.specs.ShowsShift.{
-  getD-pad,
-  shl-at,
-  lshr-at,
-  ashr-at,
-  top-pad,
-  stride-fits,
-  anyX-zeros,
-  by-number,
-  moved-shows,
-  shl-lanes,
-  lshr-lanes,
-  ashr-lanes,
-  xshr-lanes,
-}
+-- The shifts show their rules: QF_BV's three shifts bit by bit, the places to shift by as a number that does not overflow at
+-- prepare_shift's width, and a value extended by its fill.
+use mathlib.Core.Path.{_≡_, refl, sym, ap, ap₂, _∙_}
+use mathlib.Core.Bool.{Bool, true, false, not, cond, _&&_, _||_, Bool·not-not}
+use mathlib.Core.List.{List, [], _∷_, _++_, map}
+use Prim.Native.Nat.{ℕ, zero, suc, _+_, _-_, _*_, _/_, _%_, _^_, _≤_, _<_, max}
+use native.Mathlib.Nat.{pow-suc, mul-le-mul, mod-eq-of-lt, add-comm}
+use native.Mathlib.Omega.{arith}
+use lib.Dec.{ltb}
+use borrow.Author.Tests.{ltb-true, ltb-false}
+use lib.ListN.{length, getD, take, drop, replicate, length-append, length-replicate, length-map, List·getD-append, List·getD-eq-default, List·getD-map, getD-replicate}
+use lib.Seq.{getD-take, getD-drop, getD-append-add, length-take-le}
+use lib.Pow.{pow-pos, pow-add, pow-mono}
+use Rattle.logic.specs.Table.{tab}
+use Rattle.logic.specs.Trit.{shows}
+use Rattle.logic.specs.declared.Trit.{Trit}
+use Rattle.logic.specs.declared.Trit.the-variants.{Zero, One, Undef}
+use Rattle.bitvec.specs.Bits.{Bits, bv2nat, nat2bv}
+use Rattle.bitvec.specs.Ops.{extract, bvnot, msb, bvshl, bvlshr, bvashr, bvmul}
+use Rattle.bitvec.specs.Laws.{length-bvnot, length-bvlshr, bv2nat-nat2bv, bv2nat-lt}
+use Rattle.bitvec.specs.Numbers.{bv2nat-bvmul}
+use Rattle.bitvec.specs.Shifts.{shl-list, lshr-list}
+use Rattle.rules.specs.Trits.{anyX, number, digit, isX}
+use Rattle.rules.specs.Rules as r
+use Rattle.smt.specs.Builder.{ones, ilog2, halvings, shiftWidth}
+use Rattle.soundness.specs.Formula.{TritBits, tb}
+use Rattle.soundness.specs.Shows.{Shown, empty, lane, shown-x, shown-y, shown-at, getD-any}
+use Rattle.soundness.specs.ShowsNumber.{number-defined, ones-shows, shown-tab}
+
+-- ---- the shifts, bit by bit
+
+-- What is filled up by the default reads as before.
+pub getD-pad : {A : Type 0} (l : List A) (m : ℕ) (d : A) (i : ℕ) → getD (l ++ replicate m d) i d ≡ getD l i d
+getD-pad [] zero d i = refl
+getD-pad [] (suc m) d zero = refl
+getD-pad [] (suc m) d (suc i) = getD-pad [] m d i
+getD-pad (a ∷ l) m d zero = refl
+getD-pad (a ∷ l) m d (suc i) = getD-pad l m d i
+
+pub shl-at : (s t : Bits) (i : ℕ) → i < length s
+    → getD (bvshl s t) i false ≡ cond (ltb i (bv2nat t)) false (getD s (i - bv2nat t) false)
+shl-at s t i h = rw (shl-list (length s) (bv2nat t) s (omega arith), getD-take (length s) (replicate (bv2nat t) false ++ s) i false h)
+    (go (bv2nat t))
+  where
+    go : (k : ℕ) → getD (replicate k false ++ s) i false ≡ cond (ltb i k) false (getD s (i - k) false)
+    go k = by (ltb i k) refl
+      where
+        by : (b : Bool) → ltb i k ≡ b → getD (replicate k false ++ s) i false ≡ cond b false (getD s (i - k) false)
+        by true e =
+            let l : i < k = omega (arith, ltb-true i k e) in
+            List·getD-append (replicate k false) s false i (rw (length-replicate k false) l) ∙ getD-replicate k i false false l
+        by false e =
+            let l : k ≤ i = omega (arith, ltb-false i k e) in
+            ap (λ (j : ℕ). getD (replicate k false ++ s) j false) (at-k l) ∙ getD-append-add (replicate k false) s (i - k) false
+          where
+            at-k : k ≤ i → i ≡ length (replicate k false) + (i - k)
+            at-k l = rw (length-replicate k false) (omega arith)
+
+pub lshr-at : (s t : Bits) (i : ℕ) → getD (bvlshr s t) i false ≡ getD s (i + bv2nat t) false
+lshr-at s t i =
+    rw (
+      lshr-list (bv2nat t) s,
+      getD-pad (drop (bv2nat t) s) (length s - length (drop (bv2nat t) s)) false i,
+      getD-drop (bv2nat t) s i false,
+      add-comm i (bv2nat t),
+    )
+
+pub ashr-at : (s t : Bits) (i : ℕ) → i < length s → getD (bvashr s t) i false ≡ getD s (i + bv2nat t) (msb s)
+ashr-at s t i h = go (msb s)
+  where
+    go : (b : Bool) → getD (cond b (bvnot (bvlshr (bvnot s) t)) (bvlshr s t)) i false ≡ getD s (i + bv2nat t) b
+    go true =
+        getD-any (bvnot (bvlshr (bvnot s) t)) i false true
+        (rw (length-bvnot (bvlshr (bvnot s) t), length-bvlshr (bvnot s) t, length-bvnot s) h)
+        ∙ List·getD-map not (bvlshr (bvnot s) t) i false ∙ ap not (lshr-at (bvnot s) t i)
+        ∙ ap not (List·getD-map not s (i + bv2nat t) true) ∙ Bool·not-not (getD s (i + bv2nat t) true)
+    go false = lshr-at s t i
+
+-- The top bit of a vector filled up with a bit that is its top bit.
+pub msb-pad : (s : Bits) (m : ℕ) (d : Bool) → 0 < length s → getD s (length s - 1) false ≡ d → msb (s ++ replicate m d) ≡ d
+msb-pad s m d some e =
+    rw (length-append s (replicate m d), length-replicate m d)
+    (getD-any (s ++ replicate m d) (length s + m - 1) false d (simp (length-append, length-replicate) (omega arith))
+    ∙ getD-pad s m d (length s + m - 1) ∙ go m)
+  where
+    go : (m : ℕ) → getD s (length s + m - 1) d ≡ d
+    go zero = ap (λ (j : ℕ). getD s j d) same-place ∙ getD-any s (length s - 1) d false (omega arith) ∙ e
+      where
+        same-place : length s + 0 - 1 ≡ length s - 1
+        same-place = omega arith
+    go (suc m) = List·getD-eq-default s d {n = length s + suc m - 1} (omega arith)
+
+-- ---- the places to shift by
+
+-- A number is below the power of two after its logarithm.
+halved : (more n : ℕ) → n ≤ more → n < 2 ^ suc (halvings more n)
+unfolding halvings
+halved zero n h = omega arith
+halved (suc more) n h = by (halved more (n / 2)) (ltb n 2) refl
+  where
+    by : (n / 2 ≤ more → n / 2 < 2 ^ suc (halvings more (n / 2))) → (b : Bool) → ltb n 2 ≡ b
+        → n < 2 ^ suc (cond b 0 (suc (halvings more (n / 2))))
+    by half true e = omega (arith, ltb-true n 2 e)
+    by half false e =
+        let l : 2 ≤ n = omega (arith, ltb-false n 2 e) in
+        rw (pow-suc 2 (suc (halvings more (n / 2)))) (omega (arith, half (omega arith)))
+
+pub stride-fits : (stride m w : ℕ) → m + ilog2 (max stride 1) + 1 ≤ w → stride * 2 ^ m < 2 ^ w
+stride-fits stride m w h =
+    let l = ilog2 (max stride 1) in
+    let a = halved (max stride 1) (max stride 1) (omega arith) in
+    let b = mul-le-mul {n₁ = stride + 1} {m₁ = 2 ^ m} {n₂ = 2 ^ suc l} {m₂ = 2 ^ m} (omega arith) (omega arith) in
+    let c : 2 ^ (suc l + m) ≤ 2 ^ w = pow-mono (omega arith) in
+    let p = pow-pos m in
+    omega (arith, pow-add 2 (suc l) m)
+
+number-lt : (us : List Trit) → number us < 2 ^ length us
+unfolding number
+number-lt [] = omega arith
+number-lt (Zero ∷ us) = let h = number-lt us in rw (pow-suc 2 (length us)) (omega arith)
+number-lt (One ∷ us) = let h = number-lt us in rw (pow-suc 2 (length us)) (omega arith)
+number-lt (Undef ∷ us) = let h = number-lt us in rw (pow-suc 2 (length us)) (omega arith)
+
+-- Zeros on top change neither the number nor whether there is an X.
+number-zeros : (us : List Trit) (k : ℕ) → number (us ++ replicate k Zero) ≡ number us
+unfolding number
+number-zeros [] zero = refl
+number-zeros [] (suc k) = rw (number-zeros [] k)
+number-zeros (u ∷ us) k = rw (number-zeros us k)
+
+anyX-zeros : (us : List Trit) (k : ℕ) → anyX (us ++ replicate k Zero) ≡ anyX us
+unfolding anyX
+anyX-zeros [] zero = refl
+anyX-zeros [] (suc k) = anyX-zeros [] k
+anyX-zeros (u ∷ us) k = rw (anyX-zeros us k)
+
+-- amount × stride does not overflow at prepare_shift's width.
+pub by-number : (w : ℕ) (x y : Bits) (us : List Trit) (k stride : ℕ) → Shown w x y (us ++ replicate k Zero)
+    → length us + ilog2 (max stride 1) + 1 ≤ w → anyX us ≡ false → bv2nat (bvmul y (nat2bv w stride)) ≡ number us * stride
+by-number w x y us k stride p h e =
+    bv2nat-bvmul y (nat2bv w stride)
+    ∙ rw (shown-y p, bv2nat-nat2bv w stride, mod-eq-of-lt stride-lt, amount-is)
+    (mod-eq-of-lt product-lt)
+  where
+    amount-is : bv2nat y ≡ number us
+    amount-is = sym (number-defined p (anyX-zeros us k ∙ e)) ∙ number-zeros us k
+
+    fits : stride * 2 ^ length us < 2 ^ w
+    fits = stride-fits stride (length us) w h
+
+    stride-lt : stride < 2 ^ w
+    stride-lt =
+        let a = mul-le-mul {n₁ = stride} {m₁ = 1} {n₂ = stride} {m₂ = 2 ^ length us} (omega arith) (omega (arith, pow-pos (length us))) in
+        let b = fits in
+        omega arith
+
+    product-lt : number us * stride < 2 ^ w
+    product-lt =
+        let l = number-lt us in
+        let a = mul-le-mul {n₁ = number us} {m₁ = stride} {n₂ = 2 ^ length us} {m₂ = stride} (omega arith) (omega arith) in
+        let b = fits in
+        omega arith
+
+-- ---- what is cut out of the shifted vectors
+
+extract-low : (n : ℕ) (s : Bits) → 0 < n → extract (n - 1) 0 s ≡ take n s
+extract-low n s h = ap (λ (k : ℕ). take k s) all-low
+  where
+    all-low : suc (n - 1) - 0 ≡ n
+    all-low = omega arith
+
+-- The n low bits of the shifted x and y, or all X where the amount has one.
+pub moved-shows : (n w : ℕ) (p q : Bits) (u : Bool) (f : ℕ → Trit) → 0 < n → n ≤ w → length p ≡ w → length q ≡ w
+    → (u ≡ false → (i : ℕ) → i < n → shows (getD p i false) (getD q i false) ≡ f i)
+    → Shown n (extract (n - 1) 0 (cond (not u) p (ones w))) (extract (n - 1) 0 q) (cond u (replicate n Undef) (tab n f))
+moved-shows n w p q u f some le lp lq h = rw (extract-low n (cond (not u) p (ones w)) some, extract-low n q some) (go u h)
+  where
+    cut : (s : Bits) → length s ≡ w → length (take n s) ≡ n
+    cut s e = length-take-le n s (omega arith)
+
+    all-ones : (n w : ℕ) → n ≤ w → take n (ones w) ≡ ones n
+    all-ones zero w l = refl
+    all-ones (suc n) zero l = absurd (omega arith)
+    all-ones (suc n) (suc w) l = ap (λ (r : Bits). true ∷ r) (all-ones n w (omega arith))
+
+    go : (u : Bool) → (u ≡ false → (i : ℕ) → i < n → shows (getD p i false) (getD q i false) ≡ f i)
+        → Shown n (take n (cond (not u) p (ones w))) (take n q) (cond u (replicate n Undef) (tab n f))
+    go true h = rw (all-ones n w le) (ones-shows n (take n q) (cut q lq))
+    go false h =
+        shown-tab n (take n p) (take n q) f (cut p lp) (cut q lq)
+        λ i l. rw (getD-take n p i false l, getD-take n q i false l) (h refl i l)

@@ -29,6 +29,9 @@ returns-3 c =
       eq-eqb _ _ (c .if3 .taken),
     )
 
+second-at-requires : tie.Need-second-at-requires
+second-at-requires c κs = search needs
+
 returns-4 : tie.Need-returns-4
 unfolding leadingAt firstAt
 returns-4 c =

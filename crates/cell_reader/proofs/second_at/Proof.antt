@@ -13,6 +13,9 @@ returns c =
       eq-eqb _ _ (c .if1 .taken),
     )
 
+third-at-requires : tie.Need-third-at-requires
+third-at-requires c κs = search needs
+
 returns-2 : tie.Need-returns-2
 unfolding secondAt
 returns-2 c =

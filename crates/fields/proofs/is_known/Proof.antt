@@ -13,6 +13,9 @@ returns-2 c =
       eq-eqb _ _ (c .if2 .taken),
     )
 
+cast-result : tie.Need-cast-result
+cast-result c = search needs
+
 returns-3 : tie.Need-returns-3
 returns-3 c =
     rw (

@@ -1,0 +1,48 @@
+-- `script::put_assert` meets its contract: the pieces in their order. Assumes nothing.
+use borrow.Author.Needs.{needs}
+use Rattle.text.specs.Write.{wrote-then}
+use Rattle.script.proofs.put_assert.Statement.{statement}
+use Rattle.script.proofs.put_assert.Tie as tie
+
+slice-aggregate-put-bytes : tie.Need-slice-aggregate-put-bytes
+slice-aggregate-put-bytes c = search needs
+
+put-bytes-requires : tie.Need-put-bytes-requires
+put-bytes-requires c κs = search needs
+
+term-argument-requires : tie.Need-term-argument-requires
+term-argument-requires c κs = search needs
+
+put-reference-requires : tie.Need-put-reference-requires
+put-reference-requires c κs = search needs
+
+slice-aggregate-put-bytes-2 : tie.Need-slice-aggregate-put-bytes-2
+slice-aggregate-put-bytes-2 c = search needs
+
+put-bytes-requires-2 : tie.Need-put-bytes-requires-2
+put-bytes-requires-2 c κs = search needs
+
+same-length : tie.Need-same-length
+same-length c = search needs
+
+returns : tie.Need-returns
+returns c =
+    let closed = c .before .before in
+    let term = closed .before .before .before .before .before in
+    let opened = term .before .before .before .before .before in
+    let start = opened .before .before .before .before .before in
+    let short = start .good .0 .0 in
+    wrote-then short (wrote-then short (opened .put-bytes .ensures) (rw (term .before .term-argument .ensures) at (term .put-reference .ensures))) (closed .put-bytes2 .ensures)
+
+pub put-assert-spec : {M : Type 1} → statement M
+put-assert-spec =
+    tie.close
+    (tie.spec
+    slice-aggregate-put-bytes
+    put-bytes-requires
+    term-argument-requires
+    put-reference-requires
+    slice-aggregate-put-bytes-2
+    put-bytes-requires-2
+    same-length
+    returns)

@@ -1,0 +1,72 @@
+-- The line of a record: what the code writes at a place, after some records.
+use mathlib.Core.Path.{_≡_, refl, sym, ap, _∙_}
+use mathlib.Core.Bool.{Bool, true, false, cond}
+use mathlib.Core.List.{List, [], _∷_, _++_}
+use Prim.Native.Nat.{ℕ, zero, suc, _+_, _-_, _%_, _<_, _≤_}
+use lib.Dec.{eqb}
+use lib.ListN.{length, getD}
+use borrow.Author.Tests.{ne-eqb}
+use Rattle.logic.specs.Word.{payloadOf}
+use Rattle.engine.specs.Encode.{opOf, operationAt, countAt, callAt}
+use Rattle.terms.specs.Made.{made, sortsOf, sortOfCall}
+use Rattle.terms.specs.Find.{firstCalls}
+use Rattle.terms.specs.Sort.{payloads}
+use Rattle.script.specs.Text.{reference, applied, line}
+use Rattle.script.specs.Pieces.{argumentTexts}
+use Rattle.script.specs.Literal.{LiteralFits}
+use Rattle.text.specs.Bytes.{ascii}
+use Rattle.script.specs.Shape.{shapeOf, arityOf, operationText, nameOf, bodyBy, defineLine, declareLine, assertLine, lineBy, line-by}
+
+abbrev pub shapeAt : List ℕ → ℕ → ℕ
+shapeAt w head = shapeOf (operationAt w head)
+
+-- The text of the term that the record at a place makes.
+abbrev pub bodyAt : List ℕ → ℕ → ℕ → List ℕ
+bodyAt w records head = bodyBy (shapeAt w head) (reference (firstCalls w records)) (operationAt w head) (countAt w head) (payloads w head)
+
+-- The shape as the code finds it.
+pub shape-at : (w : List ℕ) (head : ℕ) {op shape : ℕ} → op ≡ payloadOf (getD w head 0) % 32 → shape ≡ shapeOf (opOf op) → shapeAt w head ≡ shape
+shape-at w head is-op is-shape = rw (is-shape, is-op)
+
+-- Any other term is an application.
+pub body-applied : (w : List ℕ) (records head : ℕ) → (shapeAt w head ≡ 1 → ⊥) → (shapeAt w head ≡ 2 → ⊥) → (shapeAt w head ≡ 3 → ⊥)
+    → (shapeAt w head ≡ 4 → ⊥)
+    → bodyAt w records head ≡ applied (operationText (operationAt w head)) (argumentTexts w records head (arityOf (operationAt w head)))
+body-applied w records head one two three four =
+    rw (ne-eqb (shapeAt w head) 1 one, ne-eqb (shapeAt w head) 2 two, ne-eqb (shapeAt w head) 3 three, ne-eqb (shapeAt w head) 4 four)
+
+-- What the writer needs of a record: a literal's numbers are of 16 bits, and a term has a sort.
+pub record Ready (w : List ℕ) (records head : ℕ) : Type 0 where
+  pub literal : shapeAt w head ≡ 3 → LiteralFits w head
+  pub sort : sortOfCall (sortsOf (firstCalls w records)) (callAt w head) ≤ 65
+
+-- The line of the record at a place, after some records that make some terms.
+abbrev pub defineAt : List ℕ → ℕ → ℕ → ℕ → List ℕ
+defineAt w records head term = defineLine term (sortOfCall (sortsOf (firstCalls w records)) (callAt w head)) (bodyAt w records head)
+
+abbrev pub declareAt : List ℕ → ℕ → List ℕ
+declareAt w head = declareLine (nameOf (payloads w head)) (payloads w head 3)
+
+abbrev pub assertAt : List ℕ → ℕ → ℕ → List ℕ
+assertAt w records head = assertLine (reference (firstCalls w records) (payloads w head 0))
+
+abbrev pub lineAt : List ℕ → ℕ → ℕ → List ℕ
+lineAt w records head = line (firstCalls w records) (callAt w head)
+
+module _ (w : List ℕ) (records head : ℕ) where
+  by-shape : lineAt w records head ≡ lineBy (shapeAt w head) (firstCalls w records) (operationAt w head) (countAt w head) (payloads w head)
+  by-shape = line-by (operationAt w head) (countAt w head) (payloads w head) (firstCalls w records)
+
+  pub line-declared : shapeAt w head ≡ 5 → lineAt w records head ≡ declareAt w head
+  line-declared e = by-shape ∙ rw e
+
+  pub line-asserted : shapeAt w head ≡ 6 → lineAt w records head ≡ assertAt w records head
+  line-asserted e = by-shape ∙ rw e
+
+  pub line-checked : shapeAt w head ≡ 7 → lineAt w records head ≡ ascii "(check-sat)\n"
+  line-checked e = by-shape ∙ rw e
+
+  pub line-defined : (term : ℕ) → term ≡ length (made (firstCalls w records)) → (shapeAt w head ≡ 5 → ⊥) → (shapeAt w head ≡ 6 → ⊥)
+      → (shapeAt w head ≡ 7 → ⊥) → lineAt w records head ≡ defineAt w records head term
+  line-defined term many five six seven =
+      by-shape ∙ rw (ne-eqb (shapeAt w head) 5 five, ne-eqb (shapeAt w head) 6 six, ne-eqb (shapeAt w head) 7 seven, many)
