@@ -1,3 +1,4 @@
+-- `fields::is_known` meets its contract: its tests are the definition's, in order. Assumes nothing.
 use borrow.Author.Tests.{lt-ltb, le-ltb, eq-eqb, ne-eqb}
 use borrow.Author.Needs.{needs}
 use Rattle.fields.proofs.is_known.Statement.{statement}
