@@ -1,3 +1,4 @@
+-- `cell_reader::record_at` meets its contract: each answer rewrites the definition by the tests and calls that lead to it. Assumes nothing.
 use Rattle.cell_reader.specs.Record.{recordAt}
 use borrow.Author.Needs.{needs}
 use Rattle.cell_reader.proofs.record_at.Statement.{statement}
@@ -14,9 +15,11 @@ returns c =
 returns-2 : tie.Need-returns-2
 unfolding recordAt
 returns-2 c =
+    let at-op = c .before .before in
+    let at-head-at = at-op .before .before in
     rw (
-      ← c .before .before .before .before .head-at .ensures,
-      c .before .before .op .given .1,
+      ← at-head-at .head-at .ensures,
+      at-op .op .given .1,
       ← c .contents-at .ensures,
     )
 

@@ -1,3 +1,4 @@
+-- `cell_reader::second_at` meets its contract: each answer rewrites the definition by the tests and calls that lead to it. Assumes nothing.
 use borrow.Author.Tests.{eq-eqb, ne-eqb}
 use Rattle.cell_reader.specs.Record.{secondAt}
 use borrow.Author.Needs.{needs}
@@ -7,14 +8,13 @@ use Rattle.cell_reader.proofs.second_at.Tie as tie
 returns : tie.Need-returns
 unfolding secondAt
 returns c =
+    let at-m = c .before .before .before in
+    let at-number-at = at-m .before .before in
     rw (
-      ← c .before .before .before .before .before .number-at .ensures,
-      c .before .before .before .m .given .1,
+      ← at-number-at .number-at .ensures,
+      at-m .m .given .1,
       eq-eqb _ _ (c .if1 .taken),
     )
-
-third-at-requires : tie.Need-third-at-requires
-third-at-requires c κs = search needs
 
 returns-2 : tie.Need-returns-2
 unfolding secondAt
@@ -27,10 +27,13 @@ returns-2 c =
 returns-3 : tie.Need-returns-3
 unfolding secondAt
 returns-3 c =
+    let at-if1 = c .before in
+    let at-m = at-if1 .before .before .before in
+    let at-number-at = at-m .before .before in
     rw (
-      ← c .before .before .before .before .before .before .number-at .ensures,
-      c .before .before .before .before .m .given .1,
-      ne-eqb _ _ (c .before .if1 .left),
+      ← at-number-at .number-at .ensures,
+      at-m .m .given .1,
+      ne-eqb _ _ (at-if1 .if1 .left),
       ← c .third-at .ensures,
     )
 

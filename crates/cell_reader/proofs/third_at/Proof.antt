@@ -1,3 +1,4 @@
+-- `cell_reader::third_at` meets its contract: each answer rewrites the definition by the tests and calls that lead to it. Assumes nothing.
 use borrow.Author.Tests.{lt-ltb, le-ltb}
 use Rattle.cell_reader.specs.Record.{thirdAt}
 use borrow.Author.Needs.{needs}
@@ -7,20 +8,26 @@ use Rattle.cell_reader.proofs.third_at.Tie as tie
 returns : tie.Need-returns
 unfolding thirdAt
 returns c =
+    let at-if1 = c .before in
+    let at-offset = at-if1 .before .before in
+    let at-number-at = at-offset .before .before in
     rw (
-      ← c .before .before .before .before .before .number-at .ensures,
-      c .before .before .before .offset .given .1,
-      c .before .if1 .taken,
+      ← at-number-at .number-at .ensures,
+      at-offset .offset .given .1,
+      at-if1 .if1 .taken,
       lt-ltb _ _ (c .if2 .taken),
     )
 
 returns-2 : tie.Need-returns-2
 unfolding thirdAt
 returns-2 c =
+    let at-if1 = c .before in
+    let at-offset = at-if1 .before .before in
+    let at-number-at = at-offset .before .before in
     rw (
-      ← c .before .before .before .before .before .number-at .ensures,
-      c .before .before .before .offset .given .1,
-      c .before .if1 .taken,
+      ← at-number-at .number-at .ensures,
+      at-offset .offset .given .1,
+      at-if1 .if1 .taken,
       le-ltb _ _ (c .if2 .left),
     )
 
@@ -35,9 +42,11 @@ returns-3 c =
 returns-4 : tie.Need-returns-4
 unfolding thirdAt
 returns-4 c =
+    let at-offset = c .before .before in
+    let at-number-at = at-offset .before .before in
     rw (
-      ← c .before .before .before .before .number-at .ensures,
-      c .before .before .offset .given .1,
+      ← at-number-at .number-at .ensures,
+      at-offset .offset .given .1,
       c .if1 .left,
     )
 

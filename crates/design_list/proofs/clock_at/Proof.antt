@@ -1,3 +1,4 @@
+-- `design_list::clock_at` meets its contract: each answer rewrites the definition by the tests and calls that lead to it. Assumes nothing.
 use Rattle.design_list.specs.Voids.{clockAt}
 use borrow.Author.Tests.{eq-eqb, ne-eqb}
 use borrow.Author.Needs.{needs}
@@ -7,11 +8,15 @@ use Rattle.design_list.proofs.clock_at.Tie as tie
 returns : tie.Need-returns
 unfolding clockAt
 returns c =
+    let at-standing-of = c .before in
+    let at-op = at-standing-of .before .before in
+    let at-operation-of = at-op .before .before in
+    let at-word-at = at-operation-of .before in
     rw (
-      ← c .before .before .before .before .before .before .word-at .ensures,
-      ← c .before .before .before .before .before .operation-of .ensures,
-      c .before .before .before .op .given .1,
-      ← c .before .standing-of .ensures,
+      ← at-word-at .word-at .ensures,
+      ← at-operation-of .operation-of .ensures,
+      at-op .op .given .1,
+      ← at-standing-of .standing-of .ensures,
       eq-eqb _ _ (c .if1 .taken),
     )
 
@@ -27,11 +32,15 @@ returns-2 c =
 returns-3 : tie.Need-returns-3
 unfolding clockAt
 returns-3 c =
+    let at-standing-of = c .before in
+    let at-op = at-standing-of .before .before in
+    let at-operation-of = at-op .before .before in
+    let at-word-at = at-operation-of .before in
     rw (
-      ← c .before .before .before .before .before .before .word-at .ensures,
-      ← c .before .before .before .before .before .operation-of .ensures,
-      c .before .before .before .op .given .1,
-      ← c .before .standing-of .ensures,
+      ← at-word-at .word-at .ensures,
+      ← at-operation-of .operation-of .ensures,
+      at-op .op .given .1,
+      ← at-standing-of .standing-of .ensures,
       ne-eqb _ _ (c .if1 .left),
     )
 

@@ -1,3 +1,4 @@
+-- `design_list::counts_at` meets its contract: each answer rewrites the definition by the tests and calls that lead to it. Assumes nothing.
 use Rattle.design_list.specs.Items.{countsAt}
 use borrow.Author.Needs.{needs}
 use Rattle.design_list.proofs.counts_at.Statement.{statement}
@@ -14,21 +15,29 @@ returns c =
 returns-2 : tie.Need-returns-2
 unfolding countsAt
 returns-2 c =
+    let at-f2 = c .before in
+    let at-number-at2 = at-f2 .before .before in
+    let at-cellreps = at-number-at2 .before .before in
+    let at-number-at = at-cellreps .before .before in
     rw (
-      ← c .before .before .before .before .before .before .before .number-at .ensures,
-      c .before .before .before .before .before .cellreps .given .1,
-      ← c .before .before .before .number-at2 .ensures,
-      c .before .f2 .given .1,
+      ← at-number-at .number-at .ensures,
+      at-cellreps .cellreps .given .1,
+      ← at-number-at2 .number-at2 .ensures,
+      at-f2 .f2 .given .1,
     )
 
 returns-3 : tie.Need-returns-3
 unfolding countsAt
 returns-3 c =
+    let at-netreps = c .before in
+    let at-number-at2 = at-netreps .before .before in
+    let at-cellreps = at-number-at2 .before .before in
+    let at-number-at = at-cellreps .before .before in
     rw (
-      ← c .before .before .before .before .before .before .before .number-at .ensures,
-      c .before .before .before .before .before .cellreps .given .1,
-      ← c .before .before .before .number-at2 .ensures,
-      c .before .netreps .given .1,
+      ← at-number-at .number-at .ensures,
+      at-cellreps .cellreps .given .1,
+      ← at-number-at2 .number-at2 .ensures,
+      at-netreps .netreps .given .1,
     )
 
 pub counts-at-spec : {M : Type 1} → statement M

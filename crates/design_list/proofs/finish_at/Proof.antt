@@ -1,3 +1,4 @@
+-- `design_list::finish_at` meets its contract: each answer rewrites the definition by the tests and calls that lead to it. Assumes nothing.
 use borrow.Author.Tests.{eq-eqb, ne-eqb}
 use Rattle.design_list.specs.Items.{finishAt}
 use Rattle.design_list.proofs.finish_at.Statement.{statement}

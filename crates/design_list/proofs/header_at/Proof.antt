@@ -23,21 +23,29 @@ returns c =
 returns-2 : tie.Need-returns-2
 unfolding headerAt
 returns-2 c =
+    let at-f2 = c .before in
+    let at-number-at2 = at-f2 .before .before in
+    let at-base = at-number-at2 .before .before in
+    let at-number-at = at-base .before .before in
     rw (
-      ← c .before .before .before .before .before .before .before .number-at .ensures,
-      c .before .before .before .before .before .base .given .1,
-      ← c .before .before .before .number-at2 .ensures,
-      c .before .f2 .given .1,
+      ← at-number-at .number-at .ensures,
+      at-base .base .given .1,
+      ← at-number-at2 .number-at2 .ensures,
+      at-f2 .f2 .given .1,
     )
 
 returns-3 : tie.Need-returns-3
 unfolding headerAt
 returns-3 c =
+    let at-added = c .before .before in
+    let at-number-at2 = at-added .before .before in
+    let at-base = at-number-at2 .before .before in
+    let at-number-at = at-base .before .before in
     rw (
-      ← c .before .before .before .before .before .before .before .before .number-at .ensures,
-      c .before .before .before .before .before .before .base .given .1,
-      ← c .before .before .before .before .number-at2 .ensures,
-      c .before .before .added .given .1,
+      ← at-number-at .number-at .ensures,
+      at-base .base .given .1,
+      ← at-number-at2 .number-at2 .ensures,
+      at-added .added .given .1,
       ← c .counts-at .ensures,
     )
 

@@ -1,3 +1,4 @@
+-- `design_list::heads` meets its contract: each answer rewrites the definition by the tests and calls that lead to it. Assumes nothing.
 use borrow.Author.Tests.{lt-ltb, le-ltb, eq-eqb, ne-eqb}
 use Rattle.design_list.specs.Marks.{headsIn}
 use borrow.Author.Needs.{needs}

@@ -1,3 +1,4 @@
+-- `design_list::item_voids_at` meets its contract: each answer rewrites the definition by the tests and calls that lead to it. Assumes nothing.
 use borrow.Author.Needs.{needs}
 use Rattle.design_list.proofs.item_voids_at.Statement.{statement}
 use Rattle.design_list.proofs.item_voids_at.Tie as tie

@@ -1,3 +1,4 @@
+-- `design_list::limit_of` meets its contract: each answer rewrites the definition by the tests and calls that lead to it. Assumes nothing.
 use borrow.Author.Tests.{lt-ltb, le-ltb}
 use Rattle.design_list.proofs.limit_of.Statement.{statement}
 use Rattle.design_list.proofs.limit_of.Tie as tie

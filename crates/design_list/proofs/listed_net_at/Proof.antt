@@ -1,3 +1,4 @@
+-- `design_list::listed_net_at` meets its contract: each answer rewrites the definition by the tests and calls that lead to it. Assumes nothing.
 use borrow.Author.Tests.{lt-ltb, le-ltb}
 use Rattle.design_list.specs.Items.{listedNetAt}
 use borrow.Author.Needs.{needs}

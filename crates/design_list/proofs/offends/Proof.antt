@@ -1,3 +1,4 @@
+-- `design_list::offends` meets its contract: each answer rewrites the definition by the tests and calls that lead to it. Assumes nothing.
 use borrow.Author.Tests.{le-leb, lt-leb, eq-eqb, ne-eqb}
 use Rattle.design_list.specs.Voids.{offends}
 use borrow.Author.Needs.{needs}

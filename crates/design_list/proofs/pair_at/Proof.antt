@@ -1,3 +1,4 @@
+-- `design_list::pair_at` meets its contract: each answer rewrites the definition by the tests and calls that lead to it. Assumes nothing.
 use borrow.Author.Tests.{le-leb, lt-leb}
 use Rattle.design_list.specs.Items.{pairAt}
 use borrow.Author.Needs.{needs}
@@ -7,12 +8,17 @@ use Rattle.design_list.proofs.pair_at.Tie as tie
 returns : tie.Need-returns
 unfolding pairAt
 returns c =
+    let at-word-at = c .before in
+    let at-next = at-word-at .before .before in
+    let at-listed-net-at2 = at-next .before .before in
+    let at-to = at-listed-net-at2 .before .before in
+    let at-listed-net-at = at-to .before .before in
     rw (
-      ← c .before .before .before .before .before .before .before .before .before .listed-net-at .ensures,
-      c .before .before .before .before .before .before .before .to .given .1,
-      ← c .before .before .before .before .before .listed-net-at2 .ensures,
-      c .before .before .before .next .given .1,
-      ← c .before .word-at .ensures,
+      ← at-listed-net-at .listed-net-at .ensures,
+      at-to .to .given .1,
+      ← at-listed-net-at2 .listed-net-at2 .ensures,
+      at-next .next .given .1,
+      ← at-word-at .word-at .ensures,
       le-leb _ _ (c .if1 .taken),
     )
 
@@ -27,22 +33,31 @@ returns-2 c =
 returns-3 : tie.Need-returns-3
 unfolding pairAt
 returns-3 c =
+    let at-f2 = c .before in
+    let at-listed-net-at2 = at-f2 .before .before in
+    let at-to = at-listed-net-at2 .before .before in
+    let at-listed-net-at = at-to .before .before in
     rw (
-      ← c .before .before .before .before .before .before .before .listed-net-at .ensures,
-      c .before .before .before .before .before .to .given .1,
-      ← c .before .before .before .listed-net-at2 .ensures,
-      c .before .f2 .given .1,
+      ← at-listed-net-at .listed-net-at .ensures,
+      at-to .to .given .1,
+      ← at-listed-net-at2 .listed-net-at2 .ensures,
+      at-f2 .f2 .given .1,
     )
 
 returns-4 : tie.Need-returns-4
 unfolding pairAt
 returns-4 c =
+    let at-word-at = c .before in
+    let at-next = at-word-at .before .before in
+    let at-listed-net-at2 = at-next .before .before in
+    let at-to = at-listed-net-at2 .before .before in
+    let at-listed-net-at = at-to .before .before in
     rw (
-      ← c .before .before .before .before .before .before .before .before .before .listed-net-at .ensures,
-      c .before .before .before .before .before .before .before .to .given .1,
-      ← c .before .before .before .before .before .listed-net-at2 .ensures,
-      c .before .before .before .next .given .1,
-      ← c .before .word-at .ensures,
+      ← at-listed-net-at .listed-net-at .ensures,
+      at-to .to .given .1,
+      ← at-listed-net-at2 .listed-net-at2 .ensures,
+      at-next .next .given .1,
+      ← at-word-at .word-at .ensures,
       lt-leb _ _ (c .if1 .left),
     )
 

@@ -25,22 +25,30 @@ returns c =
 returns-2 : tie.Need-returns-2
 unfolding placedAt
 returns-2 c =
+    let at-limit-of = c .before in
+    let at-slots-of = at-limit-of .before in
+    let at-op = at-slots-of .before .before in
+    let at-record-at = at-op .before .before in
     rw (
-      ← c .before .before .before .before .before .before .record-at .ensures,
-      c .before .before .before .before .op .given .1,
-      ← c .before .before .slots-of .ensures,
-      ← c .before .limit-of .ensures,
+      ← at-record-at .record-at .ensures,
+      at-op .op .given .1,
+      ← at-slots-of .slots-of .ensures,
+      ← at-limit-of .limit-of .ensures,
       le-leb _ _ (c .if1 .taken),
     )
 
 returns-3 : tie.Need-returns-3
 unfolding placedAt
 returns-3 c =
+    let at-limit-of = c .before in
+    let at-slots-of = at-limit-of .before in
+    let at-op = at-slots-of .before .before in
+    let at-record-at = at-op .before .before in
     rw (
-      ← c .before .before .before .before .before .before .record-at .ensures,
-      c .before .before .before .before .op .given .1,
-      ← c .before .before .slots-of .ensures,
-      ← c .before .limit-of .ensures,
+      ← at-record-at .record-at .ensures,
+      at-op .op .given .1,
+      ← at-slots-of .slots-of .ensures,
+      ← at-limit-of .limit-of .ensures,
       lt-leb _ _ (c .if1 .left),
     )
 

@@ -1,3 +1,4 @@
+-- `design_list::read_cell_reps` meets its contract: each answer rewrites the definition by the tests and calls that lead to it. Assumes nothing.
 use Rattle.design_list.specs.Answers.{cellRepsAnswer}
 use borrow.Author.Needs.{needs}
 use Rattle.design_list.proofs.read_cell_reps.Statement.{statement}
@@ -14,9 +15,11 @@ returns c =
 returns-2 : tie.Need-returns-2
 unfolding cellRepsAnswer
 returns-2 c =
+    let at-pairs = c .before .before in
+    let at-cell-reps-at = at-pairs .before .before in
     rw (
-      ← c .before .before .before .before .cell-reps-at .ensures,
-      c .before .before .pairs .given .1,
+      ← at-cell-reps-at .cell-reps-at .ensures,
+      at-pairs .pairs .given .1,
       ← c .read-net-reps .ensures,
     )
 

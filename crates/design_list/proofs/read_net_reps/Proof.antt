@@ -1,3 +1,4 @@
+-- `design_list::read_net_reps` meets its contract: each answer rewrites the definition by the tests and calls that lead to it. Assumes nothing.
 use Rattle.design_list.specs.Answers.{netRepsAnswer}
 use borrow.Author.Needs.{needs}
 use Rattle.design_list.proofs.read_net_reps.Statement.{statement}
@@ -14,34 +15,49 @@ returns c =
 returns-2 : tie.Need-returns-2
 unfolding netRepsAnswer
 returns-2 c =
+    let at-f2 = c .before in
+    let at-finish-at = at-f2 .before .before in
+    let at-next = at-finish-at .before .before in
+    let at-net-reps-at = at-next .before .before in
     rw (
-      ← c .before .before .before .before .before .before .before .net-reps-at .ensures,
-      c .before .before .before .before .before .next .given .1,
-      ← c .before .before .before .finish-at .ensures,
-      c .before .f2 .given .1,
+      ← at-net-reps-at .net-reps-at .ensures,
+      at-next .next .given .1,
+      ← at-finish-at .finish-at .ensures,
+      at-f2 .f2 .given .1,
     )
 
 returns-3 : tie.Need-returns-3
 unfolding netRepsAnswer
 returns-3 c =
+    let at-f3 = c .before in
+    let at-voids-at = at-f3 .before .before in
+    let at-enum-told = at-voids-at .before in
+    let at-finish-at = at-enum-told .before .before in
+    let at-next = at-finish-at .before .before in
+    let at-net-reps-at = at-next .before .before in
     rw (
-      ← c .before .before .before .before .before .before .before .before .before .before .net-reps-at .ensures,
-      c .before .before .before .before .before .before .before .before .next .given .1,
-      ← c .before .before .before .before .before .before .finish-at .ensures,
-      c .before .before .before .before .enum-told .given .1,
-      ← c .before .before .before .voids-at .ensures,
-      c .before .f3 .given .1,
+      ← at-net-reps-at .net-reps-at .ensures,
+      at-next .next .given .1,
+      ← at-finish-at .finish-at .ensures,
+      at-enum-told .enum-told .given .1,
+      ← at-voids-at .voids-at .ensures,
+      at-f3 .f3 .given .1,
     )
 
 returns-4 : tie.Need-returns-4
 unfolding netRepsAnswer
 returns-4 c =
+    let at-voids-at = c .before .before in
+    let at-enum-told = at-voids-at .before in
+    let at-finish-at = at-enum-told .before .before in
+    let at-next = at-finish-at .before .before in
+    let at-net-reps-at = at-next .before .before in
     rw (
-      ← c .before .before .before .before .before .before .before .before .before .net-reps-at .ensures,
-      c .before .before .before .before .before .before .before .next .given .1,
-      ← c .before .before .before .before .before .finish-at .ensures,
-      c .before .before .before .enum-told .given .1,
-      ← c .before .before .voids-at .ensures,
+      ← at-net-reps-at .net-reps-at .ensures,
+      at-next .next .given .1,
+      ← at-finish-at .finish-at .ensures,
+      at-enum-told .enum-told .given .1,
+      ← at-voids-at .voids-at .ensures,
       c .enum-told2 .given .1,
     )
 

@@ -1,3 +1,4 @@
+-- `design_list::replacement_at` meets its contract: each answer rewrites the definition by the tests and calls that lead to it. Assumes nothing.
 use Rattle.design_list.specs.Items.{replacementAt}
 use borrow.Author.Needs.{needs}
 use Rattle.design_list.proofs.replacement_at.Statement.{statement}
@@ -6,12 +7,17 @@ use Rattle.design_list.proofs.replacement_at.Tie as tie
 returns : tie.Need-returns
 unfolding replacementAt
 returns c =
+    let at-replaces = c .before in
+    let at-op = at-replaces .before .before in
+    let at-record-at = at-op .before .before in
+    let at-slot = at-record-at .before .before in
+    let at-listed-number-at = at-slot .before .before in
     rw (
-      ← c .before .before .before .before .before .before .before .before .before .listed-number-at .ensures,
-      c .before .before .before .before .before .before .before .slot .given .1,
-      ← c .before .before .before .before .before .record-at .ensures,
-      c .before .before .before .op .given .1,
-      ← c .before .replaces .ensures,
+      ← at-listed-number-at .listed-number-at .ensures,
+      at-slot .slot .given .1,
+      ← at-record-at .record-at .ensures,
+      at-op .op .given .1,
+      ← at-replaces .replaces .ensures,
       c .if1 .taken,
     )
 
@@ -26,22 +32,31 @@ returns-2 c =
 returns-3 : tie.Need-returns-3
 unfolding replacementAt
 returns-3 c =
+    let at-f2 = c .before in
+    let at-record-at = at-f2 .before .before in
+    let at-slot = at-record-at .before .before in
+    let at-listed-number-at = at-slot .before .before in
     rw (
-      ← c .before .before .before .before .before .before .before .listed-number-at .ensures,
-      c .before .before .before .before .before .slot .given .1,
-      ← c .before .before .before .record-at .ensures,
-      c .before .f2 .given .1,
+      ← at-listed-number-at .listed-number-at .ensures,
+      at-slot .slot .given .1,
+      ← at-record-at .record-at .ensures,
+      at-f2 .f2 .given .1,
     )
 
 returns-4 : tie.Need-returns-4
 unfolding replacementAt
 returns-4 c =
+    let at-replaces = c .before in
+    let at-op = at-replaces .before .before in
+    let at-record-at = at-op .before .before in
+    let at-slot = at-record-at .before .before in
+    let at-listed-number-at = at-slot .before .before in
     rw (
-      ← c .before .before .before .before .before .before .before .before .before .listed-number-at .ensures,
-      c .before .before .before .before .before .before .before .slot .given .1,
-      ← c .before .before .before .before .before .record-at .ensures,
-      c .before .before .before .op .given .1,
-      ← c .before .replaces .ensures,
+      ← at-listed-number-at .listed-number-at .ensures,
+      at-slot .slot .given .1,
+      ← at-record-at .record-at .ensures,
+      at-op .op .given .1,
+      ← at-replaces .replaces .ensures,
       c .if1 .left,
     )
 

@@ -1,3 +1,4 @@
+-- `design_list::replaces` meets its contract: each answer rewrites the definition by the tests and calls that lead to it. Assumes nothing.
 use borrow.Author.Tests.{le-leb, lt-leb}
 use Rattle.design_list.specs.Items.{replaces}
 use borrow.Author.Needs.{needs}

@@ -1,3 +1,4 @@
+-- `design_list::voids_at` meets its contract: each answer rewrites the definition by the tests and calls that lead to it. Assumes nothing.
 use Rattle.design_list.specs.Voids.{voidsAt}
 use borrow.Author.Needs.{needs}
 use Rattle.design_list.proofs.voids_at.Statement.{statement}
@@ -14,21 +15,29 @@ returns c =
 returns-2 : tie.Need-returns-2
 unfolding voidsAt
 returns-2 c =
+    let at-f2 = c .before in
+    let at-items-voids-at2 = at-f2 .before .before in
+    let at-replacements = at-items-voids-at2 .before .before in
+    let at-items-voids-at = at-replacements .before .before in
     rw (
-      ← c .before .before .before .before .before .before .before .items-voids-at .ensures,
-      c .before .before .before .before .before .replacements .given .1,
-      ← c .before .before .before .items-voids-at2 .ensures,
-      c .before .f2 .given .1,
+      ← at-items-voids-at .items-voids-at .ensures,
+      at-replacements .replacements .given .1,
+      ← at-items-voids-at2 .items-voids-at2 .ensures,
+      at-f2 .f2 .given .1,
     )
 
 returns-3 : tie.Need-returns-3
 unfolding voidsAt
 returns-3 c =
+    let at-pairs = c .before .before in
+    let at-items-voids-at2 = at-pairs .before .before in
+    let at-replacements = at-items-voids-at2 .before .before in
+    let at-items-voids-at = at-replacements .before .before in
     rw (
-      ← c .before .before .before .before .before .before .before .before .items-voids-at .ensures,
-      c .before .before .before .before .before .before .replacements .given .1,
-      ← c .before .before .before .before .items-voids-at2 .ensures,
-      c .before .before .pairs .given .1,
+      ← at-items-voids-at .items-voids-at .ensures,
+      at-replacements .replacements .given .1,
+      ← at-items-voids-at2 .items-voids-at2 .ensures,
+      at-pairs .pairs .given .1,
       ← c .items-voids-at3 .ensures,
     )
 

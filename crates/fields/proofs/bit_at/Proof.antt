@@ -1,3 +1,4 @@
+-- `fields::bit_at` meets its contract: each answer rewrites the definition by the tests and calls that lead to it. Assumes nothing.
 use borrow.Author.Tests.{lt-ltb, le-ltb, eq-eqb, ne-eqb}
 use Rattle.fields.specs.Field.{bitAt}
 use borrow.Author.Needs.{needs}
@@ -7,22 +8,30 @@ use Rattle.fields.proofs.bit_at.Tie as tie
 returns : tie.Need-returns
 unfolding bitAt
 returns c =
+    let at-is-constant = c .before in
+    let at-if2 = at-is-constant .before in
+    let at-word-at = at-if2 .before in
+    let at-if1 = at-word-at .before in
     rw (
-      lt-ltb _ _ (c .before .before .before .before .if1 .taken),
-      ← c .before .before .before .word-at .ensures,
-      eq-eqb _ _ (c .before .before .if2 .taken),
-      ← c .before .is-constant .ensures,
+      lt-ltb _ _ (at-if1 .if1 .taken),
+      ← at-word-at .word-at .ensures,
+      eq-eqb _ _ (at-if2 .if2 .taken),
+      ← at-is-constant .is-constant .ensures,
       c .if3 .taken,
     )
 
 returns-2 : tie.Need-returns-2
 unfolding bitAt
 returns-2 c =
+    let at-is-constant = c .before in
+    let at-if2 = at-is-constant .before in
+    let at-word-at = at-if2 .before in
+    let at-if1 = at-word-at .before in
     rw (
-      lt-ltb _ _ (c .before .before .before .before .if1 .taken),
-      ← c .before .before .before .word-at .ensures,
-      eq-eqb _ _ (c .before .before .if2 .taken),
-      ← c .before .is-constant .ensures,
+      lt-ltb _ _ (at-if1 .if1 .taken),
+      ← at-word-at .word-at .ensures,
+      eq-eqb _ _ (at-if2 .if2 .taken),
+      ← at-is-constant .is-constant .ensures,
       c .if3 .left,
     )
 

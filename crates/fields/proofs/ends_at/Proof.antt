@@ -1,3 +1,4 @@
+-- `fields::ends_at` meets its contract: the test is the definition's. Assumes nothing.
 use borrow.Author.Tests.{eq-eqb, ne-eqb}
 use Rattle.fields.specs.Field.{endsAt}
 use Rattle.fields.proofs.ends_at.Statement.{statement}

