@@ -17,8 +17,8 @@ use Rattle.rules.specs.Reads.{currentNet, currentNets, clockNow, compared, comp
 use Rattle.working_out.specs.Reading.{Each}
 use Rattle.smt.specs.Prog.{Age, curr, past, Half, isUndef, isOne}
 use Rattle.smt.specs.Builder.{outputNets, zext, extended, shiftWidth, overwritten, hasClear}
-use Rattle.soundness.specs.Formula.{TritBits, tb, NetBits, bitOf, readBits, litBits, concatBits}
-use Rattle.soundness.specs.CellBits.{
+use Rattle.smt.specs.Formula.{TritBits, tb, NetBits, bitOf, readBits, litBits, concatBits}
+use Rattle.smt.specs.CellBits.{
   ageOf,
   valueBits,
   netBit,

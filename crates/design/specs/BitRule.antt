@@ -22,10 +22,10 @@ use Rattle.working_out.specs.Reading.{readsPast, asserted}
 use Rattle.working_out.specs.Equations.{Rule, Wide, CellLocal}
 use Rattle.smt.specs.Prog.{Age, curr, past, Half, isUndef, isOne}
 use Rattle.smt.specs.Builder.{outputNets}
-use Rattle.soundness.specs.Formula.{TritBits, tb, NetBits, bitOf, readBits}
-use Rattle.soundness.specs.Shows.{Shown, empty, lane}
-use Rattle.soundness.specs.CellBits.{NotInput, currBits, cellBits}
-use Rattle.soundness.specs.CellShows.{cell-bits-show}
+use Rattle.smt.specs.Formula.{TritBits, tb, NetBits, bitOf, readBits}
+use Rattle.smt.specs.Shows.{Shown, empty, lane}
+use Rattle.smt.specs.CellBits.{NotInput, currBits, cellBits}
+use Rattle.smt.specs.CellShows.{cell-bits-show}
 use Rattle.design.specs.BitLocal.{SameOn, cellBits-local}
 
 -- The two bits of a net at one age.

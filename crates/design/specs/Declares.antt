@@ -24,7 +24,7 @@ use Rattle.working_out.specs.Nodes.{Kind, ofCell, ofReplaced, kind}
 use Rattle.smt.specs.Prog.{Prog, ret, op, declare, bind, bind2, _>>=_, Age, curr, past, Half, isUndef, isOne, TritVec}
 use Rattle.smt.specs.Builder.{bvConst, tvConst, netOf, collect, valueOf, currNet, currValue, outputNets}
 use Rattle.smt.specs.Emit.{St, Out, emit, place, netName, at, learn, reread, bound, bound2, after, known}
-use Rattle.soundness.specs.Wp.{emit-seq, place-inj, stored, and-true}
+use Rattle.smt.specs.Wp.{emit-seq, place-inj, stored, and-true}
 use Rattle.design.specs.Verify.{
   Step,
   declared,

@@ -17,8 +17,8 @@ use Rattle.working_out.specs.Laid.{Laid}
 use Rattle.working_out.specs.Loop.{hasLoop}
 use Rattle.smt.specs.Prog.{Age, curr, past, Half, isUndef, isOne, buildAnd, buildNot}
 use Rattle.smt.specs.Emit.{St, emit, place, netName}
-use Rattle.soundness.specs.Formula.{NetBits, netBits}
-use Rattle.soundness.specs.CellShows.{tritsOf}
+use Rattle.smt.specs.Formula.{NetBits, netBits}
+use Rattle.smt.specs.CellShows.{tritsOf}
 use Rattle.soundness.specs.Safe.{Truth}
 use Rattle.soundness.specs.Solve.{Extends, extends-refl, Temp, noTemp, Ran, assigned, assigned-net, WellSorted, sorted-earlier, Here, v, ρ, σ}
 use Rattle.design.specs.Verify.{start, steps, work}

@@ -19,7 +19,7 @@ use Rattle.engine.specs.Encode.{letterNumber, suffixNumber}
 use Rattle.engine.specs.Meaning.{Assignment}
 use Rattle.smt.specs.Prog.{Age, curr, past, Half, isUndef, isOne}
 use Rattle.smt.specs.Emit.{netName}
-use Rattle.soundness.specs.Formula.{NetBits}
+use Rattle.smt.specs.Formula.{NetBits}
 use Rattle.soundness.specs.Solve.{assigned, assigned-net}
 use Rattle.design.specs.Solved.{trit-of-bits}
 use Rattle.design.specs.Prefix.{AgreeOn}

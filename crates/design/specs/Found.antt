@@ -14,7 +14,7 @@ use Rattle.rules.specs.Shape.{Shaped}
 use Rattle.working_out.specs.Reading.{Each, each-map, cellIn, cellOf}
 use Rattle.working_out.specs.Laid.{Laid, CellLaid, MayReplace, Replaces}
 use Rattle.working_out.specs.Layout.{at-each, located}
-use Rattle.soundness.specs.CellBits.{NotInput}
+use Rattle.smt.specs.CellBits.{NotInput}
 use Rattle.design.specs.Verify.{newCellIn}
 
 abbrev pub placed : ℕ → Cell → Placed

@@ -20,9 +20,9 @@ use Rattle.working_out.specs.WorkingOut.{tritRule}
 use Rattle.working_out.specs.Obligations.{Obligation, current, asRead, cellObligations, netObligations, ofPair, obligations, fromOf, toOf, allRefine, broken}
 use Rattle.working_out.specs.Obligations as o
 use Rattle.smt.specs.Builder.{currValue, outputNets}
-use Rattle.soundness.specs.Formula.{TritBits, NetBits, refinesBits}
-use Rattle.soundness.specs.CellBits.{NotInput, currBits, netBit, cellBits}
-use Rattle.soundness.specs.CellShows.{tritsOf, value-shows, cell-bits-show}
+use Rattle.smt.specs.Formula.{TritBits, NetBits, refinesBits}
+use Rattle.smt.specs.CellBits.{NotInput, currBits, netBit, cellBits}
+use Rattle.smt.specs.CellShows.{tritsOf, value-shows, cell-bits-show}
 use Rattle.design.specs.Verify.{Step, declared, asserted, obliged, claim, addCell, isInput, newCellIn}
 use Rattle.design.specs.Found.{placed, own-cells, may-replace, New, new-found}
 use Rattle.design.specs.Replacements.{foundAt, inCells, wide, design-in-order}

@@ -19,10 +19,10 @@ use Rattle.working_out.specs.Laid.{Laid, CellLaid}
 use Rattle.working_out.specs.Reading.{Each, each-append, cellOf, readsPast, Pair, equal, ofVoid, ofDffs, ordinary, pairOf}
 use Rattle.smt.specs.Prog.{Prog, curr, past}
 use Rattle.smt.specs.Builder.{currNet, pastNet, currValue, valueOf, outputNets, net, netOf, cell, tvEq, tvRefines}
-use Rattle.soundness.specs.Formula.{NetBits, netBits, readBits, sameBits, refinesBits}
-use Rattle.soundness.specs.Wp.{wp, wp-mono, wp-seq}
-use Rattle.soundness.specs.Terms.{Is, netOf-wp, valueOf-wp, tvEq-wp, tvRefines-wp}
-use Rattle.soundness.specs.CellBits.{NotInput, valueBits, netBit, pastBits, currBits, cellBits, net-wp, cell-wp}
+use Rattle.smt.specs.Formula.{NetBits, netBits, readBits, sameBits, refinesBits}
+use Rattle.smt.specs.Wp.{wp, wp-mono, wp-seq}
+use Rattle.smt.specs.Terms.{Is, netOf-wp, valueOf-wp, tvEq-wp, tvRefines-wp}
+use Rattle.smt.specs.CellBits.{NotInput, valueBits, netBit, pastBits, currBits, cellBits, net-wp, cell-wp}
 use Rattle.design.specs.Found.{own-cells, may-replace, new-found}
 use Rattle.design.specs.Verify.{
   Step,

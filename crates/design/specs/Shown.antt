@@ -29,11 +29,11 @@ use Rattle.working_out.specs.WorkingOut.{tritRule, Solves}
 use Rattle.working_out.specs.Obligations.{allRefine}
 use Rattle.smt.specs.Prog.{curr, past, isUndef, isOne}
 use Rattle.smt.specs.Builder.{outputNets}
-use Rattle.soundness.specs.Formula.{TritBits, tb, NetBits, readBits, sameBits, refinesBits}
-use Rattle.soundness.specs.Wp.{and-true, equal-eq}
-use Rattle.soundness.specs.Shows.{Shown, Shows, empty, lane, shown-is}
-use Rattle.soundness.specs.CellBits.{currBits, valueBits, netBit, cellBits}
-use Rattle.soundness.specs.CellShows.{tritsOf, read-shows, value-shows, cell-bits-show}
+use Rattle.smt.specs.Formula.{TritBits, tb, NetBits, readBits, sameBits, refinesBits}
+use Rattle.smt.specs.Wp.{and-true, equal-eq}
+use Rattle.smt.specs.Shows.{Shown, Shows, empty, lane, shown-is}
+use Rattle.smt.specs.CellBits.{currBits, valueBits, netBit, cellBits}
+use Rattle.smt.specs.CellShows.{tritsOf, read-shows, value-shows, cell-bits-show}
 use Rattle.design.specs.BitRule.{asserted-not-input, asserted-some}
 use Rattle.design.specs.Verify.{Step, isInput, newCellIn}
 use Rattle.design.specs.Meant.{Meant, meantAdd, meantNew, meantCell, meantCells, meantPair, meantPairs, meantSteps, claimTest, voidTest}

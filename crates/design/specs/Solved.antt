@@ -47,10 +47,10 @@ use Rattle.working_out.specs.Equations.{CellShown, VoidShown, Solution, workedO
 use Rattle.working_out.specs.Solutions.{worked-out-by}
 use Rattle.smt.specs.Prog.{Age, curr, past, Half, isUndef, isOne}
 use Rattle.smt.specs.Builder.{currValue, outputNets}
-use Rattle.soundness.specs.Formula.{TritBits, tb, NetBits, bitOf, readBits, sameBits}
-use Rattle.soundness.specs.Refines.{same-refl}
-use Rattle.soundness.specs.CellBits.{ageOf, currBits, pastBits, valueBits, netBit, cellBits}
-use Rattle.soundness.specs.CellShows.{tritsOf, cell-bits-show, value-shows}
+use Rattle.smt.specs.Formula.{TritBits, tb, NetBits, bitOf, readBits, sameBits}
+use Rattle.smt.specs.Refines.{same-refl}
+use Rattle.smt.specs.CellBits.{ageOf, currBits, pastBits, valueBits, netBit, cellBits}
+use Rattle.smt.specs.CellShows.{tritsOf, cell-bits-show, value-shows}
 use Rattle.design.specs.BitRule.{
   BitPair,
   pair,

@@ -23,7 +23,7 @@ use Rattle.working_out.specs.Layout.{at-each, located}
 use Rattle.bound.specs.Bounded.{Bounded}
 use Rattle.smt.specs.Prog.{Prog, curr, past}
 use Rattle.smt.specs.Builder.{currNet, pastNet, currValue, outputNets, net, netOf, cell, tvEq, tvRefines}
-use Rattle.soundness.specs.CellBits.{NotInput}
+use Rattle.smt.specs.CellBits.{NotInput}
 use Rattle.soundness.specs.Safe.{safe, safe-mono, safe-seq, Truth, Width, Within, TritsOf, later, netOf-safe, valueOf-safe, tvEq-safe, tvRefines-safe}
 use Rattle.soundness.specs.CellSafe.{net-safe, cell-safe, output-within}
 use Rattle.design.specs.Verify.{Step, declared, asserted, obliged, isInput, claim, addCell, newCell, replaceNet, replaceVoidNet, joinPasts, currents, newCellIn}

@@ -25,12 +25,12 @@ use Rattle.working_out.specs.WorkedOut as worked
 use Rattle.working_out.specs.Obligations.{Obligation, obligations, broken}
 use Rattle.smt.specs.Prog.{Prog, ret, op, declare, bind, bind2, _>>=_, Age, curr, past, Half, isUndef, isOne}
 use Rattle.smt.specs.Emit.{St, Out, emit, place, netName, at, learn, reread, after, known}
-use Rattle.soundness.specs.Formula.{TritBits, NetBits, netBits}
-use Rattle.soundness.specs.Shows.{shown-is}
-use Rattle.soundness.specs.CellBits.{pastBits}
-use Rattle.soundness.specs.Wp.{Known}
+use Rattle.smt.specs.Formula.{TritBits, NetBits, netBits}
+use Rattle.smt.specs.Shows.{shown-is}
+use Rattle.smt.specs.CellBits.{pastBits}
+use Rattle.smt.specs.Wp.{Known}
 use Rattle.soundness.specs.Safe.{Truth}
-use Rattle.soundness.specs.CellShows.{tritsOf, read-shows}
+use Rattle.smt.specs.CellShows.{tritsOf, read-shows}
 use Rattle.design.specs.Verify as verify
 use Rattle.design.specs.Verify.{Step, declared, asserted, obliged, start, steps, work}
 use Rattle.design.specs.Meant.{Meant, stepsOf, meantCells, meantPair, meantPairs, meantSteps, joinTest, steps-are, steps-mean}

@@ -12,8 +12,8 @@ use Rattle.engine.specs.Sorts.{Sort}
 use Rattle.working_out.specs.Reading.{Each}
 use Rattle.smt.specs.Prog.{Prog, TritVec}
 use Rattle.smt.specs.Emit.{St, emit}
-use Rattle.soundness.specs.Formula.{NetBits, netBits}
-use Rattle.soundness.specs.Wp.{wp, wp-sound}
+use Rattle.smt.specs.Formula.{NetBits, netBits}
+use Rattle.smt.specs.Wp.{wp, wp-sound}
 use Rattle.soundness.specs.Safe.{safe, Truth}
 use Rattle.soundness.specs.Solve.{
   Extends,

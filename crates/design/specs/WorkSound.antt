@@ -9,8 +9,8 @@ use Rattle.engine.specs.Meaning.{Value, bool, asBool, Assignment, Holds}
 use Rattle.working_out.specs.Reading.{Each}
 use Rattle.smt.specs.Prog.{Prog}
 use Rattle.smt.specs.Emit.{St, emit}
-use Rattle.soundness.specs.Formula.{NetBits, netBits}
-use Rattle.soundness.specs.Wp.{wp, Known, Sound, wp-sound}
+use Rattle.smt.specs.Formula.{NetBits, netBits}
+use Rattle.smt.specs.Wp.{wp, Known, Sound, wp-sound}
 use Rattle.design.specs.Verify.{Step, declared, asserted, obliged, work}
 use Rattle.design.specs.Meant.{Meant, meant, stepsOf, Says, StepIs, MeantIs}
 

@@ -1,12 +1,3 @@
-pub mod Wp
-pub mod Formula
-pub mod Terms
-pub mod CellBits
-pub mod Shows
-pub mod ShowsNumber
-pub mod ShowsShift
-pub mod CellShows
-pub mod Refines
 pub mod Safe
 pub mod CellSafe
 pub mod Solve
