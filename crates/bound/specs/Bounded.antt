@@ -26,6 +26,11 @@ Bounded (c.match value enable patterns) =
 Bounded (c.assign value enable update offset) = (length value ≤ 63) × (length update ≤ 63)
 Bounded (c.dff f) = length (f .dat) ≤ 63
 
+-- The bounds of a list hold of every cell and of every new one.
+pub record Bounds (d : Design) : Type 0 where
+  pub cells : Each (λ (p : Placed). Bounded (p .cell)) (d .cells)
+  pub newCells : Each (λ (p : Placed). Bounded (p .cell)) (d .cellReps)
+
 -- A pattern's words: #alternates and its constants.
 abbrev pub patternWords : List (List Trit) → ℕ
 patternWords alternates = 1 + sumBy length alternates

@@ -26,7 +26,8 @@ use Rattle.design.specs.Numbered.{work-next}
 use Rattle.design.specs.Meant.{Meant, stepsOf, meantSteps, steps-are, steps-mean}
 use Rattle.design.specs.WorkSound.{SaidOf}
 use Rattle.design.specs.WorkMeets.{execWork, WorkMet, work-meets}
-use Rattle.design.specs.StepsSafe.{Bounds, steps-safe}
+use Rattle.bound.specs.Bounded.{Bounds}
+use Rattle.design.specs.StepsSafe.{steps-safe}
 use Rattle.design.specs.Solved.{solved, solved-now, solved-was, solved-said}
 use Rattle.design.specs.Prefix.{asserted-on, fits-append}
 use Rattle.design.specs.Requirement3.{Shows, tritIn, givenTrit, IsSource, queryCalls}

@@ -20,7 +20,7 @@ use Rattle.working_out.specs.Reading.{Each, each-map, each-append, cellOf, cell
 use Rattle.working_out.specs.Laid as layout
 use Rattle.working_out.specs.Laid.{Laid, CellLaid, Replaces, PairWithin, netsOf}
 use Rattle.working_out.specs.Layout.{at-each, located}
-use Rattle.bound.specs.Bounded.{Bounded}
+use Rattle.bound.specs.Bounded.{Bounded, Bounds}
 use Rattle.smt.specs.Prog.{Prog, curr, past}
 use Rattle.smt.specs.Builder.{currNet, pastNet, currValue, outputNets, net, netOf, cell, tvEq, tvRefines}
 use Rattle.smt.specs.CellBits.{NotInput}
@@ -120,11 +120,6 @@ module _ (slots : ℕ) (σ : ℕ → Sort) where
       safe-seq slots σ n (currNet from) _ _ _ (netOf-safe slots σ n curr from f) λ i a li g.
       safe-seq slots σ i (currNet to) _ _ _ (netOf-safe slots σ i curr to t) λ j b lj h.
       tvRefines-safe slots σ j 1 a b (omega arith) (later slots σ 1 i j a lj g) h
-
--- The bounds of a list hold of every cell and of every new one.
-pub record Bounds (d : Design) : Type 0 where
-  pub cells : Each (λ (p : Placed). Bounded (p .cell)) (d .cells)
-  pub newCells : Each (λ (p : Placed). Bounded (p .cell)) (d .cellReps)
 
 -- A cell of the design ends within its slots.
 ends : (d : Design) → Laid d → Each (λ (p : Placed). p .slot + slotsOf (p .cell) ≤ total d) (d .cells)

@@ -35,7 +35,7 @@ use Rattle.design.specs.Verify as verify
 use Rattle.design.specs.Verify.{Step, declared, asserted, obliged, start, steps, work}
 use Rattle.design.specs.Meant.{Meant, stepsOf, meantCells, meantPair, meantPairs, meantSteps, joinTest, steps-are, steps-mean}
 use Rattle.design.specs.WorkSound.{SaidOf, ask, asks, truths, Worked, work-sound}
-use Rattle.design.specs.StepsSafe.{Bounds}
+use Rattle.bound.specs.Bounded.{Bounds}
 use Rattle.design.specs.Shown.{same-bits, left, right, tests-solve}
 use Rattle.design.specs.Judged.{steps-judged}
 use Rattle.design.specs.Numbered.{work-next}
