@@ -37,7 +37,7 @@ patterns-cost [] h = omega arith
 patterns-cost (p ∷ patterns) h = let rest = patterns-cost patterns (h .1) in let here = h .0 in omega arith
 
 -- The outputs of a cell, as nets.
-out-costs : (s w : ℕ) → CostsOnly (w * 16) (currValue (outputNets s w))
+pub out-costs : (s w : ℕ) → CostsOnly (w * 16) (currValue (outputNets s w))
 out-costs s w =
     subst (λ (k : ℕ). CostsOnly (k * 16) (currValue (outputNets s w))) (length-tab w (λ (i : ℕ). slot (s + i)))
     (valueOf-costs currNet (netOf-costs curr) (outputNets s w))

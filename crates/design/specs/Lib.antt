@@ -17,3 +17,4 @@ pub mod Exists
 pub mod Filled
 pub mod Declares
 pub mod Theorem
+pub mod Bound
