@@ -57,19 +57,19 @@ asked d = (work (stepsOf (meantSteps d)) (start (total d))) .res
 
 module _ (d : Design) (laid : Laid d) (bounds : Bounds d) where
   -- The values and the temporaries of the whole run, of the nets' bits.
-  abbrev whole : NetBits → Ran
+  abbrev pub whole : NetBits → Ran
   whole b = execWork b (stepsOf (meantSteps d)) (start (total d)) [] []
 
-  here : (b : NetBits) (L : List Value) (TS : List Temp) → Here (total d) b L TS (start (total d)) [] []
+  pub here : (b : NetBits) (L : List Value) (TS : List Temp) → Here (total d) b L TS (start (total d)) [] []
   here b L TS = record { terms = refl; temps = refl; names = λ a i h k e. absurd (zeros-none (4 * total d) (place a i h) k e) }
 
-  abbrev L : NetBits → List Value
+  abbrev pub L : NetBits → List Value
   L b = (whole b) .values
 
-  abbrev TS : NetBits → List Temp
+  abbrev pub TS : NetBits → List Temp
   TS b = (whole b) .temps
 
-  met : (b : NetBits) → WorkMet (total d) b (L b) (TS b) (meantSteps d) (start (total d)) (whole b)
+  pub met : (b : NetBits) → WorkMet (total d) b (L b) (TS b) (meantSteps d) (start (total d)) (whole b)
   met b =
       work-meets (total d) b (L b) (TS b) (meantSteps d) (start (total d)) [] [] (steps-safe d laid bounds)
       (here b (L b) (TS b)) (extends-refl (bool false) (L b)) (extends-refl noTemp (TS b))

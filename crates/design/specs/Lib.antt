@@ -18,3 +18,4 @@ pub mod Filled
 pub mod Declares
 pub mod Theorem
 pub mod Bound
+pub mod WellFormed

@@ -227,7 +227,7 @@ terms-each b (m ∷ ms) s = go (λ s. terms-each b ms s) (m .step) (m .test b)
 -- ---- the theorem, of a design
 
 module _ (d : Design) (laid : Laid d) (bounds : Bounds d) (no-loop : hasLoop d ≡ false) where
-  asked-each : length (asked d) ≡ length (obligations d)
+  pub asked-each : length (asked d) ≡ length (obligations d)
   unfolding asked
   asked-each =
       terms-each none (meantSteps d) (start (total d)) ∙ ap length (steps-judged d none laid) ∙ length-map (obligations d) _

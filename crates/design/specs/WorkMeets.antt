@@ -103,7 +103,7 @@ module _ (slots : ℕ) (b : NetBits) (L : List Value) (TS : List Temp) where
   later-truth {n} {m} {k} l h = (let a = h .0 in omega arith, h .1)
 
   -- A step's calls are met, where what is run after it goes on to the whole.
-  met-by : {A : Type 0} (q : Prog A) (s : St) (l : List Value) (ts : List Temp) (rest : List Step) (Q : ℕ → A → Type 0) → Here slots b L TS s l ts
+  pub met-by : {A : Type 0} (q : Prog A) (s : St) (l : List Value) (ts : List Temp) (rest : List Step) (Q : ℕ → A → Type 0) → Here slots b L TS s l ts
       → Extends (bool false) ((execWork b rest ((emit q s) .st) ((exec b q s l ts) .values) ((exec b q s l ts) .temps)) .values) L
       → Extends noTemp ((execWork b rest ((emit q s) .st) ((exec b q s l ts) .values) ((exec b q s l ts) .temps)) .temps) TS
       → safe slots srt (s .next) q Q

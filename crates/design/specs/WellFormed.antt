@@ -1,0 +1,81 @@
+-- The calls of an accepted list are well formed: never fault 19. Each argument is an earlier term of its sort, each name is declared
+-- once, every number fits a word, and nothing follows check.
+use mathlib.Core.Path.{_≡_, refl, sym, ap, ap₂, _∙_, subst}
+use mathlib.Core.Bool.{Bool, true, false, cond}
+use mathlib.Core.List.{List, [], _∷_, _++_, map, append-assoc, append-nil, List·Memᴰ, List·Memᴰ·not-nil}
+use Prim.Native.Nat.{ℕ, zero, suc, _+_, _-_, _*_, _^_, _≤_, _<_}
+use native.Mathlib.Omega.{arith}
+use lib.Dec.{eqb}
+use lib.ListN.{length, getD, length-append, length-replicate, List·getD-eq-default}
+use Rattle.cell.specs.Cell.{outputLen}
+use Rattle.cell.specs.Design.{Design, Placed, NetPair, total}
+use Rattle.engine.specs.Call.{Name, Call}
+use Rattle.engine.specs.Call as c
+use Rattle.engine.specs.Meaning.{Value, bool, bits, valueAt, terms, All}
+use Rattle.engine.specs.Sorts.{Sort, Context, Formed, payloadLimit, countLimit}
+use Rattle.engine.specs.Sorts as sorts
+use Rattle.engine.specs.Encode.{recordOf, encode, decode}
+use Rattle.engine.specs.WellFormed.{outcome, wellFormed}
+use Rattle.engine.specs.Written.{decode-encode}
+use Rattle.engine.specs.Accepted.{encode-formed}
+use Rattle.working_out.specs.Reading.{Each, Pair, equal, ofVoid, ofDffs, ordinary, pairOf}
+use Rattle.working_out.specs.Laid.{Laid}
+use Rattle.working_out.specs.Obligations.{obligations, cellObligations, netObligations, ofPair}
+use Rattle.bound.specs.Costs.{sumBy}
+use Rattle.bound.specs.Bounded.{Bounds, recordWords, designWords}
+use Rattle.smt.specs.Prog.{Prog, ret, op, declare, bind, bind2, Age, Half}
+use Rattle.smt.specs.Emit.{St, Out, emit, place, netName, at, learn, reread, after, known}
+use Rattle.smt.specs.Formula.{NetBits}
+use Rattle.soundness.specs.Safe.{safe, Truth}
+use Rattle.soundness.specs.Solve.{Extends, Temp, noTemp, Ran, exec, WellSorted, Here, v, ρ, σ, assigned-net}
+use Rattle.soundness.specs.Formed.{NewNames, Sorted, formed, Declared, temps-grow, Then, KnownSorts, emit-new}
+use Rattle.design.specs.Verify.{Step, declared, asserted, obliged, work, start, verify}
+use Rattle.design.specs.Meant.{Meant, meant, stepsOf, meantSteps, steps-are}
+use Rattle.design.specs.Numbered.{terms-append, emit-next, work-next}
+use Rattle.design.specs.WorkMeets.{StepSafe, Safe, execWork, WorkMet, work-meets, met-by}
+use Rattle.design.specs.StepsSafe.{steps-safe}
+use Rattle.design.specs.Exists.{but, asked, whole, L, TS, here, met, asked-earlier, zeros-none}
+use Rattle.design.specs.Bound.{verify-words}
+use Rattle.design.specs.Theorem.{verify-is, asked-each}
+use Rattle.design.specs.Requirement3.{queryCalls}
+
+-- ---- counts
+
+-- No more temporaries than terms.
+temps-terms : {A : Type 0} (m : Prog A) (s : St) → (emit m s) .st .temp + s .next ≤ s .temp + (emit m s) .st .next
+unfolding emit
+temps-terms (ret a) s = omega arith
+temps-terms (op t f) s = let h = temps-terms (f (s .next)) (at (suc (s .next)) (s .temp) s) in omega arith
+temps-terms {A} (declare a i y f) s = go (λ k s. temps-terms (f k) s) (getD (s .names) (place a i y) 0)
+  where
+    go : ((k : ℕ) (s : St) → (emit (f k) s) .st .temp + s .next ≤ s .temp + (emit (f k) s) .st .next) → (o : ℕ)
+        → (known {X = Out A} o (after (c.declare (netName a i y) 1 ∷ []) (emit (f (s .next)) (learn a i y s))) (λ k. emit (f k) (reread a i s))) .st .temp + s .next
+        ≤ s .temp + (known {X = Out A} o (after (c.declare (netName a i y) 1 ∷ []) (emit (f (s .next)) (learn a i y s))) (λ k. emit (f k) (reread a i s))) .st .next
+    go rec zero = let h = rec (s .next) (learn a i y s) in omega arith
+    go rec (suc k) = rec k (reread a i s)
+temps-terms (bind w t f) s = let h = temps-terms (f (s .next)) (at (suc (suc (s .next))) (suc (s .temp)) s) in omega arith
+temps-terms (bind2 w x y f) s =
+    let h = temps-terms (f (s .next) (suc (s .next))) (at (suc (suc (suc (suc (s .next))))) (suc (s .temp)) s) in omega arith
+
+work-temps : (steps : List Step) (s : St) → (work steps s) .st .temp + s .next ≤ s .temp + (work steps s) .st .next
+unfolding work
+work-temps [] s = omega arith
+work-temps (declared m ∷ rest) s = let h = temps-terms m s in let g = work-temps rest ((emit m s) .st) in omega arith
+work-temps (asserted m ∷ rest) s = let h = temps-terms m s in let g = work-temps rest ((emit m s) .st) in omega arith
+work-temps (obliged m ∷ rest) s = let h = temps-terms m s in let g = work-temps rest ((emit m s) .st) in omega arith
+
+work-grow : (steps : List Step) (s : St) → s .temp ≤ (work steps s) .st .temp
+unfolding work
+work-grow [] s = omega arith
+work-grow (declared m ∷ rest) s = let h = temps-grow 0 m s in let g = work-grow rest ((emit m s) .st) in omega arith
+work-grow (asserted m ∷ rest) s = let h = temps-grow 0 m s in let g = work-grow rest ((emit m s) .st) in omega arith
+work-grow (obliged m ∷ rest) s = let h = temps-grow 0 m s in let g = work-grow rest ((emit m s) .st) in omega arith
+
+-- A term is a word at least.
+terms-words : (cs : List Call) → terms cs ≤ length (encode cs)
+unfolding terms encode
+terms-words [] = omega arith
+terms-words (c.term t ∷ cs) = let h = terms-words cs in rw (length-append (recordOf (c.term t)) (encode cs)) (omega arith)
+terms-words (c.declare name w ∷ cs) = let h = terms-words cs in omega arith
+terms-words (c.assert k ∷ cs) = let h = terms-words cs in omega arith
+terms-words (c.check ∷ cs) = let h = terms-words cs in omega arith
