@@ -27,7 +27,7 @@ use Rattle.smt.specs.Prog.{Prog, ret, op, declare, bind, bind2, Age, Half}
 use Rattle.smt.specs.Emit.{St, Out, emit, place, netName, at, learn, reread, after, known}
 use Rattle.smt.specs.Formula.{NetBits}
 use Rattle.soundness.specs.Safe.{safe, Truth}
-use Rattle.soundness.specs.Solve.{Extends, Temp, noTemp, Ran, exec, WellSorted, Here, v, ρ, σ, assigned-net}
+use Rattle.soundness.specs.Solve.{Extends, Temp, noTemp, Ran, exec, WellSorted, Here, v, ρ, σ, sortOfValue, assigned-net}
 use Rattle.soundness.specs.Formed.{NewNames, Sorted, formed, Declared, temps-grow, Then, KnownSorts, emit-new}
 use Rattle.design.specs.Verify.{Step, declared, asserted, obliged, work, start, verify}
 use Rattle.design.specs.Meant.{Meant, meant, stepsOf, meantSteps, steps-are}
@@ -79,3 +79,66 @@ terms-words (c.term t ∷ cs) = let h = terms-words cs in rw (length-append (rec
 terms-words (c.declare name w ∷ cs) = let h = terms-words cs in omega arith
 terms-words (c.assert k ∷ cs) = let h = terms-words cs in omega arith
 terms-words (c.check ∷ cs) = let h = terms-words cs in omega arith
+
+-- ---- names declared once
+
+module _ (slots : ℕ) (b : NetBits) (Ls : List Value) (Ts : List Temp) (few-slots : slots ≤ payloadLimit) where
+  abbrev srt : ℕ → Sort
+  srt = σ slots b Ls Ts
+
+  known-sorts : (s : St) (l : List Value) (ts : List Temp) → Here slots b Ls Ts s l ts → KnownSorts slots srt s
+  known-sorts s l ts h a i g k e =
+      let n = h .names a i g k e in
+      (ap sortOfValue (n .0) ∙ ap length (assigned-net b Ts a i g), n .1)
+
+  work-new : (ms : List Meant) (s : St) (l : List Value) (ts : List Temp) → Each (Safe slots) ms → Here slots b Ls Ts s l ts
+      → Extends (bool false) ((execWork b (stepsOf ms) s l ts) .values) Ls → Extends noTemp ((execWork b (stepsOf ms) s l ts) .temps) Ts
+      → (work (stepsOf ms) s) .st .temp ≤ payloadLimit → (rest : List Call) → WellSorted srt ((work (stepsOf ms) s) .st .next) rest
+      → Then slots ((work (stepsOf ms) s) .st) rest → Then slots s ((work (stepsOf ms) s) .calls ++ rest)
+  unfolding work execWork
+  work-new [] s l ts fits h x y few rest sorted then names d = then names d
+  work-new (m ∷ ms) s l ts fits h x y few rest sorted then names d =
+      go (λ s′ l′ ts′ h′ x′ y′. work-meets slots b Ls Ts ms s′ l′ ts′ (fits .1) h′ x′ y′) (λ s′ l′ ts′. work-new ms s′ l′ ts′ (fits .1)) (m .step)
+      (fits .0 .fits srt (s .next)) x y few sorted then
+    where
+      go : ((s′ : St) (l′ : List Value) (ts′ : List Temp) → Here slots b Ls Ts s′ l′ ts′
+          → Extends (bool false) ((execWork b (stepsOf ms) s′ l′ ts′) .values) Ls → Extends noTemp ((execWork b (stepsOf ms) s′ l′ ts′) .temps) Ts
+          → WorkMet slots b Ls Ts ms s′ (execWork b (stepsOf ms) s′ l′ ts′))
+          → ((s′ : St) (l′ : List Value) (ts′ : List Temp) → Here slots b Ls Ts s′ l′ ts′
+          → Extends (bool false) ((execWork b (stepsOf ms) s′ l′ ts′) .values) Ls → Extends noTemp ((execWork b (stepsOf ms) s′ l′ ts′) .temps) Ts
+          → (work (stepsOf ms) s′) .st .temp ≤ payloadLimit → (rest : List Call) → WellSorted srt ((work (stepsOf ms) s′) .st .next) rest
+          → Then slots ((work (stepsOf ms) s′) .st) rest → Then slots s′ ((work (stepsOf ms) s′) .calls ++ rest))
+          → (p : Step) → StepSafe slots srt (s .next) p
+          → Extends (bool false) ((execWork b (p ∷ stepsOf ms) s l ts) .values) Ls → Extends noTemp ((execWork b (p ∷ stepsOf ms) s l ts) .temps) Ts
+          → (work (p ∷ stepsOf ms) s) .st .temp ≤ payloadLimit → WellSorted srt ((work (p ∷ stepsOf ms) s) .st .next) rest
+          → Then slots ((work (p ∷ stepsOf ms) s) .st) rest → NewNames names ((work (p ∷ stepsOf ms) s) .calls ++ rest)
+      go meets new (declared q) safe x y few sorted then =
+          let met = met-by slots b Ls Ts q s l ts (stepsOf ms) _ h x y safe in
+          let s₁ = (emit q s) .st in
+          let l₁ = (exec b q s l ts) .values in
+          let ts₁ = (exec b q s l ts) .temps in
+          let w = meets s₁ l₁ ts₁ (met .here) x y in
+          let grown = work-grow (stepsOf ms) s₁ in
+          rw append-assoc
+          (emit-new slots srt q s _ names _ few-slots (omega arith) safe (known-sorts s l ts h) (met .sorted _ (w .sorted rest sorted)) d
+          (new s₁ l₁ ts₁ (met .here) x y few rest sorted then))
+      go meets new (asserted q) safe x y few sorted then =
+          let met = met-by slots b Ls Ts q s l ts (stepsOf ms) _ h x y safe in
+          let s₁ = (emit q s) .st in
+          let l₁ = (exec b q s l ts) .values in
+          let ts₁ = (exec b q s l ts) .temps in
+          let w = meets s₁ l₁ ts₁ (met .here) x y in
+          let grown = work-grow (stepsOf ms) s₁ in
+          rw append-assoc
+          (emit-new slots srt q s _ names _ few-slots (omega arith) safe (known-sorts s l ts h) (met .sorted _ (met .post, w .sorted rest sorted)) d
+          (new s₁ l₁ ts₁ (met .here) x y few rest sorted then))
+      go meets new (obliged q) safe x y few sorted then =
+          let met = met-by slots b Ls Ts q s l ts (stepsOf ms) _ h x y safe in
+          let s₁ = (emit q s) .st in
+          let l₁ = (exec b q s l ts) .values in
+          let ts₁ = (exec b q s l ts) .temps in
+          let w = meets s₁ l₁ ts₁ (met .here) x y in
+          let grown = work-grow (stepsOf ms) s₁ in
+          rw append-assoc
+          (emit-new slots srt q s _ names _ few-slots (omega arith) safe (known-sorts s l ts h) (met .sorted _ (w .sorted rest sorted)) d
+          (new s₁ l₁ ts₁ (met .here) x y few rest sorted then))
