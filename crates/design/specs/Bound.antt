@@ -28,8 +28,28 @@ use Rattle.bound.specs.Cells.{then}
 use Rattle.bound.specs.CellCosts.{out-costs, cell-costs}
 use Rattle.bound.specs.Bounded.{Bounded, Bounds, recordWords, designWords}
 use Rattle.design.specs.Verify.{
-  Step, declared, asserted, obliged, isInput, claim, addCell, newCell, replaceNet, replaceVoidNet, joinPasts, currents, newCellIn, withNew, cellSteps,
-  pairSteps, eachCell, eachPair, steps, work, start, verify,
+  Step,
+  declared,
+  asserted,
+  obliged,
+  isInput,
+  claim,
+  addCell,
+  newCell,
+  replaceNet,
+  replaceVoidNet,
+  joinPasts,
+  currents,
+  newCellIn,
+  withNew,
+  cellSteps,
+  pairSteps,
+  eachCell,
+  eachPair,
+  steps,
+  work,
+  start,
+  verify,
 }
 use Rattle.design.specs.Found.{placed, found, own-cells, New, new-found}
 use Rattle.design.specs.Replacements.{foundAt, inCells, wide, design-in-order}
@@ -243,8 +263,8 @@ module _ (d : Design) (laid : Laid d) (bounds : Bounds d) where
   unfolding but asked
   verify-words =
       let steps-words : length (encode (but d)) + length (asked d) ≤ 8100 * designWords d =
-          subst (λ (l : List Step). length (encode ((work l (start (total d))) .calls)) + length ((work l (start (total d))) .res) ≤ 8100 * designWords d)
-          (sym (steps-are d)) (work-words steps-within (start (total d))) in
+      subst (λ (l : List Step). length (encode ((work l (start (total d))) .calls)) + length ((work l (start (total d))) .res) ≤ 8100 * designWords d)
+      (sym (steps-are d)) (work-words steps-within (start (total d))) in
       let last = query-words (terms (but d)) (asked d) in
       let sum = encode-append (but d) (queryCalls (terms (but d)) (asked d)) in
       rw (verify-is d) (omega arith)

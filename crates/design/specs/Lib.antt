@@ -1,4 +1,5 @@
 pub mod Verify
+pub mod Accepted
 pub mod BitLocal
 pub mod BitRule
 pub mod Found

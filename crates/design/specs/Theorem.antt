@@ -224,17 +224,18 @@ terms-each b (m ∷ ms) s = go (λ s. terms-each b ms s) (m .step) (m .test b)
     go rec (asserted q) t = rec ((emit q s) .st)
     go rec (obliged q) t = ap suc (rec ((emit q s) .st))
 
+-- The query's and has an argument for each obligation.
+pub asked-each : (d : Design) → Laid d → length (asked d) ≡ length (obligations d)
+unfolding asked
+asked-each d laid =
+    terms-each none (meantSteps d) (start (total d)) ∙ ap length (steps-judged d none laid) ∙ length-map (obligations d) _
+  where
+    none : NetBits
+    none a i h = false
+
 -- ---- the theorem, of a design
 
 module _ (d : Design) (laid : Laid d) (bounds : Bounds d) (no-loop : hasLoop d ≡ false) where
-  pub asked-each : length (asked d) ≡ length (obligations d)
-  unfolding asked
-  asked-each =
-      terms-each none (meantSteps d) (start (total d)) ∙ ap length (steps-judged d none laid) ∙ length-map (obligations d) _
-    where
-      none : NetBits
-      none a i h = false
-
   nodes : (i : ℕ) → i < total d → source d i ≡ false → Declared (but d ++ queryCalls (terms (but d)) (asked d)) curr i
   unfolding but
   nodes i low node h = declared-left (but d) (queryCalls (terms (but d)) (asked d)) (netName curr i h)
@@ -246,7 +247,7 @@ module _ (d : Design) (laid : Laid d) (bounds : Bounds d) (no-loop : hasLoop d �
     asked = asked d;
     query = refl;
     claims = but-unchecked d;
-    each = asked-each;
+    each = asked-each d laid;
     exists = exists d laid bounds no-loop (terms (but d)) (asked d);
     shown = λ g ρ s. shown d laid bounds (terms (but d)) (asked d) no-loop g ρ s;
     judged = λ g ρ s. judged d laid bounds (terms (but d)) (asked d) no-loop g ρ s;

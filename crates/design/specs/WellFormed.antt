@@ -20,6 +20,7 @@ use Rattle.engine.specs.Written.{decode-encode}
 use Rattle.engine.specs.Accepted.{encode-formed}
 use Rattle.working_out.specs.Reading.{Each, Pair, equal, ofVoid, ofDffs, ordinary, pairOf}
 use Rattle.working_out.specs.Laid.{Laid}
+use Rattle.working_out.specs.Obligations as obligation
 use Rattle.working_out.specs.Obligations.{obligations, cellObligations, netObligations, ofPair}
 use Rattle.bound.specs.Costs.{sumBy}
 use Rattle.bound.specs.Bounded.{Bounds, recordWords, designWords}
@@ -27,8 +28,9 @@ use Rattle.smt.specs.Prog.{Prog, ret, op, declare, bind, bind2, Age, Half}
 use Rattle.smt.specs.Emit.{St, Out, emit, place, netName, at, learn, reread, after, known}
 use Rattle.smt.specs.Formula.{NetBits}
 use Rattle.soundness.specs.Safe.{safe, Truth}
-use Rattle.soundness.specs.Solve.{Extends, Temp, noTemp, Ran, exec, WellSorted, Here, v, ρ, σ, sortOfValue, assigned-net}
+use Rattle.soundness.specs.Solve.{Extends, extends-refl, Temp, noTemp, Ran, exec, WellSorted, Here, v, ρ, σ, sortOfValue, assigned-net}
 use Rattle.soundness.specs.Formed.{NewNames, Sorted, formed, Declared, temps-grow, Then, KnownSorts, emit-new}
+use Rattle.design.specs.Accepted.{Accepted}
 use Rattle.design.specs.Verify.{Step, declared, asserted, obliged, work, start, verify}
 use Rattle.design.specs.Meant.{Meant, meant, stepsOf, meantSteps, steps-are}
 use Rattle.design.specs.Numbered.{terms-append, emit-next, work-next}
@@ -142,3 +144,122 @@ module _ (slots : ℕ) (b : NetBits) (Ls : List Value) (Ts : List Temp) (few-slo
           rw append-assoc
           (emit-new slots srt q s _ names _ few-slots (omega arith) safe (known-sorts s l ts h) (met .sorted _ (w .sorted rest sorted)) d
           (new s₁ l₁ ts₁ (met .here) x y few rest sorted then))
+
+-- ---- the whole list
+
+-- A word at least for each replacement, and two for each pair.
+reps-words : (reps : List Placed) → length reps ≤ sumBy (λ (p : Placed). 1 + recordWords (p .cell)) reps
+unfolding sumBy
+reps-words [] = omega arith
+reps-words (r ∷ reps) = let h = reps-words reps in omega arith
+
+cell-obligations : (reps : List Placed) → length (cellObligations reps) ≤ length reps
+unfolding cellObligations
+cell-obligations [] = omega arith
+cell-obligations (r ∷ reps) = go (eqb (outputLen (r .cell)) 0) (cell-obligations reps)
+  where
+    go : (z : Bool) → length (cellObligations reps) ≤ length reps → length (cond z [] (obligation.cell r ∷ []) ++ cellObligations reps) ≤ suc (length reps)
+    go true h = omega arith
+    go false h = omega arith
+
+pair-obligations : (k : Pair) (p : NetPair) → length (ofPair k p) ≤ 2
+pair-obligations equal p = omega arith
+pair-obligations ofVoid p = omega arith
+pair-obligations ofDffs p = omega arith
+pair-obligations ordinary p = omega arith
+
+net-obligations : (d : Design) (pairs : List NetPair) → length (netObligations d pairs) ≤ 2 * length pairs
+unfolding netObligations
+net-obligations d [] = omega arith
+net-obligations d (p ∷ pairs) =
+    let here = pair-obligations (pairOf d p) p in
+    let rest = net-obligations d pairs in
+    rw (length-append (ofPair (pairOf d p) p) (netObligations d pairs)) (omega arith)
+
+pub few-obligations : (d : Design) → length (obligations d) ≤ designWords d
+few-obligations d =
+    let cells = cell-obligations (d .cellReps) in
+    let reps = reps-words (d .cellReps) in
+    let pairs = net-obligations d (d .netReps) in
+    rw (length-append (cellObligations (d .cellReps)) (netObligations d (d .netReps))) (omega arith)
+
+module _ (d : Design) (a : Accepted d) where
+  none : NetBits
+  none x i h = false
+
+  abbrev srt₀ : ℕ → Sort
+  srt₀ = σ (total d) none (L d (a .laid) (a .bounds) none) (TS d (a .laid) (a .bounds) none)
+
+  done : WorkMet (total d) none (L d (a .laid) (a .bounds) none) (TS d (a .laid) (a .bounds) none) (meantSteps d) (start (total d)) (whole d (a .laid) (a .bounds) none)
+  done = met d (a .laid) (a .bounds) none
+
+  -- A term after the last has no value yet: as a Bool it is false.
+  later-bool : (k : ℕ) → (work (stepsOf (meantSteps d)) (start (total d))) .st .next ≤ k → srt₀ k ≡ 0
+  later-bool k l =
+      ap sortOfValue (List·getD-eq-default (L d (a .laid) (a .bounds) none) (bool false) (let e = done .here .terms in omega arith))
+
+  query-sorted : (l : List ℕ) → All (Truth ((work (stepsOf (meantSteps d)) (start (total d))) .st .next) srt₀) l → length l < countLimit
+      → WellSorted srt₀ ((work (stepsOf (meantSteps d)) (start (total d))) .st .next) (queryCalls ((work (stepsOf (meantSteps d)) (start (total d))) .st .next) l)
+  query-sorted [] t few = tt
+  query-sorted (o ∷ l) t few =
+      let n = (work (stepsOf (meantSteps d)) (start (total d))) .st .next in
+      let zero-n = later-bool n (omega arith) in
+      let zero-next = later-bool (suc n) (omega arith) in
+      ((omega arith, few, t), zero-n, ((omega arith, zero-n), zero-next, ((omega arith, zero-next), tt)))
+
+  query-new : (n : ℕ) (l : List ℕ) (s : St) → Then (total d) s (queryCalls n l)
+  query-new n [] s names h = tt
+  query-new n (o ∷ l) s names h = refl
+
+  none-declared : Declared (total d) [] (start (total d))
+  none-declared = record {
+    size = length-replicate {A = ℕ} (4 * total d) 0;
+    nets = λ b i h m. absurd (List·Memᴰ·not-nil m);
+    temps = λ j u m. absurd (List·Memᴰ·not-nil m);
+  }
+
+  -- As few words, terms and temporaries as a word can number.
+  few-words : length (encode (verify d)) ≤ 134217728
+  few-words = let h = verify-words d (a .laid) (a .bounds) in let w = a .words in omega arith
+
+  few-terms : terms (verify d) ≤ 134217728
+  few-terms = let h = terms-words (verify d) in let w = few-words in omega arith
+
+  next-is : (work (stepsOf (meantSteps d)) (start (total d))) .st .next ≡ terms (but d)
+  unfolding but
+  next-is = let e = work-next (stepsOf (meantSteps d)) (start (total d)) in omega arith
+
+  few-temps : (work (stepsOf (meantSteps d)) (start (total d))) .st .temp ≤ payloadLimit
+  few-temps =
+      let t = work-temps (stepsOf (meantSteps d)) (start (total d)) in
+      let n = next-is in
+      let e = ap terms (verify-is d) ∙ terms-append (but d) (queryCalls (terms (but d)) (asked d)) in
+      let f = few-terms in
+      omega arith
+
+  few-asked : length (asked d) < countLimit
+  few-asked = let e = asked-each d (a .laid) in let f = few-obligations d in let w = a .words in omega arith
+
+  query-fits : WellSorted srt₀ ((work (stepsOf (meantSteps d)) (start (total d))) .st .next) (queryCalls (terms (but d)) (asked d))
+  unfolding asked
+  query-fits =
+      subst (λ (n : ℕ). WellSorted srt₀ ((work (stepsOf (meantSteps d)) (start (total d))) .st .next) (queryCalls n (asked d))) next-is
+      (query-sorted (asked d) (done .obligations) few-asked)
+
+  pub verify-formed : Formed sorts.start (verify d)
+  unfolding but
+  verify-formed =
+      subst (Formed sorts.start) (sym (verify-is d))
+      (formed srt₀ 0 sorts.start (but d ++ queryCalls (terms (but d)) (asked d)) refl (record { many = refl; each = λ k l. absurd (omega arith) })
+      (done .sorted _ query-fits)
+      (work-new (total d) none (L d (a .laid) (a .bounds) none) (TS d (a .laid) (a .bounds) none) (let l = a .slots in omega arith) (meantSteps d)
+      (start (total d)) [] [] (steps-safe d (a .laid) (a .bounds)) (here d (a .laid) (a .bounds) none _ _)
+      (extends-refl (bool false) _) (extends-refl noTemp _) few-temps _ query-fits (query-new (terms (but d)) (asked d) _) [] none-declared)
+      (let e = ap terms (verify-is d) in let f = few-terms in omega arith))
+
+  -- Never fault 19, and the words read back as the calls.
+  pub verify-well-formed : outcome (encode (verify d)) ≡ wellFormed (sorts.leaves sorts.start (verify d))
+  verify-well-formed = encode-formed (verify d) verify-formed
+
+  pub verify-decoded : decode (encode (verify d)) ≡ verify d
+  verify-decoded = decode-encode (verify d) verify-formed

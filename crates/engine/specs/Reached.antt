@@ -270,7 +270,7 @@ sort-said n table w end y p h tabled (suc f) k l inside =
     go rest false t =
         let ahead = passes-forward n w 0 start end y p in
         let at-k : termPlace (length w) w 0 (k - 0) ≡ termPlace (length w) w 0 k =
-              ap (termPlace (length w) w 0) (let e : k - 0 ≡ k = omega arith in e) in
+        ap (termPlace (length w) w 0) (let e : k - 0 ≡ k = omega arith in e) in
         let said-k = subst (Says w y k) at-k (finds n (length w) w 0 start end y p (omega arith) k (omega arith) inside) in
         rw (t, guarded-below k (originOf (callAt w (placeOfTerm w k))) (said-k .earlier))
         (sortFrom-ext k (sortThrough f table w) (sortAt (y .sorts)) (originOf (callAt w (placeOfTerm w k))) (said-k .earlier)

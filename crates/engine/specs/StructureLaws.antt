@@ -12,7 +12,18 @@ use Rattle.logic.specs.declared.Term.{Term}
 use Rattle.engine.specs.Sorts.{Sort}
 use Rattle.engine.specs.Encode.{makesTerm, operationAt, nextAt, callAt}
 use Rattle.engine.specs.Structure.{
-  originOf, termPlace, placeOfTerm, choose, guarded, originBy, sortFrom, capped, sortThrough, sortOfTerm, declaresAt, declaredFrom,
+  originOf,
+  termPlace,
+  placeOfTerm,
+  choose,
+  guarded,
+  originBy,
+  sortFrom,
+  capped,
+  sortThrough,
+  sortOfTerm,
+  declaresAt,
+  declaredFrom,
 }
 use Rattle.engine.specs.declared.Origin.{Origin}
 use Rattle.engine.specs.declared.Origin.the-variants.{Given, Same, Joined}
@@ -99,7 +110,7 @@ guarded-is k (Same a) = go (ltb (a .0) k) refl
 guarded-is k (Joined a b) = go (ltb (a .0) k) refl (ltb (b .0) k) refl
   where
     go : (p : Bool) → ltb (a .0) k ≡ p → (q : Bool) → ltb (b .0) k ≡ q
-      → Below k (choose p (choose q (Joined a b) (Given 65)) (Given 65))
+        → Below k (choose p (choose q (Joined a b) (Given 65)) (Given 65))
     go true e true f = (ltb-true (a .0) k e, ltb-true (b .0) k f)
     go true e false f = tt
     go false e q f = tt
@@ -128,18 +139,20 @@ module _ (table w : List ℕ) (k : ℕ) where
   said-given e = rw e
 
   pub said-same : {a : Term} → originBy table w k ≡ Same a
-    → (a .0 < k) × (sortOfTerm table w k ≡ sortOfTerm table w (a .0))
+      → (a .0 < k) × (sortOfTerm table w k ≡ sortOfTerm table w (a .0))
   unfolding sortThrough
   said-same {a} e =
       let below : a .0 < k = subst (Below k) e (known-below table w k) in
       (below, rw e (through-enough k (suc (a .0)) table w (a .0) below (omega arith)))
 
   pub said-joined : {a b : Term} → originBy table w k ≡ Joined a b
-    → (a .0 < k) × (b .0 < k) × (sortOfTerm table w k ≡ capped (sortOfTerm table w (a .0) + sortOfTerm table w (b .0)))
+      → (a .0 < k) × (b .0 < k) × (sortOfTerm table w k ≡ capped (sortOfTerm table w (a .0) + sortOfTerm table w (b .0)))
   unfolding sortThrough
   said-joined {a} {b} e =
-      let below : (a .0 < k) × (b .0 < k) = subst (Below k) e (known-below table w k) in
-      (below .0, below .1,
+      let below : (a .0 < k) × (b .0 < k) = subst (Below k) e (known-below table w k) in (
+        below .0,
+        below .1,
         rw e
-        (ap₂ (λ (s t : ℕ). capped (s + t)) (through-enough k (suc (a .0)) table w (a .0) (below .0) (omega arith))
-        (through-enough k (suc (b .0)) table w (b .0) (below .1) (omega arith))))
+            (ap₂ (λ (s t : ℕ). capped (s + t)) (through-enough k (suc (a .0)) table w (a .0) (below .0) (omega arith))
+            (through-enough k (suc (b .0)) table w (b .0) (below .1) (omega arith))),
+      )

@@ -10,10 +10,28 @@ use Rattle.logic.specs.Word.{kindOf, payloadOf}
 use Rattle.engine.specs.Call.{Name}
 use Rattle.engine.specs.Sorts.{Sort, noSort, Context}
 use Rattle.engine.specs.Encode.{
-  Op, makesTerm, letterNumber, suffixNumber, operationAt, countAt, argumentAt, nextAt, callAt, offset,
+  Op,
+  makesTerm,
+  letterNumber,
+  suffixNumber,
+  operationAt,
+  countAt,
+  argumentAt,
+  nextAt,
+  callAt,
+  offset,
 }
 use Rattle.engine.specs.WellFormed.{
-  isNumber, countFits, argumentOf, admits, declares, firstFailing, Outcome, wellFormed, malformed, outcome,
+  isNumber,
+  countFits,
+  argumentOf,
+  admits,
+  declares,
+  firstFailing,
+  Outcome,
+  wellFormed,
+  malformed,
+  outcome,
 }
 use Rattle.engine.specs.Structure.{originOf, sortFrom, sortOfTerm, declaredBefore}
 use Rattle.eval.specs.declared.Wrong.{Wrong}

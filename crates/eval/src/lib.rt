@@ -30,7 +30,11 @@ pub enum Wrong {
 fn entry(table: &[u8], at: usize) -> u32
     ensures { λ r. ⌜ r ≡ getD (now (table .entry)) at 0 ⌝ }
 {
-    if at < table.len() { table[at] as u32 } else { 0 }
+    if at < table.len() {
+        table[at] as u32
+    } else {
+        0
+    }
 }
 
 // A sum of sorts, none above 64.
@@ -77,7 +81,10 @@ fn term_origin(calls: &[u32], sorts: &[u8], k: u32) -> Origin
     if (k as usize) < sorts.len() {
         return Origin::Given(entry(sorts, k as usize));
     }
-    earlier_origin(k, call_list::origin_at(calls, call_list::place_of_term(calls, Term(k))))
+    earlier_origin(
+        k,
+        call_list::origin_at(calls, call_list::place_of_term(calls, Term(k))),
+    )
 }
 
 // The sort of a term, through the terms that it goes by. Of a join the second is looked up and the first gone on with, so that

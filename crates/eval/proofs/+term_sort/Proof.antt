@@ -219,12 +219,11 @@ term-sort-loop-again-2 t c =
     let w = args .calls .now in
     let origin = sym (asked .term-origin .ensures) ∙ told .a2 .given .1 in
     let said = said-joined table w (state .k) origin in
-    let sum = c .capped-sum2 .ensures ∙ ap (λ (n : ℕ). capped (state .total + n)) (c .before .term-sort .ensures) in
-    (
+    let sum = c .capped-sum2 .ensures ∙ ap (λ (n : ℕ). capped (state .total + n)) (c .before .term-sort .ensures) in (
       omega (arith, said .0, state .inv .0),
       ap (λ (n : ℕ). capped (n + sortOfTerm table w (told .a2 .given .0 .0 .0))) sum
-      ∙ sum-joined (state .total) (sortOfTerm table w (told .a2 .given .0 .0 .0)) (sortOfTerm table w (told .a2 .given .0 .1 .0 .0))
-      ∙ ap (λ (n : ℕ). capped (state .total + n)) (sym (said .2)) ∙ state .inv .1,
+          ∙ sum-joined (state .total) (sortOfTerm table w (told .a2 .given .0 .0 .0)) (sortOfTerm table w (told .a2 .given .0 .1 .0 .0))
+          ∙ ap (λ (n : ℕ). capped (state .total + n)) (sym (said .2)) ∙ state .inv .1,
     )
 
 pub +term-sort-spec : {M : Type 1} → statement M
