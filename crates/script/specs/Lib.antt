@@ -4,3 +4,4 @@ pub mod Pieces
 pub mod Operation
 pub mod Literal
 pub mod Record
+pub mod Walk

@@ -6,15 +6,16 @@ ghost use mathlib.Core.List.{_∷_, [], _++_};
 ghost use Prim.Native.Nat.{_-_, _≤_, _<_};
 ghost use lib.ListN.{length, getD, take, drop};
 ghost use Rattle.engine.specs.Call as c;
-ghost use Rattle.engine.specs.Encode.{opOf, letters, suffixes, countAt};
+ghost use Rattle.engine.specs.Encode.{opOf, letters, suffixes, countAt, decode};
 ghost use Rattle.script.specs.Literal.{LiteralFits, digitOr, literalNumber};
 ghost use Rattle.script.specs.Record.{shapeAt, bodyAt, defineAt, declareAt, assertAt, lineAt, Ready};
 ghost use Rattle.terms.specs.Made.{made};
+ghost use Rattle.script.specs.Walk.{IsWellFormed};
 ghost use Rattle.text.specs.Names.{letterText, suffixText, nameText};
 ghost use Rattle.text.specs.Write.{Wrote};
 ghost use Rattle.terms.specs.Find.{firstCalls};
 ghost use Rattle.terms.specs.Sort.{payloads};
-ghost use Rattle.script.specs.Text.{numbered, reference, sortText, boolText, bitsText, literalText, extractText, spaced, applied, conjunction};
+ghost use Rattle.script.specs.Text.{numbered, reference, lines, sortText, boolText, bitsText, literalText, extractText, spaced, applied, conjunction};
 ghost use Rattle.script.specs.Pieces.{argumentTexts, extractionText};
 ghost use Rattle.text.specs.Bytes.{ascii};
 ghost use Rattle.bitvec.specs.Bits.{nat2bv};
@@ -449,4 +450,22 @@ fn put_record(
         7 => text::put_bytes(text, at, b"(check-sat)\n"),
         _ => put_define(text, at, calls, records, head, term),
     }
+}
+
+// Writes the lines of a well-formed call list.
+fn put_records(text: &mut [u8], start: usize, calls: &[u32]) -> usize
+    requires { ⌜ IsWellFormed (now calls) ⌝ }
+    ensures { λ r. ⌜ Wrote (now (text .entry)) (now (text .exit)) start r (lines [] (decode (now (calls .entry)))) ⌝ }
+{
+    let mut at = start;
+    let mut head = 0;
+    let mut records = 0;
+    let mut term = 0;
+    while head < calls.len() {
+        at = put_record(text, at, calls, records, head, term);
+        term = terms::terms_after(calls, head, term);
+        head = terms::next_record(calls, head);
+        records += 1;
+    }
+    at
 }
