@@ -5,3 +5,4 @@ pub mod Operation
 pub mod Literal
 pub mod Record
 pub mod Walk
+pub mod Ending
