@@ -4,3 +4,5 @@ pub mod Pieces
 pub mod Operation
 pub mod Literal
 pub mod Record
+pub mod Walk
+pub mod Ending

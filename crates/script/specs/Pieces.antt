@@ -55,7 +55,7 @@ module _ (w : List ℕ) (records term : ℕ) where
 abbrev pub argumentTexts : List ℕ → ℕ → ℕ → ℕ → List (List ℕ)
 argumentTexts w records head n = tab n (λ i. reference (firstCalls w records) (payloads w head i))
 
-spaced-append : (a b : List (List ℕ)) → spaced (a ++ b) ≡ spaced a ++ spaced b
+pub spaced-append : (a b : List (List ℕ)) → spaced (a ++ b) ≡ spaced a ++ spaced b
 unfolding spaced
 spaced-append [] b = refl
 spaced-append (text ∷ a) b = rw (spaced-append a b) (sym (append-assoc (ascii " " ++ text) (spaced a) (spaced b)))

@@ -2,19 +2,23 @@
 // writes a piece from a place on and gives the next place; past the slice's end it only counts.
 use terms::Found;
 ghost use mathlib.Core.Path.{_≡_};
-ghost use mathlib.Core.List.{_∷_, [], _++_};
+ghost use mathlib.Core.List.{_∷_, [], _++_, map};
 ghost use Prim.Native.Nat.{_-_, _≤_, _<_};
 ghost use lib.ListN.{length, getD, take, drop};
 ghost use Rattle.engine.specs.Call as c;
-ghost use Rattle.engine.specs.Encode.{opOf, letters, suffixes, countAt};
+ghost use Rattle.engine.specs.Encode.{opOf, letters, suffixes, countAt, decode};
 ghost use Rattle.script.specs.Literal.{LiteralFits, digitOr, literalNumber};
 ghost use Rattle.script.specs.Record.{shapeAt, bodyAt, defineAt, declareAt, assertAt, lineAt, Ready};
 ghost use Rattle.terms.specs.Made.{made};
-ghost use Rattle.text.specs.Names.{letterText, suffixText, nameText};
+ghost use Rattle.engine.specs.Sorts as sorts;
+ghost use Rattle.engine.specs.Sorts.{leaves};
+ghost use Rattle.script.specs.Ending.{namesFrom};
+ghost use Rattle.script.specs.Walk.{IsWellFormed};
+ghost use Rattle.text.specs.Names.{letterText, suffixText, nameText, namesOfMark, spelling};
 ghost use Rattle.text.specs.Write.{Wrote};
 ghost use Rattle.terms.specs.Find.{firstCalls};
 ghost use Rattle.terms.specs.Sort.{payloads};
-ghost use Rattle.script.specs.Text.{numbered, reference, sortText, boolText, bitsText, literalText, extractText, spaced, applied, conjunction};
+ghost use Rattle.script.specs.Text.{numbered, reference, lines, sortText, boolText, bitsText, literalText, extractText, spaced, applied, conjunction};
 ghost use Rattle.script.specs.Pieces.{argumentTexts, extractionText};
 ghost use Rattle.text.specs.Bytes.{ascii};
 ghost use Rattle.bitvec.specs.Bits.{nat2bv};
@@ -449,4 +453,86 @@ fn put_record(
         7 => text::put_bytes(text, at, b"(check-sat)\n"),
         _ => put_define(text, at, calls, records, head, term),
     }
+}
+
+// Writes the lines of a well-formed call list.
+fn put_records(text: &mut [u8], start: usize, calls: &[u32]) -> usize
+    requires { ⌜ IsWellFormed (now calls) ⌝ }
+    ensures { λ r. ⌜ Wrote (now (text .entry)) (now (text .exit)) start r (lines [] (decode (now (calls .entry)))) ⌝ }
+{
+    let mut at = start;
+    let mut head = 0;
+    let mut records = 0;
+    let mut term = 0;
+    while head < calls.len() {
+        at = put_record(text, at, calls, records, head, term);
+        term = terms::terms_after(calls, head, term);
+        head = terms::next_record(calls, head);
+        records += 1;
+    }
+    at
+}
+
+// Whether a call list has a check.
+fn has_check(calls: &[u32]) -> bool
+    ensures { λ r. ⌜ r ≡ leaves sorts.start (decode (now (calls .entry))) .checked ⌝ }
+{
+    let mut head = 0;
+    while head < calls.len() {
+        if shape(terms::operation(calls, head)) == 7 {
+            return true;
+        }
+        head = terms::next_record(calls, head);
+    }
+    false
+}
+
+// Writes the two names of a slot, x then y, with a space between them.
+fn put_pair(text: &mut [u8], at: usize, letter: u8, slot: usize) -> usize
+    ensures { λ r. ⌜ Wrote (now (text .entry)) (now (text .exit)) at r (spelling letter slot 120 ++ (ascii " " ++ spelling letter slot 121)) ⌝ }
+{
+    let space = text::put_name(text, at, letter, slot, b'x');
+    put_second(text, space, letter, slot)
+}
+
+// Writes a space and a slot's y name.
+fn put_second(text: &mut [u8], at: usize, letter: u8, slot: usize) -> usize
+    ensures { λ r. ⌜ Wrote (now (text .entry)) (now (text .exit)) at r (ascii " " ++ spelling letter slot 121) ⌝ }
+{
+    let name = text::put_byte(text, at, b' ');
+    text::put_name(text, name, letter, slot, b'y')
+}
+
+// Writes a space and the two names of a slot.
+fn put_spaced_pair(text: &mut [u8], at: usize, letter: u8, slot: usize) -> usize
+    ensures { λ r. ⌜ Wrote (now (text .entry)) (now (text .exit)) at r (ascii " " ++ (spelling letter slot 120 ++ (ascii " " ++ spelling letter slot 121))) ⌝ }
+{
+    let names = text::put_byte(text, at, b' ');
+    put_pair(text, names, letter, slot)
+}
+
+// Writes the names that a slot's mark asks for, each after a space.
+fn put_mark_names(text: &mut [u8], at: usize, slot: usize, mark: u8) -> usize
+    ensures { λ r. ⌜ Wrote (now (text .entry)) (now (text .exit)) at r (spaced (map nameText (namesOfMark slot mark))) ⌝ }
+{
+    if mark == 1 {
+        return put_spaced_pair(text, at, b'n', slot);
+    }
+    if mark == 2 {
+        return put_spaced_pair(text, at, b'p', slot);
+    }
+    at
+}
+
+// Writes the names that the marks from a slot on ask for, each after a space.
+fn put_names(text: &mut [u8], start: usize, recorded: &[u8], first: usize) -> usize
+    ensures { λ r. ⌜ Wrote (now (text .entry)) (now (text .exit)) start r (namesFrom (now (recorded .entry)) first) ⌝ }
+{
+    let mut at = start;
+    let mut slot = first;
+    while slot < recorded.len() {
+        at = put_mark_names(text, at, slot, recorded[slot]);
+        slot += 1;
+    }
+    at
 }

@@ -62,7 +62,7 @@ place-next zero w at = refl
 place-next (suc n) w at = place-next n w (nextAt w at)
 
 -- Some records, and then some more.
-split : (n m : ℕ) (w : List ℕ) (at : ℕ) → callsFrom (n + m) w at ≡ callsFrom n w at ++ callsFrom m w (placeAfter n w at)
+pub split : (n m : ℕ) (w : List ℕ) (at : ℕ) → callsFrom (n + m) w at ≡ callsFrom n w at ++ callsFrom m w (placeAfter n w at)
 unfolding placeAfter callsFrom
 split zero m w at = rw zero-add
 split (suc n) m w at = rw suc-add (go (ltb at (length w)) refl (split n m w (nextAt w at)))

@@ -64,7 +64,7 @@ made-append (c.declare name w ∷ a) b = rw (made-append a b)
 made-append (c.assert k ∷ a) b = made-append a b
 made-append (c.check ∷ a) b = made-append a b
 
-leaves-append : (x : Context) (a b : List Call) → leaves x (a ++ b) ≡ leaves (leaves x a) b
+pub leaves-append : (x : Context) (a b : List Call) → leaves x (a ++ b) ≡ leaves (leaves x a) b
 unfolding leaves
 leaves-append x [] b = refl
 leaves-append x (call ∷ a) b = leaves-append (after x call) a b

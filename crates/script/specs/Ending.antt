@@ -1,0 +1,199 @@
+-- The script's last lines: whether there is a check, and the names asked.
+use mathlib.Core.Path.{_≡_, refl, sym, ap, _∙_}
+use mathlib.Core.Bool.{Bool, true, false, cond, _||_}
+use mathlib.Core.List.{List, [], _∷_, _++_, map, append-assoc, append-nil}
+use Prim.Native.Nat.{ℕ, zero, suc, _+_, _-_, _%_, _<_, _≤_}
+use native.Mathlib.Numerals.{add-one}
+use native.Mathlib.Omega.{arith}
+use lib.Dec.{eqb}
+use lib.ListN.{length, drop, getD, drop-of-length-le}
+use lib.Seq.{drop-cons}
+use borrow.Author.Tests.{eq-eqb, ne-eqb}
+use Rattle.engine.specs.Call.{Name, Call}
+use Rattle.engine.specs.Call as c
+use Rattle.engine.specs.Sorts.{Context, start, after, leaves}
+use Rattle.engine.specs.Encode.{Op, operationAt, countAt, callOf, callAt, nextAt, callsFrom, decode}
+use Rattle.engine.specs.Encode as o
+use Rattle.engine.specs.Steps.{calls-end, calls-step}
+use Rattle.text.specs.Bytes.{ascii}
+use Rattle.text.specs.Names.{nameText, namesOfMark, bothNames, askedFrom, asked}
+use Rattle.terms.specs.Made.{leaves-append}
+use Rattle.terms.specs.Find.{firstCalls, Reached, reached-start, reached-next, first-more, split, madeAt}
+use Rattle.terms.specs.Sort.{payloads}
+use Rattle.script.specs.Shape.{shapeOf}
+use Rattle.script.specs.Record.{shapeAt}
+use Rattle.script.specs.Text.{spaced, getValue}
+use Rattle.script.specs.Pieces.{spaced-append}
+
+-- ---- check
+
+abbrev pub checks : Call → Bool
+checks (c.term t) = false
+checks (c.declare name w) = false
+checks (c.assert k) = false
+checks c.check = true
+
+checks-by : (op : Op) (n : ℕ) (a : ℕ → ℕ) → checks (callOf op n a) ≡ eqb (shapeOf op) 7
+checks-by o.boolLit n a = refl
+checks-by o.boolIte n a = refl
+checks-by o.not n a = refl
+checks-by o.and n a = refl
+checks-by o.lit n a = refl
+checks-by o.equal n a = refl
+checks-by o.ite n a = refl
+checks-by o.concat n a = refl
+checks-by o.extract n a = refl
+checks-by o.bvnot n a = refl
+checks-by (o.op2 op) n a = refl
+checks-by (o.compare op) n a = refl
+checks-by o.declare n a = refl
+checks-by o.assert n a = refl
+checks-by o.check n a = refl
+checks-by o.unknown n a = refl
+
+after-checks : (x : Context) (call : Call) → after x call .checked ≡ (checks call || x .checked)
+after-checks x (c.term t) = refl
+after-checks x (c.declare name w) = refl
+after-checks x (c.assert k) = refl
+after-checks x c.check = refl
+
+or-true : (b : Bool) → (b || true) ≡ true
+or-true true = refl
+or-true false = refl
+
+-- Once there was a check, there was one.
+stays : (x : Context) (calls : List Call) → x .checked ≡ true → leaves x calls .checked ≡ true
+unfolding leaves
+stays x [] e = e
+stays x (call ∷ calls) e = stays (after x call) calls (after-checks x call ∙ rw e (or-true (checks call)))
+
+-- Records passed without a check.
+pub record Unchecked (w : List ℕ) (records at terms : ℕ) : Type 0 where
+  pub reached : Reached w records at terms
+  pub few : records ≤ at
+  pub within : records ≤ length w
+  pub none : leaves start (firstCalls w records) .checked ≡ false
+
+pub unchecked-start : (w : List ℕ) → Unchecked w 0 0 0
+unfolding leaves callsFrom
+unchecked-start w = record { reached = reached-start w; few = omega arith; within = omega arith; none = refl }
+
+module _ {w : List ℕ} {i at k : ℕ} (here : Unchecked w i at k) where
+  all : decode w ≡ firstCalls w i ++ callsFrom (length w - i) w at
+  all =
+      let sum : length w ≡ i + (length w - i) = omega (arith, here .within) in
+      ap (λ (n : ℕ). callsFrom n w 0) sum ∙ split i (length w - i) w 0 ∙ rw (here .reached .place)
+
+  pub unchecked-end : length w ≤ at → leaves start (decode w) .checked ≡ false
+  unchecked-end past = rw (all, calls-end (length w - i) w at past, append-nil) (here .none)
+
+  module _ (inside : at < length w) where
+    at-checks : checks (callAt w at) ≡ eqb (shapeAt w at) 7
+    at-checks = checks-by (operationAt w at) (countAt w at) (payloads w at)
+
+    pub unchecked-next : (shapeAt w at ≡ 7 → ⊥) → Unchecked w (i + 1) (nextAt w at) (k + madeAt w at)
+    unfolding leaves
+    unchecked-next other = record {
+      reached = reached-next (here .reached) inside;
+      few = omega (arith, here .few);
+      within = omega (arith, here .few);
+      none =
+          ap (λ (n : ℕ). leaves start (firstCalls w n) .checked) (add-one i)
+          ∙ ap (λ (calls : List Call). leaves start calls .checked) (first-more (here .reached) inside)
+          ∙ ap (λ (x : Context). x .checked) (leaves-append start (firstCalls w i) (callAt w at ∷ []))
+          ∙ after-checks (leaves start (firstCalls w i)) (callAt w at) ∙ rw (at-checks, ne-eqb _ 7 other) (here .none);
+    }
+
+    pub checked-here : shapeAt w at ≡ 7 → leaves start (decode w) .checked ≡ true
+    unfolding leaves
+    checked-here e =
+        let left : length w - i ≡ suc (length w - i - 1) = omega (arith, here .few) in
+        let rest = callsFrom (length w - i - 1) w (nextAt w at) in
+        let x = leaves start (firstCalls w i) in
+        ap (λ (calls : List Call). leaves start calls .checked)
+        (all ∙ ap (λ (n : ℕ). firstCalls w i ++ callsFrom n w at) left
+        ∙ ap (λ (l : List Call). firstCalls w i ++ l) (calls-step (length w - i - 1) w at inside))
+        ∙ ap (λ (y : Context). y .checked) (leaves-append start (firstCalls w i) (callAt w at ∷ rest))
+        ∙ stays (after x (callAt w at)) rest (after-checks x (callAt w at) ∙ rw (at-checks, eq-eqb _ 7 e))
+
+-- ---- the names asked
+
+-- The names that the marks from a slot on ask for, each after a space.
+abbrev pub namesFrom : List ℕ → ℕ → List ℕ
+namesFrom marks slot = spaced (map nameText (askedFrom slot (drop slot marks)))
+
+map-append : (a b : List Name) → map nameText (a ++ b) ≡ map nameText a ++ map nameText b
+map-append [] b = refl
+map-append (name ∷ a) b = rw (map-append a b)
+
+-- Names written, and those still to write, are all of them.
+pub record NamesLeft (marks : List ℕ) (first slot : ℕ) (done : List ℕ) : Type 0 where
+  pub rest : done ++ namesFrom marks slot ≡ namesFrom marks first
+
+pub names-start : (marks : List ℕ) (first : ℕ) → NamesLeft marks first first []
+names-start marks first = record { rest = refl }
+
+asked-here : (marks : List ℕ) (slot : ℕ) → slot < length marks
+    → askedFrom slot (drop slot marks) ≡ namesOfMark slot (getD marks slot 0) ++ askedFrom (slot + 1) (drop (slot + 1) marks)
+unfolding askedFrom
+asked-here marks slot inside = rw (drop-cons marks slot 0 inside, add-one slot)
+
+module _ (marks : List ℕ) (slot : ℕ) where
+  pub names-here : slot < length marks
+      → namesFrom marks slot ≡ spaced (map nameText (namesOfMark slot (getD marks slot 0))) ++ namesFrom marks (slot + 1)
+  names-here inside = rw (asked-here marks slot inside, map-append, spaced-append)
+
+  pub names-done : length marks ≤ slot → namesFrom marks slot ≡ []
+  unfolding askedFrom spaced
+  names-done past = rw (drop-of-length-le marks past)
+
+pub names-next : {marks done : List ℕ} {first slot : ℕ} → NamesLeft marks first slot done → slot < length marks
+    → NamesLeft marks first (slot + 1) (done ++ spaced (map nameText (namesOfMark slot (getD marks slot 0))))
+names-next {marks} {done} {first} {slot} here inside =
+    record { rest = append-assoc done _ _ ∙ ap (λ (l : List ℕ). done ++ l) (sym (names-here marks slot inside)) ∙ here .rest }
+
+pub names-end : {marks done : List ℕ} {first slot : ℕ} → NamesLeft marks first slot done → length marks ≤ slot → done ≡ namesFrom marks first
+names-end {marks} {done} {first} {slot} here past = sym (append-nil done) ∙ rw (← names-done marks slot past) (here .rest)
+
+-- The first slot that asks for names: those before it ask for none.
+pub record FirstAsked (marks : List ℕ) (slot : ℕ) : Type 0 where
+  pub same : askedFrom 0 marks ≡ askedFrom slot (drop slot marks)
+
+pub first-start : (marks : List ℕ) → FirstAsked marks 0
+first-start marks = record { same = refl }
+
+pub first-next : {marks : List ℕ} {slot : ℕ} → FirstAsked marks slot → slot < length marks → (getD marks slot 0 ≡ 1 → ⊥) → (getD marks slot 0 ≡ 2 → ⊥)
+    → FirstAsked marks (slot + 1)
+unfolding askedFrom
+first-next {marks} {slot} here inside one two =
+    record { same = here .same ∙ rw (drop-cons marks slot 0 inside, ne-eqb _ 1 one, ne-eqb _ 2 two, add-one slot) }
+
+-- The two names of a slot, with a space between them.
+abbrev pub pairNames : c.Letter → ℕ → List ℕ
+pairNames letter slot =
+    nameText (record { letter = letter; index = slot; suffix = c.x }) ++ (ascii " " ++ nameText (record { letter = letter; index = slot; suffix = c.y }))
+
+pub spaced-both : (letter : c.Letter) (slot : ℕ) → spaced (map nameText (bothNames letter slot)) ≡ ascii " " ++ pairNames letter slot
+unfolding spaced
+spaced-both letter slot = simp (append-nil, append-assoc)
+
+-- What get-value asks: nothing, or the pairs from the first slot on.
+pub value-none : {marks : List ℕ} {slot : ℕ} → FirstAsked marks slot → length marks ≤ slot → getValue (asked marks) ≡ []
+unfolding askedFrom
+value-none {marks} {slot} here past = rw (here .same, drop-of-length-le marks past)
+
+regroup : (p a b r q : List ℕ) → p ++ a ++ (ascii " " ++ b ++ r) ++ q ≡ p ++ (a ++ (ascii " " ++ b)) ++ r ++ q
+regroup p a b r q = simp append-assoc
+
+value-pair : (x y : Name) (rest : List Name)
+    → getValue (x ∷ y ∷ rest) ≡ ascii "(get-value (" ++ (nameText x ++ (ascii " " ++ nameText y)) ++ spaced (map nameText rest) ++ ascii "))\n"
+unfolding spaced
+value-pair x y rest = regroup (ascii "(get-value (") (nameText x) (nameText y) (spaced (map nameText rest)) (ascii "))\n")
+
+pub value-some : {marks : List ℕ} {slot : ℕ} (letter : c.Letter) → FirstAsked marks slot → slot < length marks
+    → namesOfMark slot (getD marks slot 0) ≡ bothNames letter slot
+    → getValue (asked marks) ≡ ascii "(get-value (" ++ pairNames letter slot ++ namesFrom marks (slot + 1) ++ ascii "))\n"
+value-some {marks} {slot} letter here inside e =
+    ap getValue (here .same ∙ asked-here marks slot inside ∙ ap (λ (names : List Name). names ++ askedFrom (slot + 1) (drop (slot + 1) marks)) e)
+    ∙ value-pair (record { letter = letter; index = slot; suffix = c.x }) (record { letter = letter; index = slot; suffix = c.y })
+    (askedFrom (slot + 1) (drop (slot + 1) marks))
