@@ -16,6 +16,7 @@ pub mod Solved
 pub mod Prefix
 pub mod Exists
 pub mod Filled
+pub mod Verified
 pub mod Declares
 pub mod Theorem
 pub mod Bound
