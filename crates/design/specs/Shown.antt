@@ -14,7 +14,7 @@ use Rattle.logic.specs.Trit.{shows}
 use Rattle.logic.specs.Net.{Net, constant, slot}
 use Rattle.logic.specs.declared.Trit.{Trit}
 use Rattle.bitvec.specs.Bits.{Bits}
-use Rattle.bitvec.specs.Ops as bv
+use Rattle.engine.specs.Meaning.{all}
 use Rattle.cell.specs.Cell.{Cell, outputLen}
 use Rattle.cell.specs.Cell as c
 use Rattle.cell.specs.Design.{Design, Placed, NetPair}
@@ -30,7 +30,7 @@ use Rattle.working_out.specs.Obligations.{allRefine}
 use Rattle.smt.specs.Prog.{curr, past, isUndef, isOne}
 use Rattle.smt.specs.Builder.{outputNets}
 use Rattle.smt.specs.Formula.{TritBits, tb, NetBits, readBits, sameBits, refinesBits}
-use Rattle.smt.specs.Wp.{and-true, equal-eq}
+use Rattle.smt.specs.Refines.{same-bits, refines-shows}
 use Rattle.smt.specs.Shows.{Shown, Shows, empty, lane, shown-is}
 use Rattle.smt.specs.CellBits.{currBits, valueBits, netBit, cellBits}
 use Rattle.smt.specs.CellShows.{tritsOf, read-shows, value-shows, cell-bits-show}
@@ -39,38 +39,16 @@ use Rattle.design.specs.Verify.{Step, isInput, newCellIn}
 use Rattle.design.specs.Meant.{Meant, meantAdd, meantNew, meantCell, meantCells, meantPair, meantPairs, meantSteps, claimTest, voidTest}
 use Rattle.design.specs.WorkSound.{SaidOf}
 
-pub same-bits : (a b : TritBits) → sameBits a b ≡ true → a ≡ b
-unfolding sameBits
-same-bits a b e =
-    let h = and-true (bv.equal (a .x) (b .x)) (bv.equal (a .y) (b .y) && true) e in
-    let g = and-true (bv.equal (a .y) (b .y)) true (h .1) in
-    ap₂ tb (equal-eq (a .x) (b .x) (h .0)) (equal-eq (a .y) (b .y) (g .0))
-
 -- ---- tv_refines: false exactly where some bit of from is defined and to is not the same trit
-
-regroup : (s t e f : Bool) → ((s && e) && ((t && f) && true)) ≡ ((s && t) && (e && (f && true)))
-regroup true true e f = refl
-regroup true false true f = refl
-regroup true false false f = refl
-regroup false t e f = refl
-
-lane-refines : (a b u w : Bool)
-    → (bv.same u (u && a) && bv.same (not a && b) (not a && w)) ≡ refines (shows a b) (shows u w)
-lane-refines true b true w = refl
-lane-refines true b false w = refl
-lane-refines false true true w = refl
-lane-refines false true false true = refl
-lane-refines false true false false = refl
-lane-refines false false true w = refl
-lane-refines false false false true = refl
-lane-refines false false false false = refl
 
 pub refines-shown : {n : ℕ} {x y u w : Bits} {ts us : List Trit} → Shown n x y ts → Shown n u w us
     → refinesBits (tb x y) (tb u w) ≡ allRefine ts us
-unfolding refinesBits bv.equal allRefine
-refines-shown empty empty = refl
-refines-shown (lane a b p) (lane u w q) =
-    regroup (bv.same u (u && a)) (bv.same (not a && b) (not a && w)) _ _ ∙ ap₂ _&&_ (lane-refines a b u w) (refines-shown p q)
+unfolding allRefine
+refines-shown p q = refines-shows p q ∙ trits p q
+  where
+    trits : {n : ℕ} {x y u w : Bits} {ts us : List Trit} → Shown n x y ts → Shown n u w us → all (zipWith refines ts us) ≡ allRefine ts us
+    trits empty empty = refl
+    trits (lane a b p) (lane u w q) = ap (λ (r : Bool). refines (shows a b) (shows u w) && r) (trits p q)
 
 -- An asserted cell is claimed.
 pub asserted-claimed : (a : Cell) → asserted a ≡ true → isInput a ≡ false

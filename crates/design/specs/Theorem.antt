@@ -28,6 +28,7 @@ use Rattle.smt.specs.Emit.{St, Out, emit, place, netName, at, learn, reread, af
 use Rattle.smt.specs.Formula.{TritBits, NetBits, netBits}
 use Rattle.smt.specs.Shows.{shown-is}
 use Rattle.smt.specs.CellBits.{pastBits}
+use Rattle.smt.specs.Refines.{same-bits}
 use Rattle.smt.specs.Wp.{Known}
 use Rattle.soundness.specs.Safe.{Truth}
 use Rattle.smt.specs.CellShows.{tritsOf, read-shows}
@@ -36,7 +37,7 @@ use Rattle.design.specs.Verify.{Step, declared, asserted, obliged, start
 use Rattle.design.specs.Meant.{Meant, stepsOf, meantCells, meantPair, meantPairs, meantSteps, joinTest, steps-are, steps-mean}
 use Rattle.design.specs.WorkSound.{SaidOf, ask, asks, truths, Worked, work-sound}
 use Rattle.bound.specs.Bounded.{Bounds}
-use Rattle.design.specs.Shown.{same-bits, left, right, tests-solve}
+use Rattle.design.specs.Shown.{left, right, tests-solve}
 use Rattle.design.specs.Judged.{steps-judged}
 use Rattle.design.specs.Numbered.{work-next}
 use Rattle.design.specs.Declares.{declared-left, nodes-declared}

@@ -87,11 +87,18 @@ abbrev pub writtenMarks : Read → List ℕ
 writtenMarks (refused e) = []
 writtenMarks (accepted d reps pairs) = (built d) .st .marks
 
+-- The call words and the marks that a list has.
+unfoldable pub callWords : List ℕ → List ℕ
+callWords w = writtenCalls (read w)
+
+unfoldable pub marks : List ℕ → List ℕ
+marks w = writtenMarks (read w)
+
 unfoldable pub callsAfter : List ℕ → List ℕ → List ℕ → List ℕ
-callsAfter w calls recorded = onSuccess (verified w (length calls) (length recorded)) (writtenCalls (read w)) calls
+callsAfter w calls recorded = onSuccess (verified w (length calls) (length recorded)) (callWords w) calls
 
 unfoldable pub recordedAfter : List ℕ → List ℕ → List ℕ → List ℕ
-recordedAfter w calls recorded = onSuccess (verified w (length calls) (length recorded)) (writtenMarks (read w)) recorded
+recordedAfter w calls recorded = onSuccess (verified w (length calls) (length recorded)) (marks w) recorded
 
 -- ---- document 01's numbers and values of each case: a refusal's number and place; otherwise 0 and the words
 
@@ -105,7 +112,8 @@ valueOf (Refused e) = e .place
 valueOf (NothingAsked n) = n .words
 valueOf (Asked n) = n .words
 
--- ---- requirement 3, of a list of words: what every accepted list without a current loop must have
+-- ---- requirement 3, of a list of words: what every accepted list without a current loop must have, said of its call words
 
 abbrev pub Required : List ℕ → Type 0
-Required w = (d : Design) (reps pairs : ℕ) → read w ≡ accepted d reps pairs → hasLoop d ≡ false → Requirement3 d (decode (encode (verify d)))
+Required w =
+    (d : Design) (reps pairs : ℕ) → read w ≡ accepted d reps pairs → hasLoop d ≡ false → Requirement3 d (decode (callWords w))
