@@ -73,7 +73,7 @@ module _ (w : List ℕ) (total end at : ℕ) where
       (let is : IsCell total at end (C.binary op (netsIn w n (at + 1)) (netsIn w n (at + 1 + n))) = record {
         shaped = (omega arith, rw size (wide (leading .least (omega arith))));
         within = each-append (Within total) (netsIn w n (at + 1)) (netsIn w n (at + 1 + n)) (nets (at + 1) (omega arith) (omega arith))
-        (nets (at + 1 + n) (omega arith) (omega arith));
+            (nets (at + 1 + n) (omega arith) (omega arith));
         bounded = omega arith;
         words = omega arith;
       } in is)
@@ -99,7 +99,7 @@ module _ (w : List ℕ) (total end at : ℕ) where
         within = (
           fields .named (at + 1) (omega arith) (omega arith),
           each-append (Within total) (netsIn w n (at + 2)) (netsIn w n (at + 2 + n)) (nets (at + 2) (omega arith) (omega arith))
-          (nets (at + 2 + n) (omega arith) (omega arith)),
+              (nets (at + 2 + n) (omega arith) (omega arith)),
         );
         bounded = omega arith;
         words = omega arith;
@@ -125,9 +125,9 @@ module _ (w : List ℕ) (total end at : ℕ) where
       (let is : IsCell total at end (C.adc (netsIn w n (at + 1)) (netsIn w n (at + 1 + n)) (netIn w (at + 1 + n + n))) = record {
         shaped = omega arith;
         within = each-append (Within total) (netsIn w n (at + 1)) (netsIn w n (at + 1 + n) ++ (netIn w (at + 1 + n + n) ∷ []))
-        (nets (at + 1) (omega arith) (omega arith))
-        (each-append (Within total) (netsIn w n (at + 1 + n)) (netIn w (at + 1 + n + n) ∷ []) (nets (at + 1 + n) (omega arith) (omega arith))
-        (fields .named (at + 1 + n + n) (omega arith) (omega arith), tt));
+            (nets (at + 1) (omega arith) (omega arith))
+            (each-append (Within total) (netsIn w n (at + 1 + n)) (netIn w (at + 1 + n + n) ∷ []) (nets (at + 1 + n) (omega arith) (omega arith))
+            (fields .named (at + 1 + n + n) (omega arith) (omega arith), tt));
         bounded = omega arith;
         words = omega arith;
       } in is)
@@ -170,7 +170,7 @@ module _ (w : List ℕ) (total end at : ℕ) where
       (let is : IsCell total at end (C.shift op (netsIn w n (at + 3)) (netsIn w m (at + 3 + n)) (numberIn w (at + 2))) = record {
         shaped = rw size (wide (leading .least (omega arith)));
         within = each-append (Within total) (netsIn w n (at + 3)) (netsIn w m (at + 3 + n)) (nets n (at + 3) (omega arith) (omega arith))
-        (nets m (at + 3 + n) (omega arith) (omega arith));
+            (nets m (at + 3 + n) (omega arith) (omega arith));
         bounded = (omega arith, omega arith, omega arith);
         words = omega arith;
       } in is)
@@ -230,7 +230,7 @@ module _ (w : List ℕ) (total end at : ℕ) where
         within = (
           fields .named (at + 3) (omega arith) (omega arith),
           each-append (Within total) (netsIn w n (at + 4)) (netsIn w m (at + 4 + n)) (nets n (at + 4) (omega arith) (omega arith))
-          (nets m (at + 4 + n) (omega arith) (omega arith)),
+              (nets m (at + 4 + n) (omega arith) (omega arith)),
         );
         bounded = (omega arith, omega arith);
         words = omega arith;
@@ -254,9 +254,12 @@ module _ (w : List ℕ) (total end at : ℕ) where
       record {
         shaped = (omega arith, omega arith);
         within = (
-          named (at + 2) (omega arith) (omega arith), (
-            named (at + 3) (omega arith) (omega arith), (
-              named (at + 4) (omega arith) (omega arith), (
+          named (at + 2) (omega arith) (omega arith),
+          (
+            named (at + 3) (omega arith) (omega arith),
+            (
+              named (at + 4) (omega arith) (omega arith),
+              (
                 named (at + 5) (omega arith) (omega arith),
                 named-nets w total named (numberIn w at) (at + 6) (omega arith) (omega arith),
               ),

@@ -64,10 +64,12 @@ module _ (w : List ℕ) (total : ℕ) where
       (most end n at : ℕ) {next : ℕ} → netsAt w total most end n at ≡ S.Clean next → (next ≡ at + n) × Named at (at + n)
   nets-read most end n at {next} read =
       let all =
-      many-read (netAt w total most end) (IsNet w total most end) (λ i next e. net-read w total most end i e) n at next read in
-      (all .0, λ i low high.
-      let same : at + (i - at) ≡ i = omega arith in
-      known-within total (payloadOf (getD w i 0)) (rw same at (all .1 (i - at) (omega arith) .known)))
+      many-read (netAt w total most end) (IsNet w total most end) (λ i next e. net-read w total most end i e) n at next read in (
+        all .0,
+        λ i low high.
+            let same : at + (i - at) ≡ i = omega arith in
+            known-within total (payloadOf (getD w i 0)) (rw same at (all .1 (i - at) (omega arith) .known)),
+      )
 
 module _ (w : List ℕ) (end : ℕ) where
   pub constants-read : (n at : ℕ) {next : ℕ} → constantsAt w end n at ≡ S.Clean next → next ≡ at + n
