@@ -2,3 +2,4 @@ pub mod Fields
 pub mod Cells
 pub mod Replacements
 pub mod Laid
+pub mod Bounds
