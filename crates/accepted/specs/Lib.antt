@@ -1,0 +1,5 @@
+pub mod Fields
+pub mod Cells
+pub mod Replacements
+pub mod Laid
+pub mod Bounds

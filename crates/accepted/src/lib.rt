@@ -1,0 +1,1 @@
+// What is known of every design that an accepted list stands for.
