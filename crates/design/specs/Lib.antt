@@ -21,3 +21,4 @@ pub mod Declares
 pub mod Theorem
 pub mod Bound
 pub mod WellFormed
+pub mod Required
