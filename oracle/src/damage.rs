@@ -31,7 +31,7 @@ pub fn damage(seed: u64, index: u64) -> Vec<u32> {
 /// A wound that keeps the layout whole: one that only the rules see.
 fn wound_list(list: &mut List, random: &mut Random) {
     let slots = list.slots();
-    match random.below(7) {
+    match random.below(8) {
         // Froms out of order, or one twice.
         0 => list.net_replacements.push((Net::of_slot(random.below(slots.max(1))), Net::ZERO)),
         // A replaced slot that heads another cell, or none.
@@ -76,6 +76,27 @@ fn wound_list(list: &mut List, random: &mut Random) {
             };
             let at = random.below(list.added.len() as u32 + 1) as usize;
             list.added.insert(at, cell);
+        }
+        // A pattern, clear or reset word that is no constant.
+        6 => {
+            let slot = vec![Net::ONE, Net::of_slot(random.below(slots + 3))];
+            let one = vec![Net::ONE; 2];
+            let constant = Control { net: Net::ONE, inverted: false };
+            let (clear_value, reset_value) =
+                if random.percent(50) { (slot.clone(), one.clone()) } else { (one.clone(), slot.clone()) };
+            list.added.push(match random.below(2) {
+                0 => Cell::Match { value: one.clone(), enable: Net::ONE, patterns: vec![vec![one, slot]] },
+                _ => Cell::Dff(Dff {
+                    reset_over_enable: true,
+                    clock: constant,
+                    clear: constant,
+                    reset: constant,
+                    enable: constant,
+                    data: one,
+                    clear_value,
+                    reset_value,
+                }),
+            });
         }
         // Notes for Voids and Voids for Notes.
         _ => {

@@ -65,38 +65,12 @@ impl Shape {
 }
 
 /// Operations that every list may hold, each as often as it stands here.
+#[rustfmt::skip]
 const OPERATIONS: [u32; 31] = [
-    list::VOID,
-    list::VOID,
-    list::BUF,
-    list::NOT,
-    list::AND,
-    list::OR,
-    list::XOR,
-    list::MUX,
-    list::MUX,
-    list::ADC,
-    list::ADC,
-    list::AIG,
-    list::EQ,
-    list::ULT,
-    list::SLT,
-    list::SHL,
-    list::USHR,
-    list::SSHR,
-    list::XSHR,
-    list::MUL,
-    list::MATCH,
-    list::MATCH,
-    list::MATCH,
-    list::ASSIGN,
-    list::ASSIGN,
-    list::DFF,
-    list::DFF,
-    list::DFF,
-    list::IOBUF,
-    list::INPUT,
-    list::NOTE,
+    list::VOID, list::VOID, list::BUF, list::NOT, list::AND, list::OR, list::XOR, list::MUX, list::MUX, list::ADC,
+    list::ADC, list::AIG, list::EQ, list::ULT, list::SLT, list::SHL, list::USHR, list::SSHR, list::XSHR, list::MUL,
+    list::MATCH, list::MATCH, list::MATCH, list::ASSIGN, list::ASSIGN, list::DFF, list::DFF, list::DFF, list::IOBUF,
+    list::INPUT, list::NOTE,
 ];
 
 const NARROW: [u32; 12] = [0, 1, 1, 1, 1, 2, 2, 2, 3, 3, 4, 5];
@@ -146,7 +120,7 @@ pub fn single(seed: u64, index: u64, op: u32, n: u32) -> List {
     list
 }
 
-/// Takes replacements out until the list has no more than 16,384 words.
+/// Takes replacements out until the list has no more than 16,384 words; its cells alone never have more.
 fn fit(mut list: List) -> List {
     while list.words().len() > 16_384 {
         if list.cell_replacements.pop().is_none() {
@@ -189,14 +163,26 @@ impl Generator {
     }
 
     fn cells_and_replacements(&mut self, base: u32, added: u32) -> List {
-        let base = (0..base).map(|_| self.shape()).collect();
-        let added = (0..added).map(|_| self.shape()).collect();
+        let mut words = 12_000;
+        let base = self.shapes(base, &mut words);
+        let added = self.shapes(added, &mut words);
         let mut list = self.lay_out(base, added);
         let most = if self.size == Size::Medium { 8 } else { 2 };
         self.replace_cells(&mut list, most, 40);
         let wanted = self.random.below(2 * most + 1);
         self.replace_nets(&mut list, wanted);
-        list
+        fit(list)
+    }
+
+    /// So many shapes, as long as there are words for them.
+    fn shapes(&mut self, count: u32, words: &mut u32) -> Vec<Shape> {
+        let drawn = (0..count).map(|_| self.shape()).collect::<Vec<_>>();
+        let fitting = drawn.into_iter().take_while(|shape| {
+            let fits = shape.length() <= *words;
+            *words -= if fits { shape.length() } else { 0 };
+            fits
+        });
+        fitting.collect()
     }
 
     fn width(&mut self) -> u32 {
@@ -278,7 +264,7 @@ impl Generator {
                 _ => self.shape_of(op, width),
             };
             // No cell but Adc has 64 bits.
-            if shape.output_width() == width && (shape.n < 64 && shape.alternates.len() < 64) {
+            if shape.output_width() == width && shape.n < 64 && shape.alternates.len() < 64 {
                 return shape;
             }
         }

@@ -57,34 +57,10 @@ pub const NOTE: u32 = 22;
 pub const UDIV: u32 = 23;
 pub const SMODTRUNC: u32 = 26;
 
+#[rustfmt::skip]
 pub const NAMES: [&str; 27] = [
-    "Void",
-    "Buf",
-    "Not",
-    "And",
-    "Or",
-    "Xor",
-    "Mux",
-    "Adc",
-    "Aig",
-    "Eq",
-    "ULt",
-    "SLt",
-    "Shl",
-    "UShr",
-    "SShr",
-    "XShr",
-    "Mul",
-    "Match",
-    "Assign",
-    "Dff",
-    "IoBuf",
-    "Input",
-    "Note",
-    "UDiv",
-    "UMod",
-    "SDivTrunc",
-    "SModTrunc",
+    "Void", "Buf", "Not", "And", "Or", "Xor", "Mux", "Adc", "Aig", "Eq", "ULt", "SLt", "Shl", "UShr", "SShr", "XShr",
+    "Mul", "Match", "Assign", "Dff", "IoBuf", "Input", "Note", "UDiv", "UMod", "SDivTrunc", "SModTrunc",
 ];
 
 /// A cell. Operations of one layout share a case.

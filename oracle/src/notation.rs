@@ -2,7 +2,7 @@
 //!
 //! Numbers are #n, nets 0, 1, X and slots si, inverted ones have a ! before them, a head is its operation's name, or
 //! `op` and its number. A comma ends a record, and so gives a head its count; a count of its own stands after a colon.
-//! A word with * and a number after it is repeated.
+//! A term is ki, a word of a kind without a meaning is its kind and payload. A word with * and a number is repeated.
 
 use crate::list::NAMES;
 use crate::words::{self, HEAD, INVERTED, LAST, NET, NUMBER, TERM};
@@ -89,6 +89,10 @@ fn parse_word(text: &str, rest: usize) -> Option<u32> {
     }
     if let Some(payload) = parse_net(text) {
         return Some(words::word(NET, payload));
+    }
+    if let Some(other) = text.strip_prefix("kind") {
+        let (kind, payload) = other.split_once(':')?;
+        return Some(words::word(kind.parse().ok()?, payload.parse().ok()?));
     }
     if let Some(digits) = text.strip_prefix('k') {
         return Some(words::word(TERM, digits.parse().ok()?));

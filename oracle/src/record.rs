@@ -35,31 +35,10 @@ const DECLARE: u32 = 21;
 const ASSERT: u32 = 22;
 const CHECK: u32 = 23;
 
+#[rustfmt::skip]
 pub const CALLS: [&str; 24] = [
-    "bool literal",
-    "bool ite",
-    "not",
-    "and",
-    "literal",
-    "equal",
-    "ite",
-    "concat",
-    "extract",
-    "bvnot",
-    "bvand",
-    "bvor",
-    "bvxor",
-    "bvadd",
-    "bvcomp",
-    "bvult",
-    "bvslt",
-    "bvshl",
-    "bvlshr",
-    "bvashr",
-    "bvmul",
-    "declare",
-    "assert",
-    "check",
+    "bool literal", "bool ite", "not", "and", "literal", "equal", "ite", "concat", "extract", "bvnot", "bvand", "bvor",
+    "bvxor", "bvadd", "bvcomp", "bvult", "bvslt", "bvshl", "bvlshr", "bvashr", "bvmul", "declare", "assert", "check",
 ];
 
 /// A term of sort Bool, by its number.

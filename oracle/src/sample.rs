@@ -12,9 +12,11 @@ use crate::record::Answer;
 use crate::rust::{self, Way};
 use crate::{damage, notation, read, words};
 
-/// How many lists the sample has, and how many refused ones go with it.
+/// How many lists the sample has, and how many refused ones of each fault go with it.
 const LISTS: usize = 300;
-const REFUSED: usize = 300;
+const REFUSED: usize = 23;
+/// The faults of a design list are 1 to 13.
+const FAULTS: usize = 13;
 /// The longest call list of those that meet a need, and of the others; wide cells open the sample.
 const CALL_WORDS: usize = 1_200;
 const FEWER_CALL_WORDS: usize = 150;
@@ -185,7 +187,7 @@ fn accepted(seed: u64) -> (Vec<Sampled>, Needs) {
     (sample, needs)
 }
 
-/// Refused lists, each fault as often as the others where there are enough.
+/// Refused lists, each fault as often as the others.
 fn refused(seed: u64) -> Vec<(Vec<u32>, read::Fault)> {
     let mut of_each: BTreeMap<u32, usize> = BTreeMap::new();
     let mut sample: Vec<(Vec<u32>, read::Fault)> = vec![];
@@ -193,11 +195,11 @@ fn refused(seed: u64) -> Vec<(Vec<u32>, read::Fault)> {
         let list = damage::damage(seed, index);
         let Err(fault) = read::read(&list) else { continue };
         let many = of_each.entry(fault.number).or_default();
-        if list.len() <= 60 && *many < REFUSED.div_ceil(13) && sample.iter().all(|(before, _)| *before != list) {
+        if list.len() <= 60 && *many < REFUSED && sample.iter().all(|(before, _)| *before != list) {
             *many += 1;
             sample.push((list, fault));
         }
-        if sample.len() == REFUSED {
+        if sample.len() == REFUSED * FAULTS {
             break;
         }
     }

@@ -3,6 +3,7 @@
 use crate::words;
 
 /// SMT-LIB's names of the calls that are written as an operation before its arguments.
+#[rustfmt::skip]
 const OPERATIONS: [&str; 21] = [
     "", "ite", "not", "and", "", "=", "ite", "concat", "", "bvnot", "bvand", "bvor", "bvxor", "bvadd", "bvcomp",
     "bvult", "bvslt", "bvshl", "bvlshr", "bvashr", "bvmul",
