@@ -4,7 +4,18 @@ use mathlib.Core.Bool.{Bool, true, false, not, cond, _&&_, _||_}
 use mathlib.Core.List.{List, [], _∷_, _++_, map}
 use Prim.Native.Nat.{ℕ, zero, suc, _+_, _-_, _*_, _≤_, _<_, max}
 use native.Mathlib.Omega.{arith}
-use lib.ListN.{length, getD, take, drop, replicate, length-map, length-append, length-replicate, length-take, length-drop}
+use lib.ListN.{
+  length,
+  getD,
+  take,
+  drop,
+  replicate,
+  length-map,
+  length-append,
+  length-replicate,
+  length-take,
+  length-drop,
+}
 use Rattle.logic.specs.Net.{Net, constant, slot}
 use Rattle.logic.specs.Table.{tab, length-tab}
 use Rattle.logic.specs.declared.Trit.{Trit}
@@ -16,7 +27,25 @@ use Rattle.engine.specs.Call.{BinaryOp}
 use Rattle.engine.specs.Meaning.{Value, bits, Assignment}
 use Rattle.cell.specs.Cell.{Cell, Control, FlipFlop, Shift, Binary, binaryWidth, outputLen}
 use Rattle.cell.specs.Cell as cells
-use Rattle.smt.specs.Prog.{Prog, ret, op, declare, bind, bind2, _>>=_, Age, curr, past, Half, isUndef, isOne, BitVec, bv, TritVec, tv}
+use Rattle.smt.specs.Prog.{
+  Prog,
+  ret,
+  op,
+  declare,
+  bind,
+  bind2,
+  _>>=_,
+  Age,
+  curr,
+  past,
+  Half,
+  isUndef,
+  isOne,
+  BitVec,
+  bv,
+  TritVec,
+  tv,
+}
 use Rattle.smt.specs.Builder.{
   tvLit,
   tvBind,
@@ -137,7 +166,8 @@ module _ (readsPast : ℕ → Bool) (b : NetBits) where
 
   abbrev pub clockBits : Control → TritBits
   clockBits w =
-      andBits (invertBits (w .inverted) (currBits (w .net ∷ []))) (notBits (invertBits (w .inverted) (pastBits (w .net ∷ []))))
+      andBits (invertBits (w .inverted) (currBits (w .net ∷ [])))
+      (notBits (invertBits (w .inverted) (pastBits (w .net ∷ []))))
 
   -- A shift of n nets, of the nets and the operations of its arm.
   unfoldable pub shiftedBits : BinaryOp → BinaryOp → Bool → ℕ → List Net → List Net → ℕ → TritBits
@@ -173,13 +203,16 @@ module _ (readsPast : ℕ → Bool) (b : NetBits) where
   unfoldable pub matchBits : List Net → Net → List (List (List Trit)) → TritBits
   matchBits nets enable patterns =
       let k = length patterns in
-      muxBits (netBit enable) (firstBits (matchesBits nets patterns) k k (litBits (replicate k Zero))) (litBits (replicate k Zero))
+      muxBits (netBit enable) (firstBits (matchesBits nets patterns) k k (litBits (replicate k Zero)))
+      (litBits (replicate k Zero))
 
   abbrev pub loadedBits : Bool → FlipFlop → List Net → TritBits
   loadedBits true f out =
-      muxBits (controlBits (f .reset)) (litBits (f .resetValue)) (muxBits (controlBits (f .enable)) (valueBits (f .dat)) (pastBits out))
+      muxBits (controlBits (f .reset)) (litBits (f .resetValue))
+      (muxBits (controlBits (f .enable)) (valueBits (f .dat)) (pastBits out))
   loadedBits false f out =
-      muxBits (controlBits (f .enable)) (muxBits (controlBits (f .reset)) (litBits (f .resetValue)) (valueBits (f .dat))) (pastBits out)
+      muxBits (controlBits (f .enable)) (muxBits (controlBits (f .reset)) (litBits (f .resetValue))
+      (valueBits (f .dat))) (pastBits out)
 
   abbrev pub clockedBits : FlipFlop → List Net → TritBits
   clockedBits f out = muxBits (clockBits (f .clock)) (loadedBits (f .resetOverEnable) f out) (pastBits out)
@@ -191,7 +224,8 @@ module _ (readsPast : ℕ → Bool) (b : NetBits) where
   abbrev pub adcCellBits : List Net → List Net → Net → TritBits
   adcCellBits [] y carry = netBit carry
   adcCellBits (n ∷ x) y carry =
-      adcBits (valueBits (n ∷ x)) (valueBits y) (bitOf b ageOf isUndef carry) (bitOf b ageOf isOne carry) (length (n ∷ x))
+      adcBits (valueBits (n ∷ x)) (valueBits y) (bitOf b ageOf isUndef carry) (bitOf b ageOf isOne carry)
+      (length (n ∷ x))
 
   abbrev pub cellBits : ℕ → ℕ → Cell → TritBits
   cellBits s w cells.void = tb [] []
@@ -226,7 +260,8 @@ wide cells.eq n h some = h
 wide cells.ult n h some = h
 wide cells.slt n h some = h
 
-pub length-overwritten : {A : Type 0} (value : List A) (offset : ℕ) (update : List A) → offset + length update ≤ length value
+pub length-overwritten : {A : Type 0} (value : List A) (offset : ℕ) (update : List A)
+    → offset + length update ≤ length value
     → length (take offset value ++ (update ++ drop (offset + length update) value)) ≡ length value
 length-overwritten value offset update h =
     simp (length-append, length-take, length-drop) (omega arith)
@@ -245,10 +280,12 @@ module _ (readsPast : ℕ → Bool) (ρ : Assignment) (v : ℕ → Value) where
       go true = netOf-wp ρ v past (slot i)
       go false = netOf-wp ρ v curr (slot i)
 
-  value-wp : (nets : List Net) → 0 < length nets → wp ρ v (valueOf (net readsPast) nets) (λ r. Is ρ v r (valueBits readsPast b nets))
+  value-wp : (nets : List Net) → 0 < length nets → wp ρ v (valueOf (net readsPast) nets)
+      (λ r. Is ρ v r (valueBits readsPast b nets))
   value-wp = valueOf-wp ρ v (net readsPast) (ageOf readsPast b) net-wp
 
-  past-wp : (s w : ℕ) → 0 < w → wp ρ v (valueOf pastNet (outputNets s w)) (λ r. Is ρ v r (pastBits readsPast b (outputNets s w)))
+  past-wp : (s w : ℕ) → 0 < w → wp ρ v (valueOf pastNet (outputNets s w))
+      (λ r. Is ρ v r (pastBits readsPast b (outputNets s w)))
   past-wp s w some = valueOf-wp ρ v pastNet (λ i. past) (netOf-wp ρ v past) (outputNets s w) (simp length-tab some)
 
   -- The widths of what is read.
@@ -336,7 +373,8 @@ module _ (readsPast : ℕ → Bool) (ρ : Assignment) (v : ℕ → Value) where
   product-wp (n ∷ nets) [] prd P h = h
   product-wp (n ∷ nets) (Undef ∷ pattern) prd P h = product-wp nets pattern prd P h
   product-wp (n ∷ nets) (Zero ∷ pattern) prd P h =
-      wp-seq ρ v (compared readsPast n Zero prd) _ _ _ (compared-wp n Zero prd P h) λ r hr. product-wp nets pattern r _ hr
+      wp-seq ρ v (compared readsPast n Zero prd) _ _ _ (compared-wp n Zero prd P h) λ r hr.
+      product-wp nets pattern r _ hr
   product-wp (n ∷ nets) (One ∷ pattern) prd P h =
       wp-seq ρ v (compared readsPast n One prd) _ _ _ (compared-wp n One prd P h) λ r hr. product-wp nets pattern r _ hr
 
@@ -351,7 +389,8 @@ module _ (readsPast : ℕ → Bool) (ρ : Assignment) (v : ℕ → Value) where
       sum-wp nets alternates r3 _ h3
 
   matchOf-wp : (nets : List Net) (alternates : List (List Trit))
-      → wp ρ v (matchOf readsPast nets alternates) (λ r. Is ρ v r (sumBits readsPast b nets alternates (litBits (Zero ∷ []))))
+      → wp ρ v (matchOf readsPast nets alternates) (λ r. Is ρ v r
+      (sumBits readsPast b nets alternates (litBits (Zero ∷ []))))
   unfolding matchOf
   matchOf-wp nets alternates =
       wp-seq ρ v (tvLit (Zero ∷ [])) _ _ _ (tvLit-wp ρ v (Zero ∷ [])) λ r h. sum-wp nets alternates r _ h
@@ -367,14 +406,19 @@ module _ (readsPast : ℕ → Bool) (ρ : Assignment) (v : ℕ → Value) where
       firstMatch-wp m M k index q _ hm hq
 
   matchCell-wp : (nets : List Net) (enable : Net) (patterns : List (List (List Trit))) → 0 < length patterns
-      → wp ρ v (matchCell readsPast nets enable patterns (length patterns)) (λ r. Is ρ v r (matchBits readsPast b nets enable patterns))
+      → wp ρ v (matchCell readsPast nets enable patterns (length patterns))
+      (λ r. Is ρ v r (matchBits readsPast b nets enable patterns))
   unfolding matchCell matchBits
   matchCell-wp nets enable patterns some =
       let k = length patterns in
-      let each : List (List Trit) → TritBits = λ alternates. sumBits readsPast b nets alternates (litBits (Zero ∷ [])) in
-      wp-seq ρ v (collect (matchOf readsPast nets) patterns) _ _ _ (collect-wp ρ v (matchOf readsPast nets) each (matchOf-wp nets) patterns) λ ts hts.
-      wp-seq ρ v (tvConcat ts) _ _ _ (tvConcat-wp ρ v ts (map each patterns) (rw (length-map patterns each) some) hts) λ m hm.
-      wp-seq ρ v (tvBind m k) _ (λ r. Is ρ v r (matchesBits readsPast b nets patterns)) _ (λ x y ex ey. (ex ∙ hm .0, ey ∙ hm .1)) λ m hm.
+      let each : List (List Trit) → TritBits = λ alternates.
+      sumBits readsPast b nets alternates (litBits (Zero ∷ [])) in
+      wp-seq ρ v (collect (matchOf readsPast nets) patterns) _ _ _
+      (collect-wp ρ v (matchOf readsPast nets) each (matchOf-wp nets) patterns) λ ts hts.
+      wp-seq ρ v (tvConcat ts) _ _ _ (tvConcat-wp ρ v ts (map each patterns) (rw (length-map patterns each) some) hts)
+      λ m hm.
+      wp-seq ρ v (tvBind m k) _ (λ r. Is ρ v r (matchesBits readsPast b nets patterns)) _
+      (λ x y ex ey. (ex ∙ hm .0, ey ∙ hm .1)) λ m hm.
       wp-seq ρ v (net readsPast enable) _ _ _ (net-wp enable) λ e he.
       wp-seq ρ v (tvLit (replicate k Zero)) _ _ _ (tvLit-wp ρ v (replicate k Zero)) λ cold hc.
       wp-seq ρ v (firstMatch m k k cold) _ _ _ (firstMatch-wp m _ k k cold _ hm hc) λ r hr.
@@ -391,22 +435,28 @@ module _ (readsPast : ℕ → Bool) (ρ : Assignment) (v : ℕ → Value) where
       → wp ρ v (resetTo readsPast f w e d) (λ r. Is ρ v r (muxBits E (litBits (f .resetValue)) D))
   unfolding resetTo
   resetTo-wp f w e d E D he hd =
-      wp-seq ρ v (tvLit (f .resetValue)) _ _ _ (tvLit-wp ρ v (f .resetValue)) λ r hr. tvMux-wp ρ v e r d w _ _ _ he hr hd
+      wp-seq ρ v (tvLit (f .resetValue)) _ _ _ (tvLit-wp ρ v (f .resetValue)) λ r hr.
+      tvMux-wp ρ v e r d w _ _ _ he hr hd
 
-  loaded-wp : (flag : Bool) (f : FlipFlop) (s w : ℕ) (r e d : TritVec) → 0 < w → Is ρ v r (controlBits readsPast b (f .reset))
+  loaded-wp : (flag : Bool) (f : FlipFlop) (s w : ℕ) (r e d : TritVec) → 0 < w
+      → Is ρ v r (controlBits readsPast b (f .reset))
       → Is ρ v e (controlBits readsPast b (f .enable)) → Is ρ v d (valueBits readsPast b (f .dat))
       → wp ρ v (loaded readsPast flag f s w r e d) (λ q. Is ρ v q (loadedBits readsPast b flag f (outputNets s w)))
   unfolding loaded
   loaded-wp true f s w r e d some hr he hd =
-      wp-seq ρ v (enabled readsPast f s w e d) _ _ _ (enabled-wp f s w e d _ _ some he hd) λ q hq. resetTo-wp f w r q _ _ hr hq
+      wp-seq ρ v (enabled readsPast f s w e d) _ _ _ (enabled-wp f s w e d _ _ some he hd) λ q hq.
+      resetTo-wp f w r q _ _ hr hq
   loaded-wp false f s w r e d some hr he hd =
-      wp-seq ρ v (resetTo readsPast f w r d) _ _ _ (resetTo-wp f w r d _ _ hr hd) λ q hq. enabled-wp f s w e q _ _ some he hq
+      wp-seq ρ v (resetTo readsPast f w r d) _ _ _ (resetTo-wp f w r d _ _ hr hd) λ q hq.
+      enabled-wp f s w e q _ _ some he hq
 
-  cleared-wp : (flag : Bool) (f : FlipFlop) (w : ℕ) (e d : TritVec) (D : TritBits) → Is ρ v e (controlBits readsPast b (f .clear))
+  cleared-wp : (flag : Bool) (f : FlipFlop) (w : ℕ) (e d : TritVec) (D : TritBits)
+      → Is ρ v e (controlBits readsPast b (f .clear))
       → Is ρ v d D → wp ρ v (cleared readsPast flag f w e d) (λ r. Is ρ v r (clearedBits readsPast b flag f D))
   unfolding cleared
   cleared-wp true f w e d D he hd =
-      wp-seq ρ v (tvLit (f .clearValue)) _ _ _ (tvLit-wp ρ v (f .clearValue)) λ r hr. tvMux-wp ρ v e r d w _ _ _ he hr hd
+      wp-seq ρ v (tvLit (f .clearValue)) _ _ _ (tvLit-wp ρ v (f .clearValue)) λ r hr.
+      tvMux-wp ρ v e r d w _ _ _ he hr hd
   cleared-wp false f w e d D he hd = hd
 
   dffCell-wp : (f : FlipFlop) (s w : ℕ) → 0 < length (f .dat) → 0 < w
@@ -418,7 +468,8 @@ module _ (readsPast : ℕ → Bool) (ρ : Assignment) (v : ℕ → Value) where
       wp-seq ρ v (controlNet readsPast (f .clear)) _ _ _ (controlNet-wp (f .clear)) λ c hc.
       wp-seq ρ v (controlNet readsPast (f .reset)) _ _ _ (controlNet-wp (f .reset)) λ r hr.
       wp-seq ρ v (controlNet readsPast (f .enable)) _ _ _ (controlNet-wp (f .enable)) λ e he.
-      wp-seq ρ v (loaded readsPast (f .resetOverEnable) f s w r e d) _ _ _ (loaded-wp (f .resetOverEnable) f s w r e d some hr he hd) λ l hl.
+      wp-seq ρ v (loaded readsPast (f .resetOverEnable) f s w r e d) _ _ _
+      (loaded-wp (f .resetOverEnable) f s w r e d some hr he hd) λ l hl.
       wp-seq ρ v (clockNet (f .clock)) _ _ _ (clockNet-wp (f .clock)) λ k hk.
       wp-seq ρ v (valueOf pastNet (outputNets s w)) _ _ _ (past-wp s w some) λ o ho.
       wp-seq ρ v (tvMux k l o w) _ _ _ (tvMux-wp ρ v k l o w _ _ _ hk hl ho) λ q hq.
@@ -436,7 +487,8 @@ module _ (readsPast : ℕ → Bool) (ρ : Assignment) (v : ℕ → Value) where
       tvAdc-wp ρ v p q r (length (n ∷ x)) _ _ _ _ hp hq (carry-is carry r hr) (length-x (n ∷ x)) (length-x y ∙ e)
 
   mux-wp : (sel : Net) (x y : List Net) (w : ℕ) → 0 < length x → 0 < length y
-      → wp ρ v (net readsPast sel >>= λ s. valueOf (net readsPast) x >>= λ p. valueOf (net readsPast) y >>= λ q. tvMux s p q w)
+      → wp ρ v (net readsPast sel >>= λ s. valueOf (net readsPast) x >>= λ p. valueOf
+      (net readsPast) y >>= λ q. tvMux s p q w)
       (λ r. Is ρ v r (muxBits (netBit readsPast b sel) (valueBits readsPast b x) (valueBits readsPast b y)))
   mux-wp sel x y w n m =
       wp-seq ρ v (net readsPast sel) _ _ _ (net-wp sel) λ s hs.
@@ -468,5 +520,6 @@ module _ (readsPast : ℕ → Bool) (ρ : Assignment) (v : ℕ → Value) where
   cell-wp s (cells.shift o nets amount stride) h terms some = shiftCell-wp o nets amount stride some
   cell-wp s (cells.match nets enable patterns) h terms some = matchCell-wp nets enable patterns some
   cell-wp s (cells.assign nets enable update offset) h terms some =
-      mux-wp enable (overwritten nets offset update) nets (length nets) (rw (length-overwritten nets offset update h) some) some
+      mux-wp enable (overwritten nets offset update) nets (length nets)
+      (rw (length-overwritten nets offset update h) some) some
   cell-wp s (cells.dff f) h terms some = dffCell-wp f s (length (f .dat)) some some

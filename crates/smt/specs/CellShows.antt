@@ -1,4 +1,4 @@
--- Requirement 2: the bits of a cell's terms show the rule of the cell on what its nets show, whatever their hidden bits.
+-- Requirement 2: the bits of a cell's terms show the cell's rule on what its nets show, whatever their hidden bits.
 use mathlib.Core.Path.{_≡_, refl, sym, ap, ap₂, _∙_}
 use mathlib.Core.Bool.{Bool, true, false, not, cond, _&&_, _||_}
 use mathlib.Core.List.{List, [], _∷_, _++_, map, map-append}
@@ -6,7 +6,19 @@ use Prim.Native.Nat.{ℕ, zero, suc, _+_, _-_, _*_, _≤_, _<_, max}
 use native.Mathlib.Numerals.{add-one}
 use native.Mathlib.Omega.{arith}
 use lib.Dec.{ltb, eqb}
-use lib.ListN.{length, getD, take, drop, replicate, length-map, length-append, length-replicate, List·getD-map, List·getD-eq-default, drop-of-length-le}
+use lib.ListN.{
+  length,
+  getD,
+  take,
+  drop,
+  replicate,
+  length-map,
+  length-append,
+  length-replicate,
+  List·getD-map,
+  List·getD-eq-default,
+  drop-of-length-le,
+}
 use lib.Seq.{drop-cons}
 use Rattle.logic.specs.Net.{Net, constant, slot}
 use Rattle.logic.specs.Table.{zipWith, tab, length-tab, map-tab}
@@ -30,7 +42,19 @@ use Rattle.rules.specs.CellRule as rule
 use Rattle.rules.specs.Shape.{Shaped}
 use Rattle.smt.specs.Prog.{Age, curr, past, Half, isUndef, isOne, TritVec}
 use Rattle.smt.specs.Emit.{St, emit}
-use Rattle.smt.specs.Builder.{outputNets, oneHot, overwritten, hasClear, isAlwaysInactive, shiftWidth, ilog2, zext, sext, extended, cell}
+use Rattle.smt.specs.Builder.{
+  outputNets,
+  oneHot,
+  overwritten,
+  hasClear,
+  isAlwaysInactive,
+  shiftWidth,
+  ilog2,
+  zext,
+  sext,
+  extended,
+  cell,
+}
 use Rattle.smt.specs.Wp.{wp-mono, wp-sound, Known, Sound}
 use Rattle.smt.specs.Terms.{Is}
 use Rattle.smt.specs.Formula.{
@@ -108,7 +132,16 @@ use Rattle.smt.specs.Shows.{
   extract-shows,
 }
 use Rattle.smt.specs.ShowsNumber.{zero-x, equals-shows, ult-shows, slt-shows, mul-shows, adc-shows}
-use Rattle.smt.specs.ShowsShift.{getD-pad, by-number, anyX-zeros, moved-shows, shl-lanes, lshr-lanes, ashr-lanes, xshr-lanes}
+use Rattle.smt.specs.ShowsShift.{
+  getD-pad,
+  by-number,
+  anyX-zeros,
+  moved-shows,
+  shl-lanes,
+  lshr-lanes,
+  ashr-lanes,
+  xshr-lanes,
+}
 
 -- The trits that the bits of the nets show.
 abbrev pub tritsOf : NetBits → Trits
@@ -148,7 +181,8 @@ constant-shows One = refl
 constant-shows Undef = refl
 
 -- The trits of nets, each slot read at its age.
-pub read-shows : (b : NetBits) (age : ℕ → Age) (f : ℕ → Trit) → ((i : ℕ) → shows (b (age i) i isUndef) (b (age i) i isOne) ≡ f i)
+pub read-shows : (b : NetBits) (age : ℕ → Age) (f : ℕ → Trit)
+    → ((i : ℕ) → shows (b (age i) i isUndef) (b (age i) i isOne) ≡ f i)
     → (nets : List Net) → Shows (length nets) (readBits b age nets) (map (ofNet f) nets)
 unfolding readBits
 read-shows b age f h [] = empty
@@ -222,14 +256,17 @@ module _ (readsPast : ℕ → Bool) (b : NetBits) where
   pub value-shows : (nets : List Net) → Shows (length nets) (value nets) (map reading nets)
   value-shows = read-shows b (ageOf readsPast b) (asRead readsPast θ) at-age
     where
-      by-age : (p : Bool) (i : ℕ) → shows (b (cond p past curr) i isUndef) (b (cond p past curr) i isOne) ≡ cond p (θ .was i) (θ .now i)
+      by-age : (p : Bool) (i : ℕ) → shows (b (cond p past curr) i isUndef) (b (cond p past curr) i isOne)
+          ≡ cond p (θ .was i) (θ .now i)
       by-age true i = refl
       by-age false i = refl
 
-      at-age : (i : ℕ) → shows (b (ageOf readsPast b i) i isUndef) (b (ageOf readsPast b i) i isOne) ≡ asRead readsPast θ i
+      at-age : (i : ℕ) → shows (b (ageOf readsPast b i) i isUndef) (b (ageOf readsPast b i) i isOne)
+          ≡ asRead readsPast θ i
       at-age i = by-age (readsPast i) i
 
-  net-shows : (n : Net) → shows (bitOf b (ageOf readsPast b) isUndef n) (bitOf b (ageOf readsPast b) isOne n) ≡ reading n
+  net-shows : (n : Net) → shows (bitOf b (ageOf readsPast b) isUndef n) (bitOf b (ageOf readsPast b) isOne n)
+      ≡ reading n
   unfolding readBits
   net-shows n = shown-at (value-shows (n ∷ [])) 0 false false
 
@@ -264,7 +301,11 @@ module _ (readsPast : ℕ → Bool) (b : NetBits) where
   padded-shows : (nets : List Net) (j : ℕ) (fill : Net) (w : ℕ) → length nets + j ≡ w
       → Shows w (value (nets ++ replicate j fill)) (map reading nets ++ replicate j (reading fill))
   padded-shows nets j fill w e =
-      rw (width, map-append reading nets (replicate j fill) ∙ ap (λ (l : List Trit). map reading nets ++ l) (map-replicate reading j fill))
+      rw (
+        width,
+        map-append reading nets (replicate j fill)
+            ∙ ap (λ (l : List Trit). map reading nets ++ l) (map-replicate reading j fill),
+      )
       at (value-shows (nets ++ replicate j fill))
     where
       width : length (nets ++ replicate j fill) ≡ w
@@ -288,7 +329,8 @@ module _ (readsPast : ℕ → Bool) (b : NetBits) where
     pub shifted-shows : (ts : List Trit) (f : ℕ → ℕ → Trit) → 0 < n → n ≤ length nets → Shows w wider ts
         → IsShift onX → IsShift onY
         → ((by : Bits) (i : ℕ) → i < n
-        → shows (getD (denoteOp onX (wider .x) by) i false) (getD (denoteOp onY (wider .y) by) i false) ≡ f (bv2nat by) i)
+        → shows (getD (denoteOp onX (wider .x) by) i false) (getD (denoteOp onY (wider .y) by) i false)
+        ≡ f (bv2nat by) i)
         → Shows n (shiftedBits readsPast b onX onY signed n nets amount stride)
         (cond (anyX places) (replicate n Undef) (tab n (f (number places * stride))))
     unfolding shiftedBits shiftBits extractBits
@@ -299,7 +341,8 @@ module _ (readsPast : ℕ → Bool) (b : NetBits) where
         let by = bvmul (amountBits .y) (nat2bv w stride) in
         let q = padded-shows amount j (constant Zero) w (omega arith) in
         rw (zero-x q, anyX-zeros places j)
-        (moved-shows n w (denoteOp onX (wider .x) by) (denoteOp onY (wider .y) by) (anyX places) (f (number places * stride)) some (omega arith)
+        (moved-shows n w (denoteOp onX (wider .x) by) (denoteOp onY (wider .y) by) (anyX places)
+        (f (number places * stride)) some (omega arith)
         (length-shift onX lx (wider .x) by ∙ shown-x p) (length-shift onY ly (wider .y) by ∙ shown-y p)
         λ u i l. h by i l ∙ ap (λ (k : ℕ). f k i)
         (by-number w (amountBits .x) (amountBits .y) places j stride q (rw (length-map amount reading) (e .1)) u))
@@ -328,7 +371,8 @@ module _ (readsPast : ℕ → Bool) (b : NetBits) where
     shl-shows =
         let p = padded-shows nets (top - n) (constant Zero) top filled in
         rw (length-map nets reading)
-        (shifted-shows _ _ false n nets amount stride _ (λ k i. cond (ltb i k) Zero (getD ts (i - k) Zero)) some (omega arith) p
+        (shifted-shows _ _ false n nets amount stride _ (λ k i. cond (ltb i k) Zero (getD ts (i - k) Zero)) some
+        (omega arith) p
         tt tt λ by i h. shl-lanes ts (top - n) p by i (below i h))
 
     ushr-shows : by-rule cells.ushr
@@ -350,11 +394,13 @@ module _ (readsPast : ℕ → Bool) (b : NetBits) where
         ∙ getD-any ts (n - 1) (reading fill) Undef (rw (length-map nets reading) (omega arith)) ∙ e in
         rw (length-map nets reading, e)
         (shifted-shows _ _ true n nets amount stride _ (λ k i. getD ts (i + k) (reading fill)) some (omega arith) p
-        tt tt λ by i h. ashr-lanes ts (top - n) (reading fill) p (rw (length-map nets reading) some) same by i (below i h))
+        tt tt λ by i h. ashr-lanes ts (top - n) (reading fill) p (rw (length-map nets reading) some) same by i
+        (below i h))
 
   -- XShr has an X on top of its value.
   xshr-shows : (nets amount : List Net) (stride : ℕ) → 0 < length nets
-      → Shows (length nets) (shiftCellBits readsPast b cells.xshr nets amount stride) (r.shift cells.xshr (map reading nets) (map reading amount) stride)
+      → Shows (length nets) (shiftCellBits readsPast b cells.xshr nets amount stride)
+      (r.shift cells.xshr (map reading nets) (map reading amount) stride)
   unfolding shiftCellBits
   xshr-shows nets amount stride some =
       let topped = nets ++ (constant Undef ∷ []) in
@@ -363,12 +409,16 @@ module _ (readsPast : ℕ → Bool) (b : NetBits) where
       let e = wide-enough (length topped) (length amount) stride in
       let l : length topped ≡ length nets + 1 = length-append nets (constant Undef ∷ []) in
       let last : getD topped (length topped - 1) (constant Undef) ≡ constant Undef = on-top nets (constant Undef) in
-      let p : Shows w (value (extended true topped w)) ((trits ++ (Undef ∷ [])) ++ replicate (w - length topped) Undef) =
-      rw last (rw (map-append reading nets (constant Undef ∷ [])) at (padded-shows topped (w - length topped) (constant Undef) w (omega arith))) in
+      let p : Shows w (value (extended true topped w)) ((trits ++ (Undef ∷ [])) ++ replicate
+      (w - length topped) Undef) =
+      rw last (rw (map-append reading nets (constant Undef ∷ [])) at
+      (padded-shows topped (w - length topped) (constant Undef) w (omega arith))) in
       rw (length-map nets reading)
-      (shifted-shows _ _ true (length nets) topped amount stride _ (λ k i. getD trits (i + k) Undef) some (omega arith) p
+      (shifted-shows _ _ true (length nets) topped amount stride _ (λ k i. getD trits (i + k) Undef) some
+      (omega arith) p
       tt tt λ by i h.
-      xshr-lanes (trits ++ (Undef ∷ [])) (w - length topped) p (simp length-append (omega arith)) (on-top trits Undef) by i (omega arith)
+      xshr-lanes (trits ++ (Undef ∷ [])) (w - length topped) p (simp length-append (omega arith))
+      (on-top trits Undef) by i (omega arith)
       ∙ getD-pad trits 1 Undef (i + bv2nat by))
     where
       on-top : {A : Type 0} (l : List A) (d : A) → getD (l ++ (d ∷ [])) (length (l ++ (d ∷ [])) - 1) d ≡ d
@@ -377,7 +427,8 @@ module _ (readsPast : ℕ → Bool) (b : NetBits) where
           ∙ List·getD-eq-default l d {n = length (l ++ (d ∷ [])) - 1} (simp length-append (omega arith))
 
   shift-shows : (o : Shift) (nets amount : List Net) (stride : ℕ) → 0 < length nets
-      → Shows (length nets) (shiftCellBits readsPast b o nets amount stride) (r.shift o (map reading nets) (map reading amount) stride)
+      → Shows (length nets) (shiftCellBits readsPast b o nets amount stride)
+      (r.shift o (map reading nets) (map reading amount) stride)
   shift-shows cells.shl = shl-shows
   shift-shows cells.ushr = ushr-shows
   shift-shows cells.sshr = sshr-shows
@@ -394,10 +445,12 @@ module _ (readsPast : ℕ → Bool) (b : NetBits) where
   product-shows (v ∷ nets) (Undef ∷ pattern) u h = product-shows nets pattern u h
   product-shows (v ∷ nets) (Zero ∷ pattern) u h =
       rw (not-xor-zero (reading v), and-assoc u (t.not (reading v)) (r.alternate (map reading nets) pattern))
-      at (product-shows nets pattern _ (and-shows h (not-shows (xor-shows (value-shows (v ∷ [])) (value-shows (constant Zero ∷ []))))))
+      at (product-shows nets pattern _ (and-shows h (not-shows
+      (xor-shows (value-shows (v ∷ [])) (value-shows (constant Zero ∷ []))))))
   product-shows (v ∷ nets) (One ∷ pattern) u h =
       rw (not-xor-one (reading v), and-assoc u (reading v) (r.alternate (map reading nets) pattern))
-      at (product-shows nets pattern _ (and-shows h (not-shows (xor-shows (value-shows (v ∷ [])) (value-shows (constant One ∷ []))))))
+      at (product-shows nets pattern _ (and-shows h (not-shows
+      (xor-shows (value-shows (v ∷ [])) (value-shows (constant One ∷ []))))))
 
   -- The sum so far, and the other alternates.
   sum-shows : (nets : List Net) (alternates : List (List Trit)) {p : TritBits} (u : Trit) → Shows 1 p (u ∷ [])
@@ -409,9 +462,11 @@ module _ (readsPast : ℕ → Bool) (b : NetBits) where
       at (sum-shows nets alternates _ (or-shows h (product-shows nets pattern One (lit-shows (One ∷ [])))))
 
   matches-show : (nets : List Net) (patterns : List (List (List Trit)))
-      → Singles (map (λ alternates. sumBits readsPast b nets alternates (litBits (Zero ∷ []))) patterns) (map (r.matches (map reading nets)) patterns)
+      → Singles (map (λ alternates. sumBits readsPast b nets alternates (litBits (Zero ∷ []))) patterns)
+      (map (r.matches (map reading nets)) patterns)
   matches-show nets [] = none
-  matches-show nets (alternates ∷ patterns) = more (sum-shows nets alternates Zero (lit-shows (Zero ∷ []))) (matches-show nets patterns)
+  matches-show nets (alternates ∷ patterns) = more (sum-shows nets alternates Zero (lit-shows (Zero ∷ [])))
+      (matches-show nets patterns)
 
   -- From the index-th pattern down to the first.
   first-shows : (k : ℕ) (ms : List Trit) {m : TritBits} → Shows k m ms → (index : ℕ) {p : TritBits} → index ≤ k
@@ -421,23 +476,29 @@ module _ (readsPast : ℕ → Bool) (b : NetBits) where
   first-shows k ms hm (suc index) l h =
       first-shows k ms hm index (omega arith)
       (rw (drop-cons ms index Zero (let e = shown-ts hm in omega arith))
-      (mux-shows (extract-shows hm index Zero (omega arith)) (rw (length-tab k (λ j. t.trit (eqb j index))) at (lit-shows (oneHot k index))) h))
+      (mux-shows (extract-shows hm index Zero (omega arith))
+      (rw (length-tab k (λ j. t.trit (eqb j index))) at (lit-shows (oneHot k index))) h))
 
   match-shows : (nets : List Net) (enable : Net) (patterns : List (List (List Trit)))
-      → Shows (length patterns) (matchBits readsPast b nets enable patterns) (r.match (map reading nets) (reading enable) patterns)
+      → Shows (length patterns) (matchBits readsPast b nets enable patterns)
+      (r.match (map reading nets) (reading enable) patterns)
   unfolding matchBits r.firstHot
   match-shows nets enable patterns =
       let k = length patterns in
       let ms = map (r.matches (map reading nets)) patterns in
-      let cold : Shows k (litBits (replicate k Zero)) (replicate k Zero) = rw (length-replicate k Zero) at (lit-shows (replicate k Zero)) in
-      let m = rw (length-map patterns (λ alternates. sumBits readsPast b nets alternates (litBits (Zero ∷ [])))) at (concat-shows (matches-show nets patterns)) in
-      let none-left : drop k ms ≡ [] = drop-of-length-le ms {i = k} (rw (length-map patterns (r.matches (map reading nets))) (omega arith)) in
+      let cold : Shows k (litBits (replicate k Zero)) (replicate k Zero) =
+      rw (length-replicate k Zero) at (lit-shows (replicate k Zero)) in
+      let m = rw (length-map patterns (λ alternates. sumBits readsPast b nets alternates (litBits (Zero ∷ [])))) at
+      (concat-shows (matches-show nets patterns)) in
+      let none-left : drop k ms ≡ [] = drop-of-length-le ms {i = k}
+      (rw (length-map patterns (r.matches (map reading nets))) (omega arith)) in
       mux-shows (value-shows (enable ∷ [])) (first-shows k ms m k (omega arith) (rw none-left cold)) cold
 
   -- ---- Assign and Dff
 
   mux-nets : (sel : Net) (x y : List Net) (n : ℕ) → length x ≡ n → length y ≡ n
-      → Shows n (muxBits (netBit readsPast b sel) (value x) (value y)) (r.mux (reading sel) (map reading x) (map reading y))
+      → Shows n (muxBits (netBit readsPast b sel) (value x) (value y))
+      (r.mux (reading sel) (map reading x) (map reading y))
   mux-nets sel x y n ex ey = mux-shows (value-shows (sel ∷ [])) (rw ex at (value-shows x)) (rw ey at (value-shows y))
 
   overwritten-read : (nets : List Net) (offset : ℕ) (update : List Net)
@@ -454,10 +515,15 @@ module _ (readsPast : ℕ → Bool) (b : NetBits) where
   -- The past trits of the output's slots.
   output-shows : (s w : ℕ) → Shows w (pastBits readsPast b (outputNets s w)) (map (θ .was) (outputs s w))
   output-shows s w =
-      rw (length-tab w (λ i. slot (s + i)), map-tab (ofNet (θ .was)) w (λ i. slot (s + i)) ∙ sym (map-tab (θ .was) w (λ i. s + i)))
+      rw (
+        length-tab w (λ i. slot (s + i)),
+        map-tab (ofNet (θ .was)) w (λ i. slot (s + i))
+            ∙ sym (map-tab (θ .was) w (λ i. s + i)),
+      )
       at (past-shows (outputNets s w))
 
-  module _ (f : FlipFlop) (s : ℕ) (ec : length (f .clearValue) ≡ length (f .dat)) (er : length (f .resetValue) ≡ length (f .dat)) where
+  module _ (f : FlipFlop) (s : ℕ) (ec : length (f .clearValue) ≡ length (f .dat))
+      (er : length (f .resetValue) ≡ length (f .dat)) where
     abbrev width : ℕ
     width = length (f .dat)
 
@@ -472,7 +538,8 @@ module _ (readsPast : ℕ → Bool) (b : NetBits) where
         (mux-shows (control-shows (f .enable)) (value-shows (f .dat)) (output-shows s width))
     loaded-shows false =
         mux-shows (control-shows (f .enable))
-        (mux-shows (control-shows (f .reset)) (rw er at (lit-shows (f .resetValue))) (value-shows (f .dat))) (output-shows s width)
+        (mux-shows (control-shows (f .reset)) (rw er at (lit-shows (f .resetValue))) (value-shows (f .dat)))
+        (output-shows s width)
 
     clocked-shows : Shows width (clockedBits readsPast b f (outputNets s width)) (r.clocked given)
     clocked-shows = mux-shows (clock-shows (f .clock)) (loaded-shows (f .resetOverEnable)) (output-shows s width)
@@ -482,7 +549,8 @@ module _ (readsPast : ℕ → Bool) (b : NetBits) where
     cleared-shows true h = mux-shows (control-shows (f .clear)) (rw ec at (lit-shows (f .clearValue))) h
     cleared-shows false h = h
 
-    dff-shows : Shows width (clearedBits readsPast b (hasClear f) f (clockedBits readsPast b f (outputNets s width))) (r.dff given)
+    dff-shows : Shows width (clearedBits readsPast b (hasClear f) f (clockedBits readsPast b f (outputNets s width)))
+        (r.dff given)
     dff-shows = rw (ap not (never (f .clear .inverted) (f .clear .net))) (cleared-shows (rule.hasClear f) clocked-shows)
       where
         never : (inverted : Bool) (n : Net) → isAlwaysInactive inverted n ≡ inactive inverted n
@@ -517,7 +585,11 @@ module _ (readsPast : ℕ → Bool) (b : NetBits) where
   cell-bits-show s cells.note h terms some = absurd (omega arith)
   cell-bits-show s (cells.input n) h terms some = absurd (terms n refl)
   cell-bits-show s (cells.ioBuf n) h terms some =
-      rw (length-tab n (λ i. slot (s + i)), map-tab reading n (λ i. slot (s + i)) ∙ sym (map-tab (asRead readsPast θ) n (λ i. s + i)))
+      rw (
+        length-tab n (λ i. slot (s + i)),
+        map-tab reading n (λ i. slot (s + i))
+            ∙ sym (map-tab (asRead readsPast θ) n (λ i. s + i)),
+      )
       at (value-shows (outputNets s n))
   cell-bits-show s (cells.unary cells.buf x) h terms some = value-shows x
   cell-bits-show s (cells.unary cells.not x) h terms some = not-shows (value-shows x)
@@ -529,7 +601,8 @@ module _ (readsPast : ℕ → Bool) (b : NetBits) where
   cell-bits-show s (cells.match nets enable patterns) h terms some = match-shows nets enable patterns
   cell-bits-show s (cells.assign nets enable update offset) h terms some =
       rw (← (overwritten-read nets offset update))
-      (mux-nets enable (overwritten nets offset update) nets (length nets) (length-overwritten nets offset update h) refl)
+      (mux-nets enable (overwritten nets offset update) nets (length nets)
+      (length-overwritten nets offset update h) refl)
   cell-bits-show s (cells.dff f) h terms some = dff-shows f s (h .0) (h .1)
 
 -- ---- the calls
@@ -540,7 +613,8 @@ pub record TermsShow (v : ℕ → Value) (r : TritVec) (ts : List Trit) : Type 0
   pub y-width : length (asBits (v (r .y .term))) ≡ length ts
   pub trits : zipWith shows (asBits (v (r .x .term))) (asBits (v (r .y .term))) ≡ ts
 
-terms-show : (ρ : Assignment) (v : ℕ → Value) (n : ℕ) (r : TritVec) (a : TritBits) (ts : List Trit) → Is ρ v r a → Shows n a ts
+terms-show : (ρ : Assignment) (v : ℕ → Value) (n : ℕ) (r : TritVec) (a : TritBits) (ts : List Trit) → Is ρ v r a
+    → Shows n a ts
     → TermsShow v r ts
 terms-show ρ v n r a ts is shown =
     let ex : asBits (v (r .x .term)) ≡ a .x = ap asBits (is .0) in
@@ -551,13 +625,14 @@ terms-show ρ v n r a ts is shown =
       trits = ap₂ (zipWith shows) ex ey ∙ shown-is shown;
     }
 
--- Requirement 2, for a cell of any operation and every width: whatever the assignment is, the terms of the cell show the trits of
--- the cell's rule on the trits that the names of its nets show. The calls may stand anywhere in a list, after any state of the
--- builder whose known names have their terms.
+-- Requirement 2, for a cell of any operation and every width: whatever the assignment is, the terms of the cell show
+-- the trits of the cell's rule on the trits that the names of its nets show. The calls may stand anywhere in a list,
+-- after any state of the builder whose known names have their terms.
 pub cell-shows : (readsPast : ℕ → Bool) (s : ℕ) (d : Cell) → Shaped d → NotInput d → 0 < outputLen d
     → (ρ : Assignment) (v : ℕ → Value) (st : St) (rest : List Call) → Known ρ v (st .names)
     → Holds ρ v (st .next) ((emit (cell readsPast s (outputLen d) d) st) .calls ++ rest)
-    → Sound ρ v ((emit (cell readsPast s (outputLen d) d) st) .res) ((emit (cell readsPast s (outputLen d) d) st) .st) rest
+    → Sound ρ v ((emit (cell readsPast s (outputLen d) d) st) .res)
+    ((emit (cell readsPast s (outputLen d) d) st) .st) rest
     (λ r. TermsShow v r (cellRule readsPast (tritsOf (netBits ρ)) (outputs s (outputLen d)) d))
 cell-shows readsPast s d shaped terms some ρ v st rest names holds =
     wp-sound ρ v (cell readsPast s (outputLen d) d) st _ rest names holds

@@ -6,8 +6,9 @@ use Rattle.engine.specs.Call.{Name, Letter, Suffix, Call, term, assert, equal}
 use Rattle.engine.specs.Call as c
 use Rattle.smt.specs.Prog.{Prog, ret, op, declare, bind, bind2, Age, curr, past, Half, isUndef, isOne}
 
--- The number of the next term and of the next temporary; for each name of a net (four to a slot: n x, n y, p x, p y) 0 where
--- it is not declared, else one more than its term; for each slot its mark, by its last read: 0 (none), 1 (n), 2 (p).
+-- The number of the next term and of the next temporary; for each name of a net (four to a slot: n x, n y, p x, p y)
+-- 0 where it is not declared, else one more than its term; for each slot its mark, by its last read: 0 (none), 1 (n),
+-- 2 (p).
 pub record St : Type 0 where
   pub next : ℕ
   pub temp : ℕ

@@ -1,5 +1,5 @@
--- The bits that the builder's terms have, of the bits of its nets: for each function of the builder the formula that its calls
--- spell, under QF_BV's operations.
+-- The bits that the builder's terms have, of the bits of its nets: for each function of the builder the formula that
+-- its calls spell, under QF_BV's operations.
 use mathlib.Core.Bool.{Bool, true, false, not, cond, _&&_, _||_}
 use mathlib.Core.List.{List, [], _∷_, _++_, map}
 use Prim.Native.Nat.{ℕ, zero, suc, _+_, _-_}
@@ -119,9 +119,13 @@ refinesBits from to =
 abbrev pub noX : TritBits → TritBits → ℕ → Bool
 noX a b n = isZero (a .x) n && (isZero (b .x) n && true)
 
+-- Is there a position at which neither x is set and the y differ?
+abbrev pub anyUnequal : TritBits → TritBits → ℕ → Bool
+anyUnequal a b n = not (isZero (bvand (bvxor (a .y) (b .y)) (bvnot (bvor (a .x) (b .x)))) n)
+
 unfoldable pub equalsBits : TritBits → TritBits → ℕ → TritBits
 equalsBits a b n =
-    tb (oneBit (cond (not (isZero (bvand (bvxor (a .y) (b .y)) (bvnot (bvor (a .x) (b .x)))) n)) false (not (noX a b n))))
+    tb (oneBit (cond (anyUnequal a b n) false (not (noX a b n))))
     (bvcomp (a .y) (b .y))
 
 unfoldable pub lessBits : Compare → TritBits → TritBits → ℕ → TritBits
@@ -146,7 +150,8 @@ adcBits a b cx cy n =
 
 unfoldable pub shiftBits : BinaryOp → BinaryOp → ℕ → ℕ → TritBits → TritBits → Bits → TritBits
 shiftBits onX onY n w value amount by =
-    extractBits (n - 1) 0 (tb (cond (isZero (amount .x) w) (denoteOp onX (value .x) by) (ones w)) (denoteOp onY (value .y) by))
+    extractBits (n - 1) 0
+    (tb (cond (isZero (amount .x) w) (denoteOp onX (value .x) by) (ones w)) (denoteOp onY (value .y) by))
 
 abbrev pub binaryBits : Binary → TritBits → TritBits → ℕ → TritBits
 binaryBits cells.and a b n = andBits a b

@@ -1,5 +1,6 @@
--- tv_eq and tv_refines: the term of tv_eq is true just where the bits are equal, that of tv_refines just where what `from` shows
--- refines what `to` shows. So it is false exactly where some trit of `from` is defined and that of `to` is not the same.
+-- tv_eq and tv_refines: the term of tv_eq is true just where the bits are equal, that of tv_refines just where what
+-- `from` shows refines what `to` shows. So it is false exactly where some trit of `from` is defined and that of `to`
+-- is not the same.
 use mathlib.Core.Path.{_≡_, refl, sym, ap, ap₂, _∙_}
 use mathlib.Core.Bool.{Bool, true, false, not, _&&_}
 use mathlib.Core.List.{List, [], _∷_}
@@ -33,7 +34,8 @@ unfolding sameBits
 same-refl a = rw (equal-refl (a .x), equal-refl (a .y))
 
 -- In a lane: if a bit is X in `to` it is X in `from`, and one that is defined in `from` is that value in `to`.
-refines-lane : (a b c d : Bool) → (same c (c && a) && same (not a && b) (not a && d)) ≡ t.refines (shows a b) (shows c d)
+refines-lane : (a b c d : Bool) → (same c (c && a) && same (not a && b) (not a && d))
+    ≡ t.refines (shows a b) (shows c d)
 refines-lane true b true d = refl
 refines-lane true b false d = refl
 refines-lane false true true d = refl
@@ -58,7 +60,8 @@ pub refines-shows : {n : ℕ} {x y u v : Bits} {ts us : List Trit} → Shown n x
 unfolding refinesBits equal
 refines-shows empty empty = refl
 refines-shows (lane {x = x} {y = y} a b p) (lane {x = u} {y = v} c d q) =
-    regroup (same c (c && a)) (equal u (bvand u x)) (same (not a && b) (not a && d)) (equal (bvand (bvnot x) y) (bvand (bvnot x) v))
+    regroup (same c (c && a)) (equal u (bvand u x)) (same (not a && b) (not a && d))
+    (equal (bvand (bvnot x) y) (bvand (bvnot x) v))
     ∙ ap₂ _&&_ (refines-lane a b c d) (refines-shows p q)
 
 -- The term of tv_refines.
@@ -66,4 +69,5 @@ pub tvRefines-shows : (ρ : Assignment) (v : ℕ → Value) (n : ℕ) (from to :
     → Is ρ v from A → Is ρ v to B → Shows n A ts → Shows n B us
     → wp ρ v (tvRefines from to) (λ r. v r ≡ bool (all (zipWith t.refines ts us)))
 tvRefines-shows ρ v n from to A B ts us isA isB showsA showsB =
-    wp-mono ρ v (tvRefines from to) _ _ (λ r e. e ∙ ap bool (refines-shows showsA showsB)) (tvRefines-wp ρ v from to A B isA isB)
+    wp-mono ρ v (tvRefines from to) _ _ (λ r e. e ∙ ap bool (refines-shows showsA showsB))
+    (tvRefines-wp ρ v from to A B isA isB)

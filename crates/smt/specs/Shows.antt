@@ -1,5 +1,5 @@
--- Two vectors of bits show a vector of trits. Each formula of the builder on vectors of one width shows its rule on what its
--- operands show, whatever their hidden bits: one induction over the lanes for each, and in a lane a table.
+-- Two vectors of bits show a vector of trits. Each formula of the builder on vectors of one width shows its rule on
+-- what its operands show, whatever their hidden bits: one induction over the lanes for each, and in a lane a table.
 use mathlib.Core.Path.{_≡_, refl, sym, ap, ap₂, _∙_}
 use mathlib.Core.Bool.{Bool, true, false, not, cond, _&&_, _||_}
 use mathlib.Core.List.{List, [], _∷_, _++_, map}
@@ -80,11 +80,14 @@ both-at p h b = go (p true) (p false) h b refl refl
     go true false h b eu ew = absurd h
     go false w h b eu ew = absurd h
 
-pub by-table₂ : (f g : Bool → Bool → Trit) → T (both λ a. both λ b. sameTrit (f a b) (g a b)) → (a b : Bool) → f a b ≡ g a b
-by-table₂ f g h a b = same-trit (f a b) (g a b) (both-at (λ y. sameTrit (f a y) (g a y)) (both-at (λ x. both λ y. sameTrit (f x y) (g x y)) h a) b)
+pub by-table₂ : (f g : Bool → Bool → Trit) → T (both λ a. both λ b. sameTrit (f a b) (g a b)) → (a b : Bool) → f a b
+    ≡ g a b
+by-table₂ f g h a b = same-trit (f a b) (g a b) (both-at (λ y. sameTrit (f a y) (g a y))
+    (both-at (λ x. both λ y. sameTrit (f x y) (g x y)) h a) b)
 
 pub by-table₄ : (f g : Bool → Bool → Bool → Bool → Trit)
-    → T (both λ a. both λ b. both λ c. both λ d. sameTrit (f a b c d) (g a b c d)) → (a b c d : Bool) → f a b c d ≡ g a b c d
+    → T (both λ a. both λ b. both λ c. both λ d. sameTrit (f a b c d) (g a b c d)) → (a b c d : Bool) → f a b c d
+    ≡ g a b c d
 by-table₄ f g h a b =
     by-table₂ (f a b) (g a b) (both-at (λ y. both λ z. both λ w. sameTrit (f a y z w) (g a y z w))
     (both-at (λ x. both λ y. both λ z. both λ w. sameTrit (f x y z w) (g x y z w)) h a) b)
@@ -94,7 +97,8 @@ by-table₄ f g h a b =
 -- n lanes: in each, two bits and the trit that they show.
 pub data Shown : ℕ → Bits → Bits → List Trit → Type 0 where
   empty : Shown zero [] [] []
-  lane : {n : ℕ} {x y : Bits} {ts : List Trit} (a b : Bool) → Shown n x y ts → Shown (suc n) (a ∷ x) (b ∷ y) (shows a b ∷ ts)
+  lane : {n : ℕ} {x y : Bits} {ts : List Trit} (a b : Bool) → Shown n x y ts
+      → Shown (suc n) (a ∷ x) (b ∷ y) (shows a b ∷ ts)
 
 abbrev pub Shows : ℕ → TritBits → List Trit → Type 0
 Shows n a ts = Shown n (a .x) (a .y) ts
@@ -129,7 +133,8 @@ and-lane : (a b c d : Bool)
     → shows ((a || c) && not ((not b && not a) || (not d && not c))) (b && d) ≡ t.and (shows a b) (shows c d)
 and-lane = by-table₄ _ _ tt
 
-or-lane : (a b c d : Bool) → shows ((a || c) && not ((b && not a) || (d && not c))) (b || d) ≡ t.or (shows a b) (shows c d)
+or-lane : (a b c d : Bool) → shows ((a || c) && not ((b && not a) || (d && not c))) (b || d)
+    ≡ t.or (shows a b) (shows c d)
 or-lane = by-table₄ _ _ tt
 
 xor-lane : (a b c d : Bool) → shows (a || c) (differ b d) ≡ t.xor (shows a b) (shows c d)
@@ -168,11 +173,13 @@ agree-shows empty empty = empty
 agree-shows (lane a b p) (lane c d q) = one-more _ _ _ (agree-lane a b c d) (agree-shows p q)
 
 -- The first and the second side as they are.
-zip-first : {n : ℕ} {x y u v : Bits} {ts us : List Trit} → Shown n x y ts → Shown n u v us → Shown n x y (zipWith (λ a b. a) ts us)
+zip-first : {n : ℕ} {x y u v : Bits} {ts us : List Trit} → Shown n x y ts → Shown n u v us
+    → Shown n x y (zipWith (λ a b. a) ts us)
 zip-first empty empty = empty
 zip-first (lane a b p) (lane c d q) = lane a b (zip-first p q)
 
-zip-second : {n : ℕ} {x y u v : Bits} {ts us : List Trit} → Shown n x y ts → Shown n u v us → Shown n u v (zipWith (λ a b. b) ts us)
+zip-second : {n : ℕ} {x y u v : Bits} {ts us : List Trit} → Shown n x y ts → Shown n u v us
+    → Shown n u v (zipWith (λ a b. b) ts us)
 zip-second empty empty = empty
 zip-second (lane a b p) (lane c d q) = lane c d (zip-second p q)
 

@@ -1,5 +1,5 @@
--- Eq, ULt, SLt, Mul and Adc show their rules: where no operand's trit is X, the trits are the bits of y, and a number of trits is
--- the number of these bits; where one is X, the result's x is set whatever y is.
+-- Eq, ULt, SLt, Mul and Adc show their rules: where no operand's trit is X, the trits are the bits of y, and a number
+-- of trits is the number of these bits; where one is X, the result's x is set whatever y is.
 use mathlib.Core.Path.{_≡_, refl, sym, ap, ap₂, _∙_}
 use mathlib.Core.Bool.{Bool, true, false, not, cond, _&&_, _||_, false≢true}
 use mathlib.Core.List.{List, [], _∷_, _++_, map}
@@ -25,7 +25,19 @@ use Rattle.rules.specs.Rules as r
 use Rattle.rules.specs.Number.{sum-low}
 use Rattle.smt.specs.Builder.{zeros, ones}
 use Rattle.smt.specs.Wp.{equal-eq}
-use Rattle.smt.specs.Formula.{TritBits, tb, isZero, noX, oneBit, equalsBits, lessBits, mulBits, carryOr, carryBits, adcBits}
+use Rattle.smt.specs.Formula.{
+  TritBits,
+  tb,
+  isZero,
+  noX,
+  oneBit,
+  equalsBits,
+  lessBits,
+  mulBits,
+  carryOr,
+  carryBits,
+  adcBits,
+}
 use Rattle.smt.specs.Shows.{Shown, empty, lane, Shows, shown-x, shown-y, shown-ts, one-more}
 
 -- ---- X or not
@@ -198,7 +210,8 @@ unfolding nat2bv tab
 number-shows zero v = empty
 number-shows (suc n) v =
     one-more false (odd v) (bitAt v 0) (low v)
-    (rw (tab-ext n (λ i. bitAt v (suc i)) (bitAt (v / 2)) (λ i h. ap (λ (q : ℕ). trit (eqb (q % 2) 1)) (sym (half-power v i))))
+    (rw (tab-ext n (λ i. bitAt v (suc i)) (bitAt (v / 2))
+    (λ i h. ap (λ (q : ℕ). trit (eqb (q % 2) 1)) (sym (half-power v i))))
     (number-shows n (v / 2)))
   where
     low : (v : ℕ) → shows false (odd v) ≡ bitAt v 0
@@ -229,7 +242,8 @@ shown-tab zero (a ∷ x) y f ex ey h = absurd (omega arith)
 shown-tab (suc n) [] y f ex ey h = absurd (omega arith)
 shown-tab (suc n) (a ∷ x) [] f ex ey h = absurd (omega arith)
 shown-tab (suc n) (a ∷ x) (b ∷ y) f ex ey h =
-    one-more a b (f 0) (h 0 (omega arith)) (shown-tab n x y (λ i. f (suc i)) (omega arith) (omega arith) (λ i l. h (suc i) (omega arith)))
+    one-more a b (f 0) (h 0 (omega arith)) (shown-tab n x y (λ i. f (suc i)) (omega arith) (omega arith)
+    (λ i l. h (suc i) (omega arith)))
 
 -- The carry's x at i: is the carry-in X, or any operand trit up to i?
 x-of : (a b : Bool) → isX (shows a b) ≡ a
@@ -237,7 +251,8 @@ x-of true b = refl
 x-of false true = refl
 x-of false false = refl
 
-carry-at : {n : ℕ} {x y u v : Bits} {ts us : List Trit} → Shown n x y ts → Shown n u v us → (d : Bool) (i : ℕ) → i < suc n
+carry-at : {n : ℕ} {x y u v : Bits} {ts us : List Trit} → Shown n x y ts → Shown n u v us → (d : Bool) (i : ℕ)
+    → i < suc n
     → getD (carryBits x u d) i false ≡ (d || (anyX (take (suc i) ts) || anyX (take (suc i) us)))
 unfolding carryBits anyX
 carry-at empty empty true zero h = refl

@@ -1,5 +1,5 @@
--- The shifts show their rules: QF_BV's three shifts bit by bit, the places to shift by as a number that does not overflow at
--- prepare_shift's width, and a value extended by its fill.
+-- The shifts show their rules: QF_BV's three shifts bit by bit, the places to shift by as a number that does not
+-- overflow at prepare_shift's width, and a value extended by its fill.
 use mathlib.Core.Path.{_≡_, refl, sym, ap, ap₂, _∙_}
 use mathlib.Core.Bool.{Bool, true, false, not, cond, _&&_, _||_, Bool·not-not}
 use mathlib.Core.List.{List, [], _∷_, _++_, map}
@@ -8,7 +8,20 @@ use native.Mathlib.Nat.{pow-suc, mul-le-mul, mod-eq-of-lt, add-comm}
 use native.Mathlib.Omega.{arith}
 use lib.Dec.{ltb}
 use borrow.Author.Tests.{ltb-true, ltb-false}
-use lib.ListN.{length, getD, take, drop, replicate, length-append, length-replicate, length-map, List·getD-append, List·getD-eq-default, List·getD-map, getD-replicate}
+use lib.ListN.{
+  length,
+  getD,
+  take,
+  drop,
+  replicate,
+  length-append,
+  length-replicate,
+  length-map,
+  List·getD-append,
+  List·getD-eq-default,
+  List·getD-map,
+  getD-replicate,
+}
 use lib.Seq.{getD-take, getD-drop, getD-append-add, length-take-le}
 use lib.Pow.{pow-pos, pow-add, pow-mono}
 use Rattle.logic.specs.Table.{tab}
@@ -39,7 +52,11 @@ getD-pad (a ∷ l) m d (suc i) = getD-pad l m d i
 
 pub shl-at : (s t : Bits) (i : ℕ) → i < length s
     → getD (bvshl s t) i false ≡ cond (ltb i (bv2nat t)) false (getD s (i - bv2nat t) false)
-shl-at s t i h = rw (shl-list (length s) (bv2nat t) s (omega arith), getD-take (length s) (replicate (bv2nat t) false ++ s) i false h)
+shl-at s t i h = rw (
+  shl-list (length s) (bv2nat t) s (omega arith),
+  getD-take (length s)
+      (replicate (bv2nat t) false ++ s) i false h,
+)
     (go (bv2nat t))
   where
     go : (k : ℕ) → getD (replicate k false ++ s) i false ≡ cond (ltb i k) false (getD s (i - k) false)
@@ -48,10 +65,12 @@ shl-at s t i h = rw (shl-list (length s) (bv2nat t) s (omega arith), getD-take (
         by : (b : Bool) → ltb i k ≡ b → getD (replicate k false ++ s) i false ≡ cond b false (getD s (i - k) false)
         by true e =
             let l : i < k = omega (arith, ltb-true i k e) in
-            List·getD-append (replicate k false) s false i (rw (length-replicate k false) l) ∙ getD-replicate k i false false l
+            List·getD-append (replicate k false) s false i (rw (length-replicate k false) l)
+            ∙ getD-replicate k i false false l
         by false e =
             let l : k ≤ i = omega (arith, ltb-false i k e) in
-            ap (λ (j : ℕ). getD (replicate k false ++ s) j false) (at-k l) ∙ getD-append-add (replicate k false) s (i - k) false
+            ap (λ (j : ℕ). getD (replicate k false ++ s) j false) (at-k l)
+            ∙ getD-append-add (replicate k false) s (i - k) false
           where
             at-k : k ≤ i → i ≡ length (replicate k false) + (i - k)
             at-k l = rw (length-replicate k false) (omega arith)
@@ -136,7 +155,8 @@ anyX-zeros (u ∷ us) k = rw (anyX-zeros us k)
 
 -- amount × stride does not overflow at prepare_shift's width.
 pub by-number : (w : ℕ) (x y : Bits) (us : List Trit) (k stride : ℕ) → Shown w x y (us ++ replicate k Zero)
-    → length us + ilog2 (max stride 1) + 1 ≤ w → anyX us ≡ false → bv2nat (bvmul y (nat2bv w stride)) ≡ number us * stride
+    → length us + ilog2 (max stride 1) + 1 ≤ w → anyX us ≡ false → bv2nat (bvmul y (nat2bv w stride))
+    ≡ number us * stride
 by-number w x y us k stride p h e =
     bv2nat-bvmul y (nat2bv w stride)
     ∙ rw (shown-y p, bv2nat-nat2bv w stride, mod-eq-of-lt stride-lt, amount-is)
@@ -150,14 +170,16 @@ by-number w x y us k stride p h e =
 
     stride-lt : stride < 2 ^ w
     stride-lt =
-        let a = mul-le-mul {n₁ = stride} {m₁ = 1} {n₂ = stride} {m₂ = 2 ^ length us} (omega arith) (omega (arith, pow-pos (length us))) in
+        let a = mul-le-mul {n₁ = stride} {m₁ = 1} {n₂ = stride} {m₂ = 2 ^ length us} (omega arith)
+        (omega (arith, pow-pos (length us))) in
         let b = fits in
         omega arith
 
     product-lt : number us * stride < 2 ^ w
     product-lt =
         let l = number-lt us in
-        let a = mul-le-mul {n₁ = number us} {m₁ = stride} {n₂ = 2 ^ length us} {m₂ = stride} (omega arith) (omega arith) in
+        let a = mul-le-mul {n₁ = number us} {m₁ = stride} {n₂ = 2 ^ length us} {m₂ = stride} (omega arith)
+        (omega arith) in
         let b = fits in
         omega arith
 
@@ -173,7 +195,8 @@ extract-low n s h = ap (λ (k : ℕ). take k s) all-low
 pub moved-shows : (n w : ℕ) (p q : Bits) (u : Bool) (f : ℕ → Trit) → 0 < n → n ≤ w → length p ≡ w → length q ≡ w
     → (u ≡ false → (i : ℕ) → i < n → shows (getD p i false) (getD q i false) ≡ f i)
     → Shown n (extract (n - 1) 0 (cond (not u) p (ones w))) (extract (n - 1) 0 q) (cond u (replicate n Undef) (tab n f))
-moved-shows n w p q u f some le lp lq h = rw (extract-low n (cond (not u) p (ones w)) some, extract-low n q some) (go u h)
+moved-shows n w p q u f some le lp lq h = rw (extract-low n (cond (not u) p (ones w)) some, extract-low n q some)
+    (go u h)
   where
     cut : (s : Bits) → length s ≡ w → length (take n s) ≡ n
     cut s e = length-take-le n s (omega arith)
@@ -194,11 +217,13 @@ moved-shows n w p q u f some le lp lq h = rw (extract-low n (cond (not u) p (one
 
 module _ {w : ℕ} {x y : Bits} (ts : List Trit) (j : ℕ) where
   pub shl-lanes : Shown w x y (ts ++ replicate j Zero) → (by : Bits) (i : ℕ) → i < w
-      → shows (getD (bvshl x by) i false) (getD (bvshl y by) i false) ≡ cond (ltb i (bv2nat by)) Zero (getD ts (i - bv2nat by) Zero)
+      → shows (getD (bvshl x by) i false) (getD (bvshl y by) i false)
+      ≡ cond (ltb i (bv2nat by)) Zero (getD ts (i - bv2nat by) Zero)
   shl-lanes p by i h =
       rw (shl-at x by i (rw (shown-x p) h), shl-at y by i (rw (shown-y p) h)) (go (ltb i (bv2nat by)) (i - bv2nat by))
     where
-      go : (u : Bool) (k : ℕ) → shows (cond u false (getD x k false)) (cond u false (getD y k false)) ≡ cond u Zero (getD ts k Zero)
+      go : (u : Bool) (k : ℕ) → shows (cond u false (getD x k false)) (cond u false (getD y k false))
+          ≡ cond u Zero (getD ts k Zero)
       go true k = refl
       go false k = shown-at p k false false ∙ getD-pad ts j Zero k
 
@@ -212,12 +237,15 @@ module _ {w : ℕ} {x y : Bits} (ts : List Trit) (j : ℕ) where
       → shows (msb x) (msb y) ≡ top
   top-shows top p some e =
       rw (shown-x p, shown-y p)
-      (shown-at p (w - 1) false false ∙ ap (λ (k : ℕ). getD (ts ++ replicate j top) k Zero) last ∙ top-pad ts j top Zero some e)
+      (shown-at p (w - 1) false false ∙ ap (λ (k : ℕ). getD (ts ++ replicate j top) k Zero) last
+      ∙ top-pad ts j top Zero some e)
     where
       last : w - 1 ≡ length ts + j - 1
-      last = ap (λ (k : ℕ). k - 1) (sym (shown-ts p) ∙ length-append ts (replicate j top) ∙ ap (λ (k : ℕ). length ts + k) (length-replicate j top))
+      last = ap (λ (k : ℕ). k - 1) (sym (shown-ts p) ∙ length-append ts (replicate j top)
+          ∙ ap (λ (k : ℕ). length ts + k) (length-replicate j top))
 
-  pub ashr-lanes : (top : Trit) → Shown w x y (ts ++ replicate j top) → 0 < length ts → getD ts (length ts - 1) top ≡ top
+  pub ashr-lanes : (top : Trit) → Shown w x y (ts ++ replicate j top) → 0 < length ts → getD ts (length ts - 1) top
+      ≡ top
       → (by : Bits) (i : ℕ) → i < w
       → shows (getD (bvashr x by) i false) (getD (bvashr y by) i false) ≡ getD ts (i + bv2nat by) top
   ashr-lanes top p some e by i h =
@@ -233,7 +261,8 @@ module _ {w : ℕ} {x y : Bits} (ts : List Trit) (j : ℕ) where
   xshr-lanes p some e by i h =
       rw (ashr-at x by i (rw (shown-x p) h), lshr-at y by i)
       (shown-at p (i + bv2nat by) (msb x) false
-      ∙ ap (λ (u : Trit). getD (ts ++ replicate j Undef) (i + bv2nat by) u) (hidden (msb x) (msb y) (top-shows Undef p some e))
+      ∙ ap (λ (u : Trit). getD (ts ++ replicate j Undef) (i + bv2nat by) u)
+      (hidden (msb x) (msb y) (top-shows Undef p some e))
       ∙ getD-pad ts j Undef (i + bv2nat by))
     where
       hidden : (a d : Bool) → shows a d ≡ Undef → shows a false ≡ Undef

@@ -1,5 +1,5 @@
--- The terms that each function of the builder makes have the bits that Formula says, under any assignment and any valuation that
--- meets its calls.
+-- The terms that each function of the builder makes have the bits that Formula says, under any assignment and any
+-- valuation that meets its calls.
 use mathlib.Core.Path.{_≡_, refl, sym, ap, ap₂, _∙_}
 use mathlib.Core.Bool.{Bool, true, false, not, cond, _&&_, _||_}
 use mathlib.Core.List.{List, [], _∷_, _++_, map, append-nil}
@@ -16,7 +16,25 @@ use Rattle.engine.specs.Call as c
 use Rattle.engine.specs.Meaning.{Value, bool, bits, asBool, asBits, Assignment, denote, denoteOp, denoteCompare}
 use Rattle.cell.specs.Cell.{Control, Binary}
 use Rattle.cell.specs.Cell as cells
-use Rattle.smt.specs.Prog.{Prog, ret, op, declare, bind, bind2, _>>=_, Age, curr, past, Half, isUndef, isOne, BitVec, bv, TritVec, tv}
+use Rattle.smt.specs.Prog.{
+  Prog,
+  ret,
+  op,
+  declare,
+  bind,
+  bind2,
+  _>>=_,
+  Age,
+  curr,
+  past,
+  Half,
+  isUndef,
+  isOne,
+  BitVec,
+  bv,
+  TritVec,
+  tv,
+}
 use Rattle.smt.specs.Emit.{netName}
 use Rattle.smt.specs.Builder.{
   bvConcatOn,
@@ -101,7 +119,8 @@ module _ (ρ : Assignment) (v : ℕ → Value) where
   unfolding tvLit _>>=_ litBits
   tvLit-wp value = λ x ex y ey. (ex, ey)
 
-  pub tvExtract-wp : (i j : ℕ) (a : TritVec) (A : TritBits) → Is a A → wp ρ v (tvExtract i j a) (λ r. Is r (extractBits i j A))
+  pub tvExtract-wp : (i j : ℕ) (a : TritVec) (A : TritBits) → Is a A
+      → wp ρ v (tvExtract i j a) (λ r. Is r (extractBits i j A))
   unfolding tvExtract _>>=_ extractBits
   tvExtract-wp i j a A ha = λ x ex y ey. (cc, cc)
 
@@ -184,7 +203,8 @@ module _ (ρ : Assignment) (v : ℕ → Value) where
   Each (t ∷ ts) [] = ⊥
   Each (t ∷ ts) (b ∷ bs) = Is ρ v t b × Each ts bs
 
-  pub collect-wp : {A : Type 0} (f : A → Prog TritVec) (g : A → TritBits) → ((a : A) → wp ρ v (f a) (λ r. Is ρ v r (g a)))
+  pub collect-wp : {A : Type 0} (f : A → Prog TritVec) (g : A → TritBits)
+      → ((a : A) → wp ρ v (f a) (λ r. Is ρ v r (g a)))
       → (l : List A) → wp ρ v (collect f l) (λ ts. Each ts (map g l))
   unfolding collect
   collect-wp f g h [] = tt
@@ -256,7 +276,8 @@ module _ (ρ : Assignment) (v : ℕ → Value) where
     pub amount-is : Is ρ v (p .amount) amount
     pub by-is : v (p .amountMul .term) ≡ bits by
 
-  pub tvShift-wp : (onX onY : BinaryOp) (n : ℕ) (p : Prepared) (w : ℕ) (A B : TritBits) (by : Bits) → Prepares p w A B by
+  pub tvShift-wp : (onX onY : BinaryOp) (n : ℕ) (p : Prepared) (w : ℕ) (A B : TritBits) (by : Bits)
+      → Prepares p w A B by
       → wp ρ v (tvShift onX onY n p) (λ r. Is ρ v r (shiftBits onX onY n w A B by))
   unfolding tvShift tvExtract bvIsZero _>>=_ shiftBits extractBits
   tvShift-wp onX onY n p w A B by h = λ k1 e1 k2 e2 k3 e3 k4 e4 k5 e5 k6 e6 x ex y ey. (cc, cc)
@@ -274,9 +295,11 @@ module _ (ρ : Assignment) (v : ℕ → Value) where
   bvConcatOn-wp k ks [] h = absurd h
   bvConcatOn-wp k [] (b ∷ []) h = h .0
   bvConcatOn-wp k [] (b ∷ d ∷ bs) h = absurd (h .1)
-  bvConcatOn-wp k (l ∷ ls) (b ∷ bs) h = wp-seq ρ v (bvConcatOn l ls) _ _ _ (bvConcatOn-wp l ls bs (h .1)) λ r hr x ex. cc
+  bvConcatOn-wp k (l ∷ ls) (b ∷ bs) h = wp-seq ρ v (bvConcatOn l ls) _ _ _ (bvConcatOn-wp l ls bs (h .1)) λ r hr x ex.
+      cc
 
-  bvConcat-wp : (ks : List BitVec) (bs : Bits) → 0 < length bs → Bit ks bs → wp ρ v (bvConcat ks) (λ r. v (r .term) ≡ bits bs)
+  bvConcat-wp : (ks : List BitVec) (bs : Bits) → 0 < length bs → Bit ks bs
+      → wp ρ v (bvConcat ks) (λ r. v (r .term) ≡ bits bs)
   unfolding bvConcat
   bvConcat-wp [] [] p h = absurd (omega arith)
   bvConcat-wp [] (b ∷ bs) p h = absurd h
@@ -299,12 +322,15 @@ module _ (ρ : Assignment) (v : ℕ → Value) where
       λ k1 e1 k2 e2 k3 e3 k4 e4 r er.
       let ia : i < length ax = omega arith in
       let ib : i < length bx = omega arith in
-      let hr : v r ≡ bits (carryOr d (getD ax i false) (getD bx i false) ∷ []) = cc (extract-one ax i ia, extract-one bx i ib) in
+      let hr : v r ≡ bits (carryOr d (getD ax i false) (getD bx i false) ∷ []) =
+      cc (extract-one ax i ia, extract-one bx i ib) in
       wp-seq ρ v (carryX a b m (suc i) (bv r 1)) _ _ _
-      (carryX-wp a b ax bx m (suc i) (bv r 1) (carryOr d (getD ax i false) (getD bx i false)) ha hb (omega arith) (omega arith) hr)
+      (carryX-wp a b ax bx m (suc i) (bv r 1) (carryOr d (getD ax i false) (getD bx i false)) ha hb (omega arith)
+      (omega arith) hr)
       λ ks h. rw (drop-cons ax i false ia, drop-cons bx i false ib) (hr, h)
 
-  pub tvAdc-wp : (a b c : TritVec) (n : ℕ) (A B : TritBits) (cx cy : Bool) → Is ρ v a A → Is ρ v b B → Is ρ v c (one cx cy)
+  pub tvAdc-wp : (a b c : TritVec) (n : ℕ) (A B : TritBits) (cx cy : Bool) → Is ρ v a A → Is ρ v b B
+      → Is ρ v c (one cx cy)
       → length (A .x) ≡ n → length (B .x) ≡ n → wp ρ v (tvAdc a b c n) (λ r. Is ρ v r (adcBits A B cx cy n))
   unfolding tvAdc _>>=_ adcBits
   tvAdc-wp a b c n A B cx cy ha hb hc la lb =
@@ -312,7 +338,8 @@ module _ (ρ : Assignment) (v : ℕ → Value) where
       let a′ : TritVec = tv (bv ax n) (bv ay n) in
       let b′ : TritVec = tv (bv bx n) (bv yb n) in
       wp-seq ρ v (carryX a′ b′ n 0 (c .x)) _ _ _
-      (carryX-wp a′ b′ (A .x) (B .x) n 0 (c .x) cx (eax ∙ ha .0) (ebx ∙ hb .0) (omega arith) (omega arith) (hc .0)) λ ks hks.
+      (carryX-wp a′ b′ (A .x) (B .x) n 0 (c .x) cx (eax ∙ ha .0) (ebx ∙ hb .0) (omega arith) (omega arith) (hc .0))
+      λ ks hks.
       wp-seq ρ v (bvConcat ks) _ _ _
       (bvConcat-wp ks (carryBits (A .x) (B .x) cx) (carry-some (A .x) (B .x) cx) hks) λ x hx.
       λ k1 e1 k2 e2 k3 e3 k4 e4 k5 e5 k6 e6 k7 e7 y ey. (hx, cc)

@@ -1,5 +1,5 @@
--- What holds of the result of a run of the builder, under any valuation of the terms that meets what it emits. The rule of each
--- kind of call is a weakest precondition with no state in it, so a run's parts are judged one by one.
+-- What holds of the result of a run of the builder, under any valuation of the terms that meets what it emits. The
+-- rule of each kind of call is a weakest precondition with no state in it, so a run's parts are judged one by one.
 use mathlib.Core.Path.{_≡_, refl, sym, ap, ap₂, _∙_}
 use mathlib.Core.Bool.{Bool, true, false, not, cond, _&&_, false≢true}
 use mathlib.Core.List.{List, [], _∷_, _++_}
@@ -122,7 +122,8 @@ module _ (ρ : Assignment) (v : ℕ → Value) where
       (λ p q. let m : k ≡ l = omega arith in rw m at (renamed a i h b j g k (place-inj a i h b j g p) new))
       (λ p. kn b j g l p)
 
-  -- After a run: what its weakest precondition promises of the result, the names still known, and the calls that follow met.
+  -- After a run: what its weakest precondition promises of the result, the names still known, and the calls that
+  -- follow met.
   pub record Sound {A : Type 0} (a : A) (s : St) (rest : List Call) (Q : A → Type 0) : Type 0 where
     pub post : Q a
     pub names : Known (s .names)
@@ -145,7 +146,8 @@ module _ (ρ : Assignment) (v : ℕ → Value) where
           → (o : ℕ) → getD (s .names) (place a i d) 0 ≡ o
           → Sound ((emit (declare a i d f) s) .res) ((emit (declare a i d f) s) .st) rest Q
       go rec zero e =
-          let g : Holds ρ v (s .next) (c.declare (netName a i d) 1 ∷ ((emit (f (s .next)) (learn a i d s)) .calls ++ rest)) =
+          let g : Holds ρ v (s .next) (c.declare (netName a i d) 1 ∷ ((emit (f (s .next))
+          (learn a i d s)) .calls ++ rest)) =
           rw e at h in
           let new : Named ρ v a i d (s .next) = record { is = g .0; one = g .1 } in
           rw e (rec (s .next) (learn a i d s) (learnt a i d (s .next) (s .names) new kn) (g .2) (w (s .next) new))
@@ -169,10 +171,12 @@ emit-seq (ret a) g s = refl
 emit-seq (op t f) g s = rw (emit-seq (f (s .next)) g)
 emit-seq (declare a i h f) g s = go (λ k s. emit-seq (f k) g s) (getD (s .names) (place a i h) 0) refl
   where
-    go : ((k : ℕ) (s : St) → emit (f k >>= g) s ≡ after ((emit (f k) s) .calls) (emit (g ((emit (f k) s) .res)) ((emit (f k) s) .st)))
+    go : ((k : ℕ) (s : St) → emit (f k >>= g) s ≡ after ((emit (f k) s) .calls)
+        (emit (g ((emit (f k) s) .res)) ((emit (f k) s) .st)))
         → (o : ℕ) → getD (s .names) (place a i h) 0 ≡ o
         → emit (declare a i h f >>= g) s
-        ≡ after ((emit (declare a i h f) s) .calls) (emit (g ((emit (declare a i h f) s) .res)) ((emit (declare a i h f) s) .st))
+        ≡ after ((emit (declare a i h f) s) .calls) (emit (g ((emit (declare a i h f) s) .res))
+        ((emit (declare a i h f) s) .st))
     go rec zero e = rw e (rw rec)
     go rec (suc k) e = rw e (rec k (reread a i s))
 emit-seq (bind w t f) g s = rw (emit-seq (f (s .next)) g)

@@ -1,1 +1,1 @@
-// The builder of solver calls (smt.rs, `SmtBuilder`): so far its model, in specs/.
+// The builder of solver calls (smt.rs, `SmtBuilder`): its model, and what the terms of its calls show, in specs/.

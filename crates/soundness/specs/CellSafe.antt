@@ -156,7 +156,8 @@ halvings-below zero n e h p = p
 halvings-below (suc more) n zero h p = absurd (omega arith)
 halvings-below (suc more) n (suc e) h p = by (halvings-below more (n / 2) e) (ltb n 2) refl
   where
-    by : (n / 2 < 2 ^ e → 0 < e → halvings more (n / 2) < e) → (b : Bool) → ltb n 2 ≡ b → cond b 0 (suc (halvings more (n / 2))) < suc e
+    by : (n / 2 < 2 ^ e → 0 < e → halvings more (n / 2) < e) → (b : Bool) → ltb n 2 ≡ b
+        → cond b 0 (suc (halvings more (n / 2))) < suc e
     by rec true q = omega arith
     by rec false q =
         let l : 2 ≤ n = omega (arith, ltb-false n 2 q) in
@@ -189,7 +190,8 @@ module _ (slots : ℕ) (σ : ℕ → Sort) (readsPast : ℕ → Bool) where
       go true = netOf-safe slots σ n past (slot i) h
       go false = netOf-safe slots σ n curr (slot i) h
 
-  pub value-safe : (n : ℕ) (nets : List Net) → Width (length nets) → Each In nets → safe slots σ n (valueOf (net readsPast) nets) (Tv (length nets))
+  pub value-safe : (n : ℕ) (nets : List Net) → Width (length nets) → Each In nets
+      → safe slots σ n (valueOf (net readsPast) nets) (Tv (length nets))
   value-safe = valueOf-safe slots σ (net readsPast) net-safe
 
   pub output-within : (s w : ℕ) → s + w ≤ slots → Each In (outputNets s w)
@@ -198,12 +200,14 @@ module _ (slots : ℕ) (σ : ℕ → Sort) (readsPast : ℕ → Bool) where
   past-safe : (n s w : ℕ) → Width w → s + w ≤ slots → safe slots σ n (valueOf pastNet (outputNets s w)) (Tv w)
   past-safe n s w h l =
       rw (length-tab w (λ i. slot (s + i)))
-      at (valueOf-safe slots σ pastNet (λ n m i. netOf-safe slots σ n past m i) n (outputNets s w) (rw (length-tab w (λ i. slot (s + i))) h) (output-within s w l))
+      at (valueOf-safe slots σ pastNet (λ n m i. netOf-safe slots σ n past m i) n (outputNets s w)
+      (rw (length-tab w (λ i. slot (s + i))) h) (output-within s w l))
 
   controlNet-safe : (n : ℕ) (w : Control) → In (w .net) → safe slots σ n (controlNet readsPast w) (Tv 1)
   unfolding controlNet
   controlNet-safe n w h =
-      safe-seq slots σ n (net readsPast (w .net)) _ (Tv 1) (Tv 1) (net-safe n (w .net) h) λ i a li g. invertNet-safe slots σ i w a g
+      safe-seq slots σ n (net readsPast (w .net)) _ (Tv 1) (Tv 1) (net-safe n (w .net) h) λ i a li g.
+      invertNet-safe slots σ i w a g
 
   clockNet-safe : (n : ℕ) (w : Control) → In (w .net) → safe slots σ n (clockNet w) (Tv 1)
   unfolding clockNet
@@ -229,10 +233,12 @@ module _ (slots : ℕ) (σ : ℕ → Sort) (readsPast : ℕ → Bool) where
 
   extended-within : (signed : Bool) (nets : List Net) (w : ℕ) → Each In nets → Each In (extended signed nets w)
   extended-within true nets w h =
-      each-append In nets _ h (each-replicate In (w - length nets) _ (each-at In nets (length nets - 1) (constant Undef) tt h))
+      each-append In nets _ h (each-replicate In (w - length nets) _
+      (each-at In nets (length nets - 1) (constant Undef) tt h))
   extended-within false nets w h = zext-within nets w h
 
-  prepareAt-safe : (n w : ℕ) (nets amount : List Net) (stride : ℕ) → Width w → length nets ≡ w → length amount ≡ w → Each In nets
+  prepareAt-safe : (n w : ℕ) (nets amount : List Net) (stride : ℕ) → Width w → length nets ≡ w → length amount ≡ w
+      → Each In nets
       → Each In amount → safe slots σ n (prepareAt readsPast w nets amount stride) (λ m p. PreparedOf slots σ w m p)
   unfolding prepareAt _>>=_
   prepareAt-safe n w nets amount stride h en em wn wm =
@@ -240,43 +246,66 @@ module _ (slots : ℕ) (σ : ℕ → Sort) (readsPast : ℕ → Bool) where
       safe-seq slots σ n (valueOf (net readsPast) nets) _ (Tv w) (λ m p. PreparedOf slots σ w m p)
       (rw en at (value-safe n nets (rw en h) wn)) λ i v li gv.
       safe-seq slots σ i (valueOf (net readsPast) amount) _ (Tv w) (λ m p. PreparedOf slots σ w m p)
-      (rw em at (value-safe i amount (rw em h) wm)) λ j a lj ga.
-      (omega arith, λ d. (omega arith, λ e. record { width = refl; value = omega arith; amount = omega arith; amountMul = omega arith }))
+      (rw em at (value-safe i amount (rw em h) wm)) λ j a lj ga. (
+        omega arith,
+        λ d. (
+          omega arith,
+          λ e. record {
+            width = refl;
+            value = omega arith;
+            amount =
+                omega arith;
+            amountMul = omega arith;
+          },
+        ),
+      )
 
-  shifted-safe : (onX onY : BinaryOp) (signed : Bool) (n v : ℕ) (nets amount : List Net) (stride : ℕ) → Keeps slots σ onX → Keeps slots σ onY
-      → 0 < v → v ≤ length nets → length nets ≤ 64 → length amount ≤ 32 → stride < 2 ^ 29 → Each In nets → Each In amount
+  shifted-safe : (onX onY : BinaryOp) (signed : Bool) (n v : ℕ) (nets amount : List Net) (stride : ℕ)
+      → Keeps slots σ onX → Keeps slots σ onY
+      → 0 < v → v ≤ length nets → length nets ≤ 64 → length amount ≤ 32 → stride < 2 ^ 29 → Each In nets
+      → Each In amount
       → safe slots σ n (prepareShift readsPast nets amount stride signed >>= tvShift onX onY v) (Tv v)
   shifted-safe onX onY signed n v nets amount stride kx ky s l hn hm hs wn wm =
       let w = shiftWidth (length nets) (length amount) stride in
       let u = shiftWidth-narrow (length nets) (length amount) stride hn hm hs in
       let e : (length nets ≤ w) × (length amount ≤ w) = unfold shiftWidth in (omega arith) in
       safe-seq slots σ n (prepareShift readsPast nets amount stride signed) _ (λ m p. PreparedOf slots σ w m p) (Tv v)
-      (prepareAt-safe n w (extended signed nets w) (zext amount w) stride (omega arith) (length-extended signed nets w (e .0))
+      (prepareAt-safe n w (extended signed nets w) (zext amount w) stride (omega arith)
+      (length-extended signed nets w (e .0))
       (length-zext amount w (e .1)) (extended-within signed nets w wn) (zext-within amount w wm))
       λ i p li g. tvShift-safe slots σ onX onY i w v p kx ky (omega arith) s (omega arith) g
 
-  shiftCell-safe : (o : Shift) (n : ℕ) (nets amount : List Net) (stride : ℕ) → 0 < length nets → length nets ≤ 63 → length amount ≤ 32
-      → stride < 2 ^ 29 → Each In nets → Each In amount → safe slots σ n (shifted readsPast o nets amount stride) (Tv (length nets))
+  shiftCell-safe : (o : Shift) (n : ℕ) (nets amount : List Net) (stride : ℕ) → 0 < length nets → length nets ≤ 63
+      → length amount ≤ 32
+      → stride < 2 ^ 29 → Each In nets → Each In amount → safe slots σ n (shifted readsPast o nets amount stride)
+      (Tv (length nets))
   unfolding shifted
   shiftCell-safe cells.shl n nets amount stride s hn hm hs wn wm =
-      shifted-safe c.bvshl c.bvshl false n (length nets) nets amount stride (λ w. (refl, refl)) (λ w. (refl, refl)) s (omega arith) (omega arith) hm hs wn wm
+      shifted-safe c.bvshl c.bvshl false n (length nets) nets amount stride (λ w. (refl, refl)) (λ w. (refl, refl)) s
+      (omega arith) (omega arith) hm hs wn wm
   shiftCell-safe cells.ushr n nets amount stride s hn hm hs wn wm =
-      shifted-safe c.bvlshr c.bvlshr false n (length nets) nets amount stride (λ w. (refl, refl)) (λ w. (refl, refl)) s (omega arith) (omega arith) hm hs wn wm
+      shifted-safe c.bvlshr c.bvlshr false n (length nets) nets amount stride (λ w. (refl, refl))
+      (λ w. (refl, refl)) s (omega arith) (omega arith) hm hs wn wm
   shiftCell-safe cells.sshr n nets amount stride s hn hm hs wn wm =
-      shifted-safe c.bvashr c.bvashr true n (length nets) nets amount stride (λ w. (refl, refl)) (λ w. (refl, refl)) s (omega arith) (omega arith) hm hs wn wm
+      shifted-safe c.bvashr c.bvashr true n (length nets) nets amount stride (λ w. (refl, refl)) (λ w. (refl, refl)) s
+      (omega arith) (omega arith) hm hs wn wm
   shiftCell-safe cells.xshr n nets amount stride s hn hm hs wn wm =
       let l = length-append nets (constant Undef ∷ []) in
-      shifted-safe c.bvashr c.bvlshr true n (length nets) (nets ++ (constant Undef ∷ [])) amount stride (λ w. (refl, refl)) (λ w. (refl, refl)) s
+      shifted-safe c.bvashr c.bvlshr true n (length nets) (nets ++ (constant Undef ∷ [])) amount stride
+      (λ w. (refl, refl)) (λ w. (refl, refl)) s
       (omega arith) (omega arith) hm hs (each-append In nets (constant Undef ∷ []) wn (tt, tt)) wm
 
   -- ---- Match
 
-  compared-safe : (n : ℕ) (v : Net) (mask : Trit) (prd : TritVec) → In v → Tv 1 n prd → safe slots σ n (compared readsPast v mask prd) (Tv 1)
+  compared-safe : (n : ℕ) (v : Net) (mask : Trit) (prd : TritVec) → In v → Tv 1 n prd
+      → safe slots σ n (compared readsPast v mask prd) (Tv 1)
   unfolding compared
   compared-safe n v mask prd h g =
       safe-seq slots σ n (net readsPast v) _ (Tv 1) (Tv 1) (net-safe n v h) λ i1 r1 l1 g1.
-      safe-seq slots σ i1 (net readsPast (constant mask)) _ (Tv 1) (Tv 1) (net-safe i1 (constant mask) tt) λ i2 r2 l2 g2.
-      safe-seq slots σ i2 (tvXor r1 r2) _ (Tv 1) (Tv 1) (tvXor-safe slots σ i2 1 r1 r2 (omega arith) (omega arith) g2) λ i3 r3 l3 g3.
+      safe-seq slots σ i1 (net readsPast (constant mask)) _ (Tv 1) (Tv 1) (net-safe i1 (constant mask) tt)
+      λ i2 r2 l2 g2.
+      safe-seq slots σ i2 (tvXor r1 r2) _ (Tv 1) (Tv 1) (tvXor-safe slots σ i2 1 r1 r2 (omega arith) (omega arith) g2)
+      λ i3 r3 l3 g3.
       safe-seq slots σ i3 (tvNot r3) _ (Tv 1) (Tv 1) (tvNot-safe slots σ i3 1 r3 (omega arith) g3) λ i4 r4 l4 g4.
       tvAnd-safe slots σ i4 1 prd r4 (omega arith) (omega arith) g4
 
@@ -287,7 +316,8 @@ module _ (slots : ℕ) (σ : ℕ → Sort) (readsPast : ℕ → Bool) where
   product-safe n (v ∷ nets) [] prd h g = g
   product-safe n (v ∷ nets) (Undef ∷ pattern) prd h g = product-safe n nets pattern prd (h .1) g
   product-safe n (v ∷ nets) (Zero ∷ pattern) prd h g =
-      safe-seq slots σ n (compared readsPast v Zero prd) _ (Tv 1) (Tv 1) (compared-safe n v Zero prd (h .0) g) λ i r l e.
+      safe-seq slots σ n (compared readsPast v Zero prd) _ (Tv 1) (Tv 1) (compared-safe n v Zero prd (h .0) g)
+      λ i r l e.
       product-safe i nets pattern r (h .1) e
   product-safe n (v ∷ nets) (One ∷ pattern) prd h g =
       safe-seq slots σ n (compared readsPast v One prd) _ (Tv 1) (Tv 1) (compared-safe n v One prd (h .0) g) λ i r l e.
@@ -298,12 +328,16 @@ module _ (slots : ℕ) (σ : ℕ → Sort) (readsPast : ℕ → Bool) where
   unfolding sum
   sum-safe n nets [] total h g = g
   sum-safe n nets (pattern ∷ alternates) total h g =
-      safe-seq slots σ n (tvLit (One ∷ [])) _ (Tv 1) (Tv 1) (tvLit-safe slots σ n (One ∷ []) (omega arith)) λ i1 r1 l1 g1.
-      safe-seq slots σ i1 (product readsPast nets pattern r1) _ (Tv 1) (Tv 1) (product-safe i1 nets pattern r1 h g1) λ i2 r2 l2 g2.
-      safe-seq slots σ i2 (tvOr total r2 1) _ (Tv 1) (Tv 1) (tvOr-safe slots σ i2 1 total r2 (omega arith) (omega arith) g2) λ i3 r3 l3 g3.
+      safe-seq slots σ n (tvLit (One ∷ [])) _ (Tv 1) (Tv 1) (tvLit-safe slots σ n (One ∷ []) (omega arith))
+      λ i1 r1 l1 g1.
+      safe-seq slots σ i1 (product readsPast nets pattern r1) _ (Tv 1) (Tv 1) (product-safe i1 nets pattern r1 h g1)
+      λ i2 r2 l2 g2.
+      safe-seq slots σ i2 (tvOr total r2 1) _ (Tv 1) (Tv 1)
+      (tvOr-safe slots σ i2 1 total r2 (omega arith) (omega arith) g2) λ i3 r3 l3 g3.
       sum-safe i3 nets alternates r3 h g3
 
-  matchOf-safe : (nets : List Net) → Each In nets → (n : ℕ) (alternates : List (List Trit)) → safe slots σ n (matchOf readsPast nets alternates) (Tv 1)
+  matchOf-safe : (nets : List Net) → Each In nets → (n : ℕ) (alternates : List (List Trit))
+      → safe slots σ n (matchOf readsPast nets alternates) (Tv 1)
   unfolding matchOf
   matchOf-safe nets h n alternates =
       safe-seq slots σ n (tvLit (Zero ∷ [])) _ (Tv 1) (Tv 1) (tvLit-safe slots σ n (Zero ∷ []) (omega arith)) λ i r l g.
@@ -316,24 +350,32 @@ module _ (slots : ℕ) (σ : ℕ → Sort) (readsPast : ℕ → Bool) where
   firstMatch-safe n k m (suc index) r h l gm gr =
       let one : suc index - index ≡ 1 = omega arith in
       let width = length-tab k (λ j. cond (eqb j index) One Zero) in
-      safe-seq slots σ n (tvExtract index index m) _ (Tv 1) (Tv k) (rw one at (tvExtract-safe slots σ n k index index m (omega arith) (omega arith) (omega arith) gm)) λ i1 s l1 g1.
-      safe-seq slots σ i1 (tvLit (oneHot k index)) _ (Tv k) (Tv k) (rw width at (tvLit-safe slots σ i1 (oneHot k index) (rw width h))) λ i2 a l2 g2.
-      safe-seq slots σ i2 (tvMux s a r k) _ (Tv k) (Tv k) (tvMux-safe slots σ i2 k s a r h (omega arith) g2 (omega arith)) λ i3 q l3 g3.
+      safe-seq slots σ n (tvExtract index index m) _ (Tv 1) (Tv k)
+      (rw one at (tvExtract-safe slots σ n k index index m (omega arith) (omega arith) (omega arith) gm)) λ i1 s l1 g1.
+      safe-seq slots σ i1 (tvLit (oneHot k index)) _ (Tv k) (Tv k)
+      (rw width at (tvLit-safe slots σ i1 (oneHot k index) (rw width h))) λ i2 a l2 g2.
+      safe-seq slots σ i2 (tvMux s a r k) _ (Tv k) (Tv k)
+      (tvMux-safe slots σ i2 k s a r h (omega arith) g2 (omega arith)) λ i3 q l3 g3.
       firstMatch-safe i3 k m index q h (omega arith) (omega arith) g3
 
-  matchCell-safe : (n : ℕ) (nets : List Net) (enable : Net) (patterns : List (List (List Trit))) → Width (length patterns) → Each In nets → In enable
+  matchCell-safe : (n : ℕ) (nets : List Net) (enable : Net) (patterns : List (List (List Trit)))
+      → Width (length patterns) → Each In nets → In enable
       → safe slots σ n (matchCell readsPast nets enable patterns (length patterns)) (Tv (length patterns))
   unfolding matchCell
   matchCell-safe n nets enable patterns h wn we =
       let k = length patterns in
       let zeros-wide = length-replicate k Zero in
-      safe-seq slots σ n (collect (matchOf readsPast nets) patterns) _ (λ m ts. Each (Tv 1 m) ts × (length ts ≡ k)) (Tv k)
-      (collect-safe slots σ (matchOf readsPast nets) (λ _. Unit {0}) (λ n a _. matchOf-safe nets wn n a) n patterns (any patterns)) λ i1 ts l1 g1.
+      safe-seq slots σ n (collect (matchOf readsPast nets) patterns) _ (λ m ts. Each (Tv 1 m) ts × (length ts ≡ k))
+      (Tv k)
+      (collect-safe slots σ (matchOf readsPast nets) (λ _. Unit {0}) (λ n a _. matchOf-safe nets wn n a) n patterns
+      (any patterns)) λ i1 ts l1 g1.
       safe-seq slots σ i1 (tvConcat ts) _ (Tv k) (Tv k) (tvConcat-safe slots σ i1 k ts h (g1 .1) (g1 .0)) λ i2 m l2 g2.
       safe-seq slots σ i2 (tvBind m k) _ (Tv k) (Tv k) (tvBind-safe slots σ i2 k m h g2) λ i3 m l3 g3.
       safe-seq slots σ i3 (net readsPast enable) _ (Tv 1) (Tv k) (net-safe i3 enable we) λ i4 e l4 g4.
-      safe-seq slots σ i4 (tvLit (replicate k Zero)) _ (Tv k) (Tv k) (rw zeros-wide at (tvLit-safe slots σ i4 (replicate k Zero) (rw zeros-wide h))) λ i5 cold l5 g5.
-      safe-seq slots σ i5 (firstMatch m k k cold) _ (Tv k) (Tv k) (firstMatch-safe i5 k m k cold h (omega arith) (omega arith) g5) λ i6 r l6 g6.
+      safe-seq slots σ i4 (tvLit (replicate k Zero)) _ (Tv k) (Tv k)
+      (rw zeros-wide at (tvLit-safe slots σ i4 (replicate k Zero) (rw zeros-wide h))) λ i5 cold l5 g5.
+      safe-seq slots σ i5 (firstMatch m k k cold) _ (Tv k) (Tv k)
+      (firstMatch-safe i5 k m k cold h (omega arith) (omega arith) g5) λ i6 r l6 g6.
       tvMux-safe slots σ i6 k e r cold h (omega arith) g6 (omega arith)
     where
       any : {A : Type 0} (l : List A) → Each (λ _. Unit {0}) l
@@ -342,15 +384,21 @@ module _ (slots : ℕ) (σ : ℕ → Sort) (readsPast : ℕ → Bool) where
 
   -- ---- Assign and Dff
 
-  mux-safe : (n w : ℕ) (sel : Net) (x y : List Net) → Width w → length x ≡ w → length y ≡ w → In sel → Each In x → Each In y
-      → safe slots σ n (net readsPast sel >>= λ s. valueOf (net readsPast) x >>= λ p. valueOf (net readsPast) y >>= λ q. tvMux s p q w) (Tv w)
+  mux-safe : (n w : ℕ) (sel : Net) (x y : List Net) → Width w → length x ≡ w → length y ≡ w → In sel → Each In x
+      → Each In y
+      → safe slots σ n
+      (net readsPast sel >>= λ s. valueOf (net readsPast) x >>= λ p. valueOf (net readsPast) y >>= λ q. tvMux s p q w)
+      (Tv w)
   mux-safe n w sel x y h ex ey ws wx wy =
       safe-seq slots σ n (net readsPast sel) _ (Tv 1) (Tv w) (net-safe n sel ws) λ i1 s l1 g1.
-      safe-seq slots σ i1 (valueOf (net readsPast) x) _ (Tv w) (Tv w) (rw ex at (value-safe i1 x (rw ex h) wx)) λ i2 p l2 g2.
-      safe-seq slots σ i2 (valueOf (net readsPast) y) _ (Tv w) (Tv w) (rw ey at (value-safe i2 y (rw ey h) wy)) λ i3 q l3 g3.
+      safe-seq slots σ i1 (valueOf (net readsPast) x) _ (Tv w) (Tv w) (rw ex at (value-safe i1 x (rw ex h) wx))
+      λ i2 p l2 g2.
+      safe-seq slots σ i2 (valueOf (net readsPast) y) _ (Tv w) (Tv w) (rw ey at (value-safe i2 y (rw ey h) wy))
+      λ i3 q l3 g3.
       tvMux-safe slots σ i3 w s p q h (omega arith) (omega arith) g3
 
-  overwritten-within : (nets : List Net) (offset : ℕ) (update : List Net) → Each In nets → Each In update → Each In (overwritten nets offset update)
+  overwritten-within : (nets : List Net) (offset : ℕ) (update : List Net) → Each In nets → Each In update
+      → Each In (overwritten nets offset update)
   overwritten-within nets offset update h u =
       each-append In (take offset nets) _ (each-take In offset nets h)
       (each-append In update _ u (each-drop In (offset + length update) nets h))
@@ -366,14 +414,16 @@ module _ (slots : ℕ) (σ : ℕ → Sort) (readsPast : ℕ → Bool) where
       safe-seq slots σ n (valueOf pastNet (outputNets s w)) _ (Tv w) (Tv w) (past-safe n s w h l) λ i r li g.
       tvMux-safe slots σ i w e d r h (omega arith) (omega arith) g
 
-  resetTo-safe : (n : ℕ) (f : FlipFlop) (w : ℕ) (e d : TritVec) → Width w → length (f .resetValue) ≡ w → Tv 1 n e → Tv w n d
+  resetTo-safe : (n : ℕ) (f : FlipFlop) (w : ℕ) (e d : TritVec) → Width w → length (f .resetValue) ≡ w → Tv 1 n e
+      → Tv w n d
       → safe slots σ n (resetTo readsPast f w e d) (Tv w)
   unfolding resetTo
   resetTo-safe n f w e d h l ge gd =
       safe-seq slots σ n (tvLit (f .resetValue)) _ (Tv w) (Tv w) (lit-safe n w (f .resetValue) h l) λ i r li g.
       tvMux-safe slots σ i w e r d h (omega arith) g (omega arith)
 
-  loaded-safe : (flag : Bool) (n : ℕ) (f : FlipFlop) (s w : ℕ) (r e d : TritVec) → Width w → s + w ≤ slots → length (f .resetValue) ≡ w
+  loaded-safe : (flag : Bool) (n : ℕ) (f : FlipFlop) (s w : ℕ) (r e d : TritVec) → Width w → s + w ≤ slots
+      → length (f .resetValue) ≡ w
       → Tv 1 n r → Tv 1 n e → Tv w n d → safe slots σ n (loaded readsPast flag f s w r e d) (Tv w)
   unfolding loaded
   loaded-safe true n f s w r e d h l k gr ge gd =
@@ -383,7 +433,8 @@ module _ (slots : ℕ) (σ : ℕ → Sort) (readsPast : ℕ → Bool) where
       safe-seq slots σ n (resetTo readsPast f w r d) _ (Tv w) (Tv w) (resetTo-safe n f w r d h k gr gd) λ i q li g.
       enabled-safe i f s w e q h l (omega arith) g
 
-  cleared-safe : (flag : Bool) (n : ℕ) (f : FlipFlop) (w : ℕ) (e d : TritVec) → Width w → length (f .clearValue) ≡ w → Tv 1 n e → Tv w n d
+  cleared-safe : (flag : Bool) (n : ℕ) (f : FlipFlop) (w : ℕ) (e d : TritVec) → Width w → length (f .clearValue) ≡ w
+      → Tv 1 n e → Tv w n d
       → safe slots σ n (cleared readsPast flag f w e d) (Tv w)
   unfolding cleared
   cleared-safe true n f w e d h l ge gd =
@@ -391,45 +442,56 @@ module _ (slots : ℕ) (σ : ℕ → Sort) (readsPast : ℕ → Bool) where
       tvMux-safe slots σ i w e r d h (omega arith) g (omega arith)
   cleared-safe false n f w e d h l ge gd = gd
 
-  dffCell-safe : (n : ℕ) (f : FlipFlop) (s : ℕ) → Width (length (f .dat)) → Shaped (cells.dff f) → Each In (netsOf (cells.dff f))
+  dffCell-safe : (n : ℕ) (f : FlipFlop) (s : ℕ) → Width (length (f .dat)) → Shaped (cells.dff f)
+      → Each In (netsOf (cells.dff f))
       → s + length (f .dat) ≤ slots → safe slots σ n (dffCell readsPast f s (length (f .dat))) (Tv (length (f .dat)))
   unfolding dffCell
   dffCell-safe n f s h shaped wn l =
       let w = length (f .dat) in
-      safe-seq slots σ n (valueOf (net readsPast) (f .dat)) _ (Tv w) (Tv w) (value-safe n (f .dat) h (wn .1 .1 .1 .1)) λ i1 d l1 g1.
-      safe-seq slots σ i1 (controlNet readsPast (f .clear)) _ (Tv 1) (Tv w) (controlNet-safe i1 (f .clear) (wn .1 .0)) λ i2 c l2 g2.
-      safe-seq slots σ i2 (controlNet readsPast (f .reset)) _ (Tv 1) (Tv w) (controlNet-safe i2 (f .reset) (wn .1 .1 .0)) λ i3 r l3 g3.
-      safe-seq slots σ i3 (controlNet readsPast (f .enable)) _ (Tv 1) (Tv w) (controlNet-safe i3 (f .enable) (wn .1 .1 .1 .0)) λ i4 e l4 g4.
+      safe-seq slots σ n (valueOf (net readsPast) (f .dat)) _ (Tv w) (Tv w) (value-safe n (f .dat) h (wn .1 .1 .1 .1))
+      λ i1 d l1 g1.
+      safe-seq slots σ i1 (controlNet readsPast (f .clear)) _ (Tv 1) (Tv w) (controlNet-safe i1 (f .clear) (wn .1 .0))
+      λ i2 c l2 g2.
+      safe-seq slots σ i2 (controlNet readsPast (f .reset)) _ (Tv 1) (Tv w)
+      (controlNet-safe i2 (f .reset) (wn .1 .1 .0)) λ i3 r l3 g3.
+      safe-seq slots σ i3 (controlNet readsPast (f .enable)) _ (Tv 1) (Tv w)
+      (controlNet-safe i3 (f .enable) (wn .1 .1 .1 .0)) λ i4 e l4 g4.
       safe-seq slots σ i4 (loaded readsPast (f .resetOverEnable) f s w r e d) _ (Tv w) (Tv w)
       (loaded-safe (f .resetOverEnable) i4 f s w r e d h l (shaped .1) (omega arith) g4 (omega arith)) λ i5 q l5 g5.
       safe-seq slots σ i5 (clockNet (f .clock)) _ (Tv 1) (Tv w) (clockNet-safe i5 (f .clock) (wn .0)) λ i6 k l6 g6.
       safe-seq slots σ i6 (valueOf pastNet (outputNets s w)) _ (Tv w) (Tv w) (past-safe i6 s w h l) λ i7 o l7 g7.
-      safe-seq slots σ i7 (tvMux k q o w) _ (Tv w) (Tv w) (tvMux-safe slots σ i7 w k q o h (omega arith) (omega arith) g7) λ i8 p l8 g8.
+      safe-seq slots σ i7 (tvMux k q o w) _ (Tv w) (Tv w)
+      (tvMux-safe slots σ i7 w k q o h (omega arith) (omega arith) g7) λ i8 p l8 g8.
       cleared-safe (hasClear f) i8 f w c p h (shaped .0) (omega arith) g8
 
   -- ---- every cell
 
-  adcCell-safe : (n : ℕ) (x y : List Net) (carry : Net) → length x ≤ 63 → length y ≡ length x → Each In x → Each In y → In carry
+  adcCell-safe : (n : ℕ) (x y : List Net) (carry : Net) → length x ≤ 63 → length y ≡ length x → Each In x → Each In y
+      → In carry
       → safe slots σ n (adcCell readsPast x y carry) (Tv (length x + 1))
   unfolding adcCell
   adcCell-safe n [] y carry h e wx wy wc = net-safe n carry wc
   adcCell-safe n (m ∷ x) y carry h e wx wy wc =
       let w = length (m ∷ x) in
       rw (add-one w)
-      (safe-seq slots σ n (valueOf (net readsPast) (m ∷ x)) _ (Tv w) (Tv (suc w)) (value-safe n (m ∷ x) (omega arith) wx) λ i1 p l1 g1.
-      safe-seq slots σ i1 (valueOf (net readsPast) y) _ (Tv w) (Tv (suc w)) (rw e at (value-safe i1 y (omega arith) wy)) λ i2 q l2 g2.
+      (safe-seq slots σ n (valueOf (net readsPast) (m ∷ x)) _ (Tv w) (Tv (suc w))
+      (value-safe n (m ∷ x) (omega arith) wx) λ i1 p l1 g1.
+      safe-seq slots σ i1 (valueOf (net readsPast) y) _ (Tv w) (Tv (suc w))
+      (rw e at (value-safe i1 y (omega arith) wy)) λ i2 q l2 g2.
       safe-seq slots σ i2 (net readsPast carry) _ (Tv 1) (Tv (suc w)) (net-safe i2 carry wc) λ i3 r l3 g3.
       tvAdc-safe slots σ i3 w p q r (omega arith) h (omega arith) (omega arith) g3)
 
   -- A cell with its shape, its widths within bounds, and its nets and output among the slots.
-  pub cell-safe : (n s : ℕ) (d : Cell) → Shaped d → NotInput d → 0 < outputLen d → Bounded d → Each In (netsOf d) → s + outputLen d ≤ slots
+  pub cell-safe : (n s : ℕ) (d : Cell) → Shaped d → NotInput d → 0 < outputLen d → Bounded d → Each In (netsOf d)
+      → s + outputLen d ≤ slots
       → safe slots σ n (cell readsPast s (outputLen d) d) (Tv (outputLen d))
   unfolding cell
   cell-safe n s cells.void h terms some b wn l = absurd (omega arith)
   cell-safe n s cells.note h terms some b wn l = absurd (omega arith)
   cell-safe n s (cells.input m) h terms some b wn l = absurd (terms m refl)
   cell-safe n s (cells.ioBuf m) h terms some b wn l =
-      rw (length-tab m (λ i. slot (s + i))) at (value-safe n (outputNets s m) (rw (length-tab m (λ i. slot (s + i))) (omega arith)) (output-within s m l))
+      rw (length-tab m (λ i. slot (s + i))) at (value-safe n (outputNets s m)
+      (rw (length-tab m (λ i. slot (s + i))) (omega arith)) (output-within s m l))
   cell-safe n s (cells.unary cells.buf x) h terms some b wn l = value-safe n x (omega arith) wn
   cell-safe n s (cells.unary cells.not x) h terms some b wn l =
       let w = length x in
@@ -439,7 +501,8 @@ module _ (slots : ℕ) (σ : ℕ → Sort) (readsPast : ℕ → Bool) where
       let w = length x in
       let m = wide o w (h .1) some in
       let out = binaryWidth o w in
-      safe-seq slots σ n (valueOf (net readsPast) x) _ (Tv w) (Tv out) (value-safe n x (omega arith) (each-left In x y wn)) λ i p li g.
+      safe-seq slots σ n (valueOf (net readsPast) x) _ (Tv w) (Tv out)
+      (value-safe n x (omega arith) (each-left In x y wn)) λ i p li g.
       safe-seq slots σ i (valueOf (net readsPast) y) _ (Tv w) (Tv out)
       (rw (h .0) at (value-safe i y (rw (h .0) (omega arith)) (each-right In x y wn))) λ j q lj e.
       tvBinary-safe slots σ o j w p q (omega arith) (omega arith) e
@@ -447,17 +510,20 @@ module _ (slots : ℕ) (σ : ℕ → Sort) (readsPast : ℕ → Bool) where
       mux-safe n (length x) sel x y (omega arith) refl h (wn .0) (each-left In x y (wn .1)) (each-right In x y (wn .1))
   cell-safe n s (cells.adc x y carry) h terms some b wn l =
       let w = each-right In x (y ++ (carry ∷ [])) wn in
-      adcCell-safe n x y carry b h (each-left In x (y ++ (carry ∷ [])) wn) (each-left In y (carry ∷ []) w) (each-right In y (carry ∷ []) w .0)
+      adcCell-safe n x y carry b h (each-left In x (y ++ (carry ∷ [])) wn) (each-left In y (carry ∷ []) w)
+      (each-right In y (carry ∷ []) w .0)
   cell-safe n s (cells.aig x y) h terms some b wn l =
       safe-seq slots σ n (controlNet readsPast x) _ (Tv 1) (Tv 1) (controlNet-safe n x (wn .0)) λ i p li g.
       safe-seq slots σ i (controlNet readsPast y) _ (Tv 1) (Tv 1) (controlNet-safe i y (wn .1 .0)) λ j q lj e.
       tvAnd-safe slots σ j 1 p q (omega arith) (omega arith) e
   cell-safe n s (cells.shift o nets amount stride) h terms some b wn l =
-      shiftCell-safe o n nets amount stride some (b .0) (b .1) (b .2) (each-left In nets amount wn) (each-right In nets amount wn)
+      shiftCell-safe o n nets amount stride some (b .0) (b .1) (b .2) (each-left In nets amount wn)
+      (each-right In nets amount wn)
   cell-safe n s (cells.match nets enable patterns) h terms some b wn l =
       matchCell-safe n nets enable patterns (some, le-trans (b .1) (omega arith)) (wn .1) (wn .0)
   cell-safe n s (cells.assign nets enable update offset) h terms some b wn l =
       let wv = each-left In nets update (wn .1) in
-      mux-safe n (length nets) enable (overwritten nets offset update) nets (some, le-trans (b .0) (omega arith)) (length-overwritten nets offset update h) refl (wn .0)
+      mux-safe n (length nets) enable (overwritten nets offset update) nets (some, le-trans (b .0) (omega arith))
+      (length-overwritten nets offset update h) refl (wn .0)
       (overwritten-within nets offset update wv (each-right In nets update (wn .1))) wv
   cell-safe n s (cells.dff f) h terms some b wn l = dffCell-safe n f s (some, le-trans b (omega arith)) h wn l

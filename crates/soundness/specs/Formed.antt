@@ -15,7 +15,21 @@ use Rattle.engine.specs.Laws.{All-map, length-snoc}
 use Rattle.engine.specs.Sorts.{Sort, sortAt, sortOf, IsBool, Context, Formed, payloadLimit, countLimit}
 use Rattle.engine.specs.Sorts as sorts
 use Rattle.smt.specs.Prog.{Prog, ret, op, declare, bind, bind2, Age, curr, past, Half, isUndef, isOne}
-use Rattle.smt.specs.Emit.{St, letterOf, suffixOf, netName, tempName, offset, place, at, reread, learn, after, emit, known}
+use Rattle.smt.specs.Emit.{
+  St,
+  letterOf,
+  suffixOf,
+  netName,
+  tempName,
+  offset,
+  place,
+  at,
+  reread,
+  learn,
+  after,
+  emit,
+  known,
+}
 use Rattle.smt.specs.Wp.{stored}
 use Rattle.soundness.specs.Safe.{Truth, Width, sortUnder, Fine, Made, Made2, safe}
 use Rattle.soundness.specs.Solve.{WellSorted, fine-arguments}
@@ -35,7 +49,8 @@ pub record Sorted (σ : ℕ → Sort) (n : ℕ) (l : List Sort) : Type 0 where
   pub many : length l ≡ n
   pub each : (k : ℕ) → k < n → sortAt l k ≡ σ k
 
-sorted-snoc : (σ : ℕ → Sort) (n : ℕ) (l : List Sort) (s : Sort) → Sorted σ n l → σ n ≡ s → Sorted σ (suc n) (l ++ (s ∷ []))
+sorted-snoc : (σ : ℕ → Sort) (n : ℕ) (l : List Sort) (s : Sort) → Sorted σ n l → σ n ≡ s
+    → Sorted σ (suc n) (l ++ (s ∷ []))
 sorted-snoc σ n l s h e = record { many = length-snoc l s ∙ ap suc (h .many); each = λ k b. go k b (ℕ-discrete k n) }
   where
     go : (k : ℕ) → k < suc n → Dec (k ≡ n) → sortAt (l ++ (s ∷ [])) k ≡ σ k
@@ -60,12 +75,22 @@ module _ (σ : ℕ → Sort) (n : ℕ) (l : List Sort) (h : Sorted σ n l) where
 
   well-sorted : (t : Term) → Fine n σ t → sorts.WellSorted l t
   well-sorted (c.boolLit b) f = tt
-  well-sorted (c.boolIte i a b) f = (h .each i (f .0 .0) ∙ f .0 .1, h .each a (f .1 .0) ∙ f .1 .1, h .each b (f .2 .0) ∙ f .2 .1)
+  well-sorted (c.boolIte i a b) f = (
+    h .each i (f .0 .0) ∙ f .0 .1,
+    h .each a (f .1 .0) ∙ f .1 .1,
+    h .each b (f .2 .0)
+        ∙ f .2 .1,
+  )
   well-sorted (c.not a) f = h .each a (f .0) ∙ f .1
-  well-sorted (c.and args) f = (f .0, All-map (Truth n σ) (λ a. IsBool (sortAt l a)) (λ a g. h .each a (g .0) ∙ g .1) args (f .2))
+  well-sorted (c.and args) f = (
+    f .0,
+    All-map (Truth n σ) (λ a. IsBool (sortAt l a))
+        (λ a g. h .each a (g .0) ∙ g .1) args (f .2),
+  )
   well-sorted (c.lit s) f = f
   well-sorted (c.equal a b) f = rw (h .each a (f .0), h .each b (f .1)) (f .2, f .3)
-  well-sorted (c.ite i a b) f = rw (h .each i (f .0 .0), h .each a (f .1 .0 .0), h .each b (f .1 .1)) (f .0 .1, (f .1 .0 .1, f .1 .0 .2), f .1 .2)
+  well-sorted (c.ite i a b) f = rw (h .each i (f .0 .0), h .each a (f .1 .0 .0), h .each b (f .1 .1))
+      (f .0 .1, (f .1 .0 .1, f .1 .0 .2), f .1 .2)
   well-sorted (c.concat a b) f = let ea = h .each a (f .0) in let eb = h .each b (f .1) in omega arith
   well-sorted (c.extract i j a) f = let ea = h .each a (f .0) in omega arith
   well-sorted (c.bvnot a) f = let ea = h .each a (f .0) in omega arith
@@ -87,14 +112,21 @@ few (c.op2 o a b) n σ f = omega arith
 few (c.compare o a b) n σ f = omega arith
 
 -- Well-sorted calls with new names, and no more terms than a word can number, are formed.
-pub formed : (σ : ℕ → Sort) (n : ℕ) (x : Context) (cs : List Call) → x .checked ≡ false → Sorted σ n (x .sorts) → WellSorted σ n cs
+pub formed : (σ : ℕ → Sort) (n : ℕ) (x : Context) (cs : List Call) → x .checked ≡ false → Sorted σ n (x .sorts)
+    → WellSorted σ n cs
     → NewNames (x .names) cs → n + terms cs ≤ payloadLimit → Formed x cs
 unfolding terms
 formed σ n x [] e h w d l = tt
 formed σ n x (c.term t ∷ cs) e h w d l = (
   e,
-  (well-sorted σ n (x .sorts) h t (w .0), All-map (λ a. a < n) (λ a. a < payloadLimit) (λ a b. omega arith) (argumentsOf t) (fine-arguments n σ t (w .0)), few t n σ (w .0)),
-  formed σ (suc n) _ cs e (sorted-snoc σ n (x .sorts) _ h (w .1 ∙ sym (same-sort σ n (x .sorts) h t (w .0)))) (w .2) d (omega arith),
+  (
+    well-sorted σ n (x .sorts) h t (w .0),
+    All-map (λ a. a < n) (λ a. a < payloadLimit) (λ a b. omega arith)
+        (argumentsOf t) (fine-arguments n σ t (w .0)),
+    few t n σ (w .0),
+  ),
+  formed σ (suc n) _ cs e (sorted-snoc σ n (x .sorts) _ h (w .1 ∙ sym (same-sort σ n (x .sorts) h t (w .0)))) (w .2) d
+      (omega arith),
 )
 formed σ n x (c.declare name k ∷ cs) e h w d l = (
   e,
@@ -185,7 +217,8 @@ module _ (slots : ℕ) where
       → Declared (tempName (s .temp) u ∷ names) (at n (suc (s .temp)) s)
   declared-temp u n names s d = record { size = d .size; nets = λ a i h m. net a i h m; temps = λ j w m. temp j w m }
     where
-      net : (a : Age) (i : ℕ) (h : Half) → List·Memᴰ (netName a i h) (tempName (s .temp) u ∷ names) → getD (s .names) (place a i h) 0 ≡ 0 → ⊥
+      net : (a : Age) (i : ℕ) (h : Half) → List·Memᴰ (netName a i h) (tempName (s .temp) u ∷ names)
+          → getD (s .names) (place a i h) 0 ≡ 0 → ⊥
       net a i h (List·Memᴰ·head q) = absurd (net-no-temp a i h (s .temp) u q)
       net a i h (List·Memᴰ·tail m) = d .nets a i h m
 
@@ -194,7 +227,12 @@ module _ (slots : ℕ) where
       temp j w (List·Memᴰ·tail m) = d .temps j w m
 
   more-temps : (n : ℕ) (names : List Name) (s : St) → Declared names s → Declared names (at n (suc (s .temp)) s)
-  more-temps n names s d = record { size = d .size; nets = d .nets; temps = λ j u m. let l = d .temps j u m in omega arith }
+  more-temps n names s d = record {
+    size = d .size;
+    nets = d .nets;
+    temps = λ j u m. let l = d .temps j u m in
+        omega arith;
+  }
 
   fresh-temp : (u : Suffix) (names : List Name) (s : St) → Declared names s → List·Memᴰ (tempName (s .temp) u) names → ⊥
   fresh-temp u names s d m = let l = d .temps (s .temp) u m in omega arith
@@ -208,15 +246,20 @@ module _ (slots : ℕ) where
   temps-grow (ret a) s = le-refl (s .temp)
   temps-grow (op t f) s = temps-grow (f (s .next)) (at (suc (s .next)) (s .temp) s)
   temps-grow (declare a i h f) s =
-      go (temps-grow (f (s .next)) (learn a i h s)) (λ k. temps-grow (f k) (reread a i s)) (getD (s .names) (place a i h) 0)
+      go (temps-grow (f (s .next)) (learn a i h s)) (λ k. temps-grow (f k) (reread a i s))
+      (getD (s .names) (place a i h) 0)
     where
-      go : s .temp ≤ (emit (f (s .next)) (learn a i h s)) .st .temp → ((k : ℕ) → s .temp ≤ (emit (f k) (reread a i s)) .st .temp) → (o : ℕ)
-          → s .temp ≤ (known o (after (c.declare (netName a i h) 1 ∷ []) (emit (f (s .next)) (learn a i h s))) (λ k. emit (f k) (reread a i s))) .st .temp
+      go : s .temp ≤ (emit (f (s .next)) (learn a i h s)) .st .temp
+          → ((k : ℕ) → s .temp ≤ (emit (f k) (reread a i s)) .st .temp) → (o : ℕ)
+          → s .temp ≤ (known o (after (c.declare (netName a i h) 1 ∷ []) (emit (f (s .next)) (learn a i h s)))
+          (λ k. emit (f k) (reread a i s))) .st .temp
       go new old zero = new
       go new old (suc k) = old k
-  temps-grow (bind w t f) s = let g = temps-grow (f (s .next)) (at (suc (suc (s .next))) (suc (s .temp)) s) in omega arith
+  temps-grow (bind w t f) s = let g = temps-grow (f (s .next)) (at (suc (suc (s .next))) (suc (s .temp)) s) in
+      omega arith
   temps-grow (bind2 w x y f) s =
-      let g = temps-grow (f (s .next) (suc (s .next))) (at (suc (suc (suc (suc (s .next))))) (suc (s .temp)) s) in omega arith
+      let g = temps-grow (f (s .next) (suc (s .next))) (at (suc (suc (suc (suc (s .next))))) (suc (s .temp)) s) in
+      omega arith
 
   -- What follows a run declares new names too, whatever the run declared.
   abbrev pub Then : St → List Call → Type 0
@@ -224,18 +267,21 @@ module _ (slots : ℕ) where
 
   -- The known names' terms are there, and are of one bit.
   abbrev pub KnownSorts : (ℕ → Sort) → St → Type 0
-  KnownSorts σ s = (a : Age) (i : ℕ) (h : Half) (k : ℕ) → getD (s .names) (place a i h) 0 ≡ suc k → (σ k ≡ 1) × (k < s .next)
+  KnownSorts σ s = (a : Age) (i : ℕ) (h : Half) (k : ℕ) → getD (s .names)
+      (place a i h) 0 ≡ suc k → (σ k ≡ 1) × (k < s .next)
 
   known-on : (σ : ℕ → Sort) (s : St) (n m : ℕ) → s .next ≤ n → KnownSorts σ s → KnownSorts σ (at n m s)
   known-on σ s n m l kn a i h k e = (kn a i h k e .0, let q = kn a i h k e .1 in omega arith)
 
-  known-learnt : (σ : ℕ → Sort) (a : Age) (i : ℕ) (h : Half) (s : St) → σ (s .next) ≡ 1 → KnownSorts σ s → KnownSorts σ (learn a i h s)
+  known-learnt : (σ : ℕ → Sort) (a : Age) (i : ℕ) (h : Half) (s : St) → σ (s .next) ≡ 1 → KnownSorts σ s
+      → KnownSorts σ (learn a i h s)
   known-learnt σ a i h s new kn d j g k e =
       stored (s .names) (place a i h) (suc (s .next)) (place d j g) k e
       (λ p q. let same : s .next ≡ k = omega arith in (ap σ (sym same) ∙ new, omega arith))
       (λ p. (kn d j g k p .0, let q = kn d j g k p .1 in omega arith))
 
-  pub emit-new : {A : Type 0} (σ : ℕ → Sort) (m : Prog A) (s : St) (Q : ℕ → A → Type 0) (names : List Name) (rest : List Call)
+  pub emit-new : {A : Type 0} (σ : ℕ → Sort) (m : Prog A) (s : St) (Q : ℕ → A
+      → Type 0) (names : List Name) (rest : List Call)
       → slots ≤ payloadLimit → (emit m s) .st .temp ≤ payloadLimit → safe slots σ (s .next) m Q → KnownSorts σ s
       → WellSorted σ (s .next) ((emit m s) .calls ++ rest)
       → Declared names s → Then ((emit m s) .st) rest → NewNames names ((emit m s) .calls ++ rest)
@@ -249,7 +295,8 @@ module _ (slots : ℕ) where
   emit-new {A} σ (declare a i h g) s Q names rest hs ht w kn f d k =
       go (λ k s names. emit-new σ (g k) s Q names rest hs) (getD (s .names) (place a i h) 0) refl
     where
-      go : ((k : ℕ) (s : St) (names : List Name) → (emit (g k) s) .st .temp ≤ payloadLimit → safe slots σ (s .next) (g k) Q → KnownSorts σ s
+      go : ((k : ℕ) (s : St) (names : List Name) → (emit (g k) s) .st .temp ≤ payloadLimit
+          → safe slots σ (s .next) (g k) Q → KnownSorts σ s
           → WellSorted σ (s .next) ((emit (g k) s) .calls ++ rest) → Declared names s → Then ((emit (g k) s) .st) rest
           → NewNames names ((emit (g k) s) .calls ++ rest))
           → (o : ℕ) → getD (s .names) (place a i h) 0 ≡ o → NewNames names ((emit (declare a i h g) s) .calls ++ rest)
@@ -297,7 +344,17 @@ module _ (slots : ℕ) where
           fresh-y,
           omega arith,
           emit-new σ (g n (suc n)) s₁ Q (tempName (s .temp) c.y ∷ tempName (s .temp) c.x ∷ names) rest hs ht
-              (w .5 (record { k = n; l = suc n; m = m; le = omega arith; ltk = omega arith; ltl = omega arith; sortk = f .1; sortl = f .2 .1 }))
+              (w .5 (record {
+                k = n;
+                l = suc n;
+                m = m;
+                le = omega arith;
+                ltk = omega arith;
+                ltl = omega arith;
+                sortk =
+                    f .1;
+                sortl = f .2 .1;
+              }))
               (known-on σ s m (suc (s .temp)) (omega arith) kn) (f .2 .2 .2 .1 .2 .1)
               (declared-temp c.y m (tempName (s .temp) c.x ∷ names) s dx) k,
         ),

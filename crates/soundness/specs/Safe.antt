@@ -1,5 +1,5 @@
--- The calls of a run are well formed: each argument is an earlier term of the sort that SMT-LIB asks, each width is at most 64,
--- and each net's slot is one of the design's. Stated over the sorts of all terms, with no state in it.
+-- The calls of a run are well formed: each argument is an earlier term of the sort that SMT-LIB asks, each width is
+-- at most 64, and each net's slot is one of the design's. Stated over the sorts of all terms, with no state in it.
 use mathlib.Core.Path.{_≡_, refl, sym, ap, ap₂, _∙_}
 use mathlib.Core.Bool.{Bool, true, false, not, cond}
 use mathlib.Core.List.{List, [], _∷_, _++_, map}
@@ -157,18 +157,37 @@ module _ (slots : ℕ) (σ : ℕ → Sort) where
   safe-bind n (op t f) g Q h = (h .0, λ e. safe-bind (e .m) (f (e .k)) g Q (h .1 e))
   safe-bind n (declare a i d f) g Q h = (h .0, λ e. safe-bind (e .m) (f (e .k)) g Q (h .1 e))
   safe-bind n (bind w t f) g Q h = (h .0, h .1, h .2, λ e. safe-bind (e .m) (f (e .k)) g Q (h .3 e))
-  safe-bind n (bind2 w x y f) g Q h = (h .0, h .1, h .2, h .3, h .4, λ e. safe-bind (e .m) (f (e .k) (e .l)) g Q (h .5 e))
+  safe-bind n (bind2 w x y f) g Q h = (
+    h .0,
+    h .1,
+    h .2,
+    h .3,
+    h .4,
+    λ e.
+        safe-bind (e .m) (f (e .k) (e .l)) g Q (h .5 e),
+  )
 
   pub safe-mono : {A : Type 0} (n : ℕ) (m : Prog A) (P Q : ℕ → A → Type 0) → ((i : ℕ) (a : A) → n ≤ i → P i a → Q i a)
       → safe n m P → safe n m Q
   safe-mono n (ret a) P Q i h = i n a (omega arith) h
-  safe-mono n (op t f) P Q i h = (h .0, λ e. safe-mono (e .m) (f (e .k)) P Q (λ j a l p. i j a (le-trans (e .le) l) p) (h .1 e))
+  safe-mono n (op t f) P Q i h = (
+    h .0,
+    λ e. safe-mono (e .m) (f (e .k)) P Q (λ j a l p. i j a (le-trans (e .le) l) p)
+        (h .1 e),
+  )
   safe-mono n (declare a d g f) P Q i h =
       (h .0, λ e. safe-mono (e .m) (f (e .k)) P Q (λ j a l p. i j a (le-trans (e .le) l) p) (h .1 e))
   safe-mono n (bind w t f) P Q i h =
       (h .0, h .1, h .2, λ e. safe-mono (e .m) (f (e .k)) P Q (λ j a l p. i j a (le-trans (e .le) l) p) (h .3 e))
-  safe-mono n (bind2 w x y f) P Q i h =
-      (h .0, h .1, h .2, h .3, h .4, λ e. safe-mono (e .m) (f (e .k) (e .l)) P Q (λ j a l p. i j a (le-trans (e .le) l) p) (h .5 e))
+  safe-mono n (bind2 w x y f) P Q i h = (
+    h .0,
+    h .1,
+    h .2,
+    h .3,
+    h .4,
+    λ e. safe-mono (e .m) (f (e .k) (e .l)) P Q
+        (λ j a l p. i j a (le-trans (e .le) l) p) (h .5 e),
+  )
 
   -- One part, then the rest by what holds of its result.
   pub safe-seq : {A B : Type 0} (n : ℕ) (m : Prog A) (g : A → Prog B) (P : ℕ → A → Type 0) (Q : ℕ → B → Type 0)
@@ -214,7 +233,8 @@ module _ (slots : ℕ) (σ : ℕ → Sort) where
   abbrev pair : {n w : ℕ} → Made2 σ n w → TritVec
   pair {w = w} e = tv (bv (e .k) w) (bv (e .l) w)
 
-  pub tvAnd-safe : (n w : ℕ) (a b : TritVec) → Width w → TritsOf w n a → TritsOf w n b → safe n (tvAnd a b w) (TritsOf w)
+  pub tvAnd-safe : (n w : ℕ) (a b : TritVec) → Width w → TritsOf w n a → TritsOf w n b
+      → safe n (tvAnd a b w) (TritsOf w)
   unfolding tvAnd _>>=_
   tvAnd-safe n w a b h p q = (
     omega arith,
@@ -228,7 +248,8 @@ module _ (slots : ℕ) (σ : ℕ → Sort) where
       omega arith,
       omega arith,
       h,
-      λ e. safe-seq (e .m) (tvIs0 (pair d)) _ (VectorOf w) (TritsOf w) (tvIs0-safe (e .m) w (pair d) h (omega arith)) λ i a0 li g0.
+      λ e. safe-seq (e .m) (tvIs0 (pair d)) _ (VectorOf w) (TritsOf w) (tvIs0-safe (e .m) w (pair d) h (omega arith))
+          λ i a0 li g0.
           safe-seq i (tvIs0 (pair e)) _ (VectorOf w) (TritsOf w) (tvIs0-safe i w (pair e) h (omega arith)) λ j b0 lj g1.
           omega arith,
     ),
@@ -248,7 +269,8 @@ module _ (slots : ℕ) (σ : ℕ → Sort) where
       omega arith,
       omega arith,
       h,
-      λ e. safe-seq (e .m) (tvIs1 (pair d)) _ (VectorOf w) (TritsOf w) (tvIs1-safe (e .m) w (pair d) h (omega arith)) λ i a1 li g0.
+      λ e. safe-seq (e .m) (tvIs1 (pair d)) _ (VectorOf w) (TritsOf w) (tvIs1-safe (e .m) w (pair d) h (omega arith))
+          λ i a1 li g0.
           safe-seq i (tvIs1 (pair e)) _ (VectorOf w) (TritsOf w) (tvIs1-safe i w (pair e) h (omega arith)) λ j b1 lj g1.
           omega arith,
     ),
@@ -279,11 +301,22 @@ module _ (slots : ℕ) (σ : ℕ → Sort) where
         omega arith,
         omega arith,
         h,
-        λ e. safe-seq (e .m) (tvIs0 (pair c)) _ (VectorOf 1) (TritsOf w) (tvIs0-safe (e .m) 1 (pair c) (omega arith) (omega arith)) λ i s0 li g0.
-            safe-seq i (tvIs1 (pair c)) _ (VectorOf 1) (TritsOf w) (tvIs1-safe i 1 (pair c) (omega arith) (omega arith)) λ j s1 lj g1.
+        λ e. safe-seq (e .m) (tvIs0 (pair c)) _ (VectorOf 1) (TritsOf w)
+            (tvIs0-safe (e .m) 1 (pair c) (omega arith) (omega arith)) λ i s0 li g0.
+            safe-seq i (tvIs1 (pair c)) _ (VectorOf 1) (TritsOf w)
+            (tvIs1-safe i 1 (pair c) (omega arith) (omega arith)) λ j s1 lj g1.
             safe-seq j (bvToBool s0) _ (λ m k. Truth m σ k) (TritsOf w) (bvToBool-safe j s0 (omega arith)) λ k t0 lk g2.
-            safe-seq k (bvToBool s1) _ (λ m k. Truth m σ k) (TritsOf w) (bvToBool-safe k s1 (omega arith)) λ l t1 ll g3.
-            (omega arith, λ x1. (omega arith, λ x2. (omega arith, λ x3. (omega arith, λ x4. (omega arith, λ x5. omega arith))))),
+            safe-seq k (bvToBool s1) _ (λ m k. Truth m σ k) (TritsOf w) (bvToBool-safe k s1 (omega arith)) λ l t1 ll g3. (
+              omega arith,
+              λ x1. (
+                omega arith,
+                λ x2. (
+                  omega arith,
+                  λ x3.
+                      (omega arith, λ x4. (omega arith, λ x5. omega arith)),
+                ),
+              ),
+            ),
       ),
     ),
   )
@@ -293,7 +326,8 @@ module _ (slots : ℕ) (σ : ℕ → Sort) where
   unfolding tvExtract _>>=_
   tvExtract-safe n w i j a h l u g = omega arith
 
-  pub tvEq-safe : (n w : ℕ) (a b : TritVec) → Width w → TritsOf w n a → TritsOf w n b → safe n (tvEq a b) (λ m k. Truth m σ k)
+  pub tvEq-safe : (n w : ℕ) (a b : TritVec) → Width w → TritsOf w n a → TritsOf w n b
+      → safe n (tvEq a b) (λ m k. Truth m σ k)
   unfolding tvEq _>>=_
   tvEq-safe n w a b h p q = omega arith
 
@@ -318,30 +352,37 @@ module _ (slots : ℕ) (σ : ℕ → Sort) where
   netOf-safe n a (constant t) h = omega arith
   netOf-safe n a (slot i) h = (h, λ e. (h, λ g. omega arith))
 
-  module _ {A : Type 0} (f : A → Prog TritVec) (P : A → Type 0) (made : (n : ℕ) (a : A) → P a → safe n (f a) (TritsOf 1)) where
-    pub collect-safe : (n : ℕ) (l : List A) → Each P l → safe n (collect f l) (λ m ts. Each (TritsOf 1 m) ts × (length ts ≡ length l))
+  module _ {A : Type 0} (f : A → Prog TritVec) (P : A → Type 0)
+      (made : (n : ℕ) (a : A) → P a → safe n (f a) (TritsOf 1)) where
+    pub collect-safe : (n : ℕ) (l : List A) → Each P l → safe n (collect f l)
+        (λ m ts. Each (TritsOf 1 m) ts × (length ts ≡ length l))
     unfolding collect
     collect-safe n [] h = (tt, refl)
     collect-safe n (a ∷ l) h =
         safe-seq n (f a) _ (TritsOf 1) _ (made n a (h .0)) λ i t li g.
-        safe-seq i (collect f l) _ (λ m ts. Each (TritsOf 1 m) ts × (length ts ≡ length l)) _ (collect-safe i l (h .1)) λ j ts lj gs.
+        safe-seq i (collect f l) _ (λ m ts. Each (TritsOf 1 m) ts × (length ts ≡ length l)) _
+        (collect-safe i l (h .1)) λ j ts lj gs.
         ((later 1 i j t lj g, gs .0), ap suc (gs .1))
 
-  concatOn-safe : (n : ℕ) (t : TritVec) (ts : List TritVec) → TritsOf 1 n t → Each (TritsOf 1 n) ts → suc (length ts) ≤ 64
+  concatOn-safe : (n : ℕ) (t : TritVec) (ts : List TritVec) → TritsOf 1 n t → Each (TritsOf 1 n) ts
+      → suc (length ts) ≤ 64
       → safe n (tvConcatOn t ts) (TritsOf (suc (length ts)))
   unfolding tvConcatOn _>>=_
   concatOn-safe n t [] g gs h = g
   concatOn-safe n t (u ∷ us) g gs h =
-      safe-seq n (tvConcatOn u us) _ (TritsOf (suc (length us))) (TritsOf (suc (suc (length us)))) (concatOn-safe n u us (gs .0) (gs .1) (omega arith))
+      safe-seq n (tvConcatOn u us) _ (TritsOf (suc (length us))) (TritsOf (suc (suc (length us))))
+      (concatOn-safe n u us (gs .0) (gs .1) (omega arith))
       λ i msb li e. omega arith
 
-  pub tvConcat-safe : (n w : ℕ) (ts : List TritVec) → Width w → length ts ≡ w → Each (TritsOf 1 n) ts → safe n (tvConcat ts) (TritsOf w)
+  pub tvConcat-safe : (n w : ℕ) (ts : List TritVec) → Width w → length ts ≡ w → Each (TritsOf 1 n) ts
+      → safe n (tvConcat ts) (TritsOf w)
   unfolding tvConcat
   tvConcat-safe n w [] h e g = absurd (omega arith)
   tvConcat-safe n w (t ∷ ts) h e g = rw (← e) (concatOn-safe n t ts (g .0) (g .1) (omega arith))
 
   pub valueOf-safe : (f : Net → Prog TritVec) → ((n : ℕ) (m : Net) → Within m → safe n (f m) (TritsOf 1))
-      → (n : ℕ) (nets : List Net) → Width (length nets) → Each Within nets → safe n (valueOf f nets) (TritsOf (length nets))
+      → (n : ℕ) (nets : List Net) → Width (length nets) → Each Within nets
+      → safe n (valueOf f nets) (TritsOf (length nets))
   unfolding valueOf
   valueOf-safe f made n nets h w =
       safe-seq n (collect f nets) _ _ (TritsOf (length nets)) (collect-safe f Within made n nets w) λ i ts li g.
@@ -357,23 +398,29 @@ module _ (slots : ℕ) (σ : ℕ → Sort) where
   unfolding boolToBv _>>=_
   boolToBv-safe n k g = omega arith
 
-  bvNoX-safe : (n w : ℕ) (a b : TritVec) → Width w → TritsOf w n a → TritsOf w n b → safe n (bvNoX a b w) (λ m k. Truth m σ k)
+  bvNoX-safe : (n w : ℕ) (a b : TritVec) → Width w → TritsOf w n a → TritsOf w n b
+      → safe n (bvNoX a b w) (λ m k. Truth m σ k)
   unfolding bvNoX
   bvNoX-safe n w a b h p q =
-      safe-seq n (bvIsZero (a .x) w) _ (λ m k. Truth m σ k) (λ m k. Truth m σ k) (bvIsZero-safe n w (a .x) h (omega arith)) λ i k li g.
-      safe-seq i (bvIsZero (b .x) w) _ (λ m k. Truth m σ k) (λ m k. Truth m σ k) (bvIsZero-safe i w (b .x) h (omega arith)) λ j l lj e.
+      safe-seq n (bvIsZero (a .x) w) _ (λ m k. Truth m σ k) (λ m k. Truth m σ k)
+      (bvIsZero-safe n w (a .x) h (omega arith)) λ i k li g.
+      safe-seq i (bvIsZero (b .x) w) _ (λ m k. Truth m σ k) (λ m k. Truth m σ k)
+      (bvIsZero-safe i w (b .x) h (omega arith)) λ j l lj e.
       omega arith
 
-  tvLess-safe : (n w : ℕ) (o : Compare) (a b : TritVec) → Width w → TritsOf w n a → TritsOf w n b → safe n (tvLess o a b w) (TritsOf 1)
+  tvLess-safe : (n w : ℕ) (o : Compare) (a b : TritVec) → Width w → TritsOf w n a → TritsOf w n b
+      → safe n (tvLess o a b w) (TritsOf 1)
   unfolding tvLess _>>=_
   tvLess-safe n w o a b h p q =
       safe-seq n (bvNoX a b w) _ (λ m k. Truth m σ k) (TritsOf 1) (bvNoX-safe n w a b h p q) λ i k li g. (
         g,
-        λ d. safe-seq (d .m) (boolToBv (d .k)) _ (VectorOf 1) (TritsOf 1) (boolToBv-safe (d .m) (d .k) (omega arith)) λ j x lj gx. (
-          omega arith,
-          λ e. safe-seq (e .m) (boolToBv (e .k)) _ (VectorOf 1) (TritsOf 1) (boolToBv-safe (e .m) (e .k) (omega arith)) λ l y ll gy.
+        λ d. safe-seq (d .m) (boolToBv (d .k)) _ (VectorOf 1) (TritsOf 1) (boolToBv-safe (d .m) (d .k) (omega arith))
+            λ j x lj gx. (
               omega arith,
-        ),
+              λ e. safe-seq (e .m) (boolToBv (e .k)) _ (VectorOf 1) (TritsOf 1)
+                  (boolToBv-safe (e .m) (e .k) (omega arith)) λ l y ll gy.
+                  omega arith,
+            ),
       )
 
   tvMul-safe : (n w : ℕ) (a b : TritVec) → Width w → TritsOf w n a → TritsOf w n b → safe n (tvMul a b w) (TritsOf w)
@@ -383,7 +430,8 @@ module _ (slots : ℕ) (σ : ℕ → Sort) where
       let o = length-replicate w true in
       safe-seq n (bvNoX a b w) _ (λ m k. Truth m σ k) (TritsOf w) (bvNoX-safe n w a b h p q) λ i k li g. omega arith
 
-  tvEquals-safe : (n w : ℕ) (a b : TritVec) → Width w → TritsOf w n a → TritsOf w n b → safe n (tvEquals a b w) (TritsOf 1)
+  tvEquals-safe : (n w : ℕ) (a b : TritVec) → Width w → TritsOf w n a → TritsOf w n b
+      → safe n (tvEquals a b w) (TritsOf 1)
   unfolding tvEquals _>>=_
   tvEquals-safe n w a b h p q = (
     omega arith,
@@ -394,17 +442,20 @@ module _ (slots : ℕ) (σ : ℕ → Sort) where
         λ k3. (
           omega arith,
           λ k4.
-              safe-seq (k4 .m) (bvIsZero (bv (k4 .k) (a .y .width)) w) _ (λ m k. Truth m σ k) (TritsOf 1) (bvIsZero-safe (k4 .m) w (bv (k4 .k) (a .y .width)) h (omega arith)) λ i z li gz. (
+              safe-seq (k4 .m) (bvIsZero (bv (k4 .k) (a .y .width)) w) _ (λ m k. Truth m σ k) (TritsOf 1)
+              (bvIsZero-safe (k4 .m) w (bv (k4 .k) (a .y .width)) h (omega arith)) λ i z li gz. (
                 gz,
                 λ k5. (
                   tt,
                   λ k6.
-                      safe-seq (k6 .m) (bvNoX a b w) _ (λ m k. Truth m σ k) (TritsOf 1) (bvNoX-safe (k6 .m) w a b h (omega arith) (omega arith)) λ j x lj gx. (
+                      safe-seq (k6 .m) (bvNoX a b w) _ (λ m k. Truth m σ k) (TritsOf 1)
+                      (bvNoX-safe (k6 .m) w a b h (omega arith) (omega arith)) λ j x lj gx. (
                         gx,
                         λ k7. (
                           omega arith,
                           λ k8.
-                              safe-seq (k8 .m) (boolToBv (k8 .k)) _ (VectorOf 1) (TritsOf 1) (boolToBv-safe (k8 .m) (k8 .k) (omega arith)) λ l u ll gu.
+                              safe-seq (k8 .m) (boolToBv (k8 .k)) _ (VectorOf 1) (TritsOf 1)
+                              (boolToBv-safe (k8 .m) (k8 .k) (omega arith)) λ l u ll gu.
                               omega arith,
                         ),
                       ),
@@ -459,7 +510,8 @@ module _ (slots : ℕ) (σ : ℕ → Sort) where
               omega arith,
               λ e4.
                   rw same at (tvExtract-safe (e4 .m) w (v - 1) 0
-                  (tv (bv (e3 .k) (resultWidth onX (p .value .x .width))) (bv (e4 .k) (resultWidth onY (p .value .y .width))))
+                  (tv (bv (e3 .k) (resultWidth onX (p .value .x .width)))
+                  (bv (e4 .k) (resultWidth onY (p .value .y .width))))
                   (omega arith) (omega arith) (omega arith) (omega arith)),
             ),
           ),
@@ -468,7 +520,8 @@ module _ (slots : ℕ) (σ : ℕ → Sort) where
 
   -- ---- Adc
 
-  carryX-safe : (w n : ℕ) (a b : TritVec) (more i : ℕ) (carry : BitVec) → w ≤ 64 → TritsOf w n a → TritsOf w n b → i + more ≡ w
+  carryX-safe : (w n : ℕ) (a b : TritVec) (more i : ℕ) (carry : BitVec) → w ≤ 64 → TritsOf w n a → TritsOf w n b
+      → i + more ≡ w
       → VectorOf 1 n carry → safe n (carryX a b more i carry) (λ m ks. Each (VectorOf 1 m) ks × (length ks ≡ suc more))
   unfolding carryX _>>=_
   carryX-safe w n a b zero i carry u ga gb e h = ((h, tt), refl)
@@ -485,8 +538,10 @@ module _ (slots : ℕ) (σ : ℕ → Sort) where
             omega arith,
             omega arith,
             λ k.
-                safe-seq (k .m) (carryX a b more (suc i) (bv (k .k) 1)) _ (λ m ks. Each (VectorOf 1 m) ks × (length ks ≡ suc more)) _
-                (carryX-safe w (k .m) a b more (suc i) (bv (k .k) 1) u (omega arith) (omega arith) (omega arith) (omega arith))
+                safe-seq (k .m) (carryX a b more (suc i) (bv (k .k) 1)) _
+                (λ m ks. Each (VectorOf 1 m) ks × (length ks ≡ suc more)) _
+                (carryX-safe w (k .m) a b more (suc i) (bv (k .k) 1) u (omega arith) (omega arith) (omega arith)
+                (omega arith))
                 λ j ks lj g. ((omega arith, g .0), ap suc (g .1)),
           ),
         ),
@@ -494,7 +549,8 @@ module _ (slots : ℕ) (σ : ℕ → Sort) where
     ),
   )
 
-  bvConcatOn-safe : (n : ℕ) (k : BitVec) (ks : List BitVec) → VectorOf 1 n k → Each (VectorOf 1 n) ks → suc (length ks) ≤ 64
+  bvConcatOn-safe : (n : ℕ) (k : BitVec) (ks : List BitVec) → VectorOf 1 n k → Each (VectorOf 1 n) ks
+      → suc (length ks) ≤ 64
       → safe n (bvConcatOn k ks) (VectorOf (suc (length ks)))
   unfolding bvConcatOn
   bvConcatOn-safe n k [] g gs h = g
@@ -502,7 +558,8 @@ module _ (slots : ℕ) (σ : ℕ → Sort) where
       safe-seq n (bvConcatOn l ls) _ (VectorOf (suc (length ls))) (VectorOf (suc (suc (length ls))))
       (bvConcatOn-safe n l ls (gs .0) (gs .1) (omega arith)) λ i msb li e. omega arith
 
-  bvConcat-safe : (n w : ℕ) (ks : List BitVec) → Width w → length ks ≡ w → Each (VectorOf 1 n) ks → safe n (bvConcat ks) (VectorOf w)
+  bvConcat-safe : (n w : ℕ) (ks : List BitVec) → Width w → length ks ≡ w → Each (VectorOf 1 n) ks
+      → safe n (bvConcat ks) (VectorOf w)
   unfolding bvConcat
   bvConcat-safe n w [] h e g = absurd (omega arith)
   bvConcat-safe n w (k ∷ ks) h e g = rw (← e) (bvConcatOn-safe n k ks (g .0) (g .1) (omega arith))
@@ -523,9 +580,12 @@ module _ (slots : ℕ) (σ : ℕ → Sort) where
           omega arith,
           omega arith,
           omega arith,
-          λ e. safe-seq (e .m) (carryX (pair d) (pair e) w 0 (carry .x)) _ (λ m ks. Each (VectorOf 1 m) ks × (length ks ≡ suc w)) (TritsOf (suc w))
-              (carryX-safe w (e .m) (pair d) (pair e) w 0 (carry .x) (omega arith) (omega arith) (omega arith) (omega arith) (omega arith)) λ i ks li gk.
-              safe-seq i (bvConcat ks) _ (VectorOf (suc w)) (TritsOf (suc w)) (bvConcat-safe i (suc w) ks (omega arith) (gk .1) (gk .0)) λ j x lj gx.
+          λ e. safe-seq (e .m) (carryX (pair d) (pair e) w 0 (carry .x)) _
+              (λ m ks. Each (VectorOf 1 m) ks × (length ks ≡ suc w)) (TritsOf (suc w))
+              (carryX-safe w (e .m) (pair d) (pair e) w 0 (carry .x) (omega arith) (omega arith) (omega arith)
+              (omega arith) (omega arith)) λ i ks li gk.
+              safe-seq i (bvConcat ks) _ (VectorOf (suc w)) (TritsOf (suc w))
+              (bvConcat-safe i (suc w) ks (omega arith) (gk .1) (gk .0)) λ j x lj gx.
               (omega arith, λ k1. (omega arith, λ k2. (omega arith, λ k3. (omega arith, λ k4. omega arith)))),
         ),
       )

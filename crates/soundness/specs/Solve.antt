@@ -1,5 +1,6 @@
--- Temporaries exist: whatever bits the nets have, the temporaries can be chosen so that every call of a safe run holds, and the
--- run's calls are well sorted. The values of the terms and of the temporaries are those that running the calls gives.
+-- Temporaries exist: whatever bits the nets have, the temporaries can be chosen so that every call of a safe run
+-- holds, and the run's calls are well sorted. The values of the terms and of the temporaries are those that running
+-- the calls gives.
 use mathlib.Core.Path.{_≡_, refl, sym, ap, ap₂, _∙_}
 use mathlib.Core.Bool.{Bool, true, false, not, cond, _&&_, _||_}
 use mathlib.Core.List.{List, [], _∷_, _++_, map}
@@ -10,11 +11,38 @@ use lib.ListN.{length, getD, set, length-append, List·getD-append}
 use lib.Seq.{getD-append-seam, getD-append-add}
 use Rattle.bitvec.specs.Bits.{Bits}
 use Rattle.bitvec.specs.Ops as bv
-use Rattle.bitvec.specs.Laws.{length-concat, length-extract, length-bvnot, length-bvand, length-bvor, length-bvxor, length-bvadd, length-bvshl, length-bvlshr, length-bvashr, length-bvmul}
+use Rattle.bitvec.specs.Laws.{
+  length-concat,
+  length-extract,
+  length-bvnot,
+  length-bvand,
+  length-bvor,
+  length-bvxor,
+  length-bvadd,
+  length-bvshl,
+  length-bvlshr,
+  length-bvashr,
+  length-bvmul,
+}
 use Rattle.bitvec.specs.Numbers.{equal-refl}
 use Rattle.engine.specs.Call.{Name, Letter, Suffix, Term, Call, BinaryOp}
 use Rattle.engine.specs.Call as c
-use Rattle.engine.specs.Meaning.{Value, bool, bits, asBool, asBits, equalValues, Assignment, denote, denoteOp, valueAt, argumentsOf, All, Earlier, Holds}
+use Rattle.engine.specs.Meaning.{
+  Value,
+  bool,
+  bits,
+  asBool,
+  asBits,
+  equalValues,
+  Assignment,
+  denote,
+  denoteOp,
+  valueAt,
+  argumentsOf,
+  All,
+  Earlier,
+  Holds,
+}
 use Rattle.engine.specs.Laws.{All-map, denote-ext, length-snoc}
 use Rattle.engine.specs.Sorts.{Sort, binarySort}
 use Rattle.smt.specs.Prog.{Prog, ret, op, declare, bind, bind2, _>>=_, Age, curr, past, Half, isUndef, isOne}
@@ -42,7 +70,8 @@ pub extends-append : {A : Type 0} (d : A) (l m : List A) → Extends d l (l ++ m
 extends-append d l m = record { le = simp length-append (omega arith); same = λ k h. List·getD-append l m d k h }
 
 -- An element appended, seen in the list that goes on.
-pub seen-at : {A : Type 0} (d : A) (l m L : List A) (k j n : ℕ) → length l ≡ k → k + j ≡ n → j < length m → Extends d (l ++ m) L
+pub seen-at : {A : Type 0} (d : A) (l m L : List A) (k j n : ℕ) → length l ≡ k → k + j ≡ n → j < length m
+    → Extends d (l ++ m) L
     → getD L n d ≡ getD m j d
 seen-at d l m L k j n e f h x = x .same n (simp length-append (omega arith)) ∙ (rw (← f, ← e) (getD-append-add l m j d))
 
@@ -111,10 +140,12 @@ module _ (v : ℕ → Value) where
       pick true = refl
       pick false = sym (alike a b (h .1 .2))
   denote-sort n (c.concat a b) h =
-      length-concat (asBits (v a)) (asBits (v b)) ∙ (let p = length-asBits (v a) in let q = length-asBits (v b) in omega arith)
+      length-concat (asBits (v a)) (asBits (v b)) ∙ (let p = length-asBits (v a) in let q = length-asBits (v b) in
+      omega arith)
   denote-sort n (c.extract i j a) h = length-extract i j (asBits (v a)) (let p = length-asBits (v a) in omega arith)
   denote-sort n (c.bvnot a) h = length-bvnot (asBits (v a)) ∙ length-asBits (v a)
-  denote-sort n (c.op2 o a b) h = op2-sort o (asBits (v a)) (asBits (v b)) (alike a b (h .2)) ∙ ap (binarySort o) (length-asBits (v a))
+  denote-sort n (c.op2 o a b) h = op2-sort o (asBits (v a)) (asBits (v b)) (alike a b (h .2))
+      ∙ ap (binarySort o) (length-asBits (v a))
   denote-sort n (c.compare o a b) h = refl
 
 -- ---- well-sorted calls
@@ -169,7 +200,8 @@ netOrTemp b ts c.t i s = getD ts i noTemp s
 abbrev pub assigned : NetBits → List Temp → Assignment
 assigned b ts d = netOrTemp b ts (d .letter) (d .index) (d .suffix)
 
-pub assigned-net : (b : NetBits) (ts : List Temp) (a : Age) (i : ℕ) (h : Half) → assigned b ts (netName a i h) ≡ b a i h ∷ []
+pub assigned-net : (b : NetBits) (ts : List Temp) (a : Age) (i : ℕ) (h : Half) → assigned b ts (netName a i h)
+    ≡ b a i h ∷ []
 assigned-net b ts curr i isUndef = refl
 assigned-net b ts curr i isOne = refl
 assigned-net b ts past i isUndef = refl
@@ -184,10 +216,12 @@ module _ (b : NetBits) where
       (exec (f (s .next)) (learn a i h s) (l ++ (bits (b a i h ∷ []) ∷ [])) ts)
       (λ k. exec (f k) (reread a i s) l ts)
   exec (bind w t f) s l ts =
-      exec (f (s .next)) (at (suc (suc (s .next))) (suc (s .temp)) s) (l ++ (valueAt l t ∷ bool true ∷ [])) (ts ++ (single (asBits (valueAt l t)) ∷ []))
+      exec (f (s .next)) (at (suc (suc (s .next))) (suc (s .temp)) s) (l ++ (valueAt l t ∷ bool true ∷ []))
+      (ts ++ (single (asBits (valueAt l t)) ∷ []))
   exec (bind2 w x y f) s l ts =
       exec (f (s .next) (suc (s .next))) (at (suc (suc (suc (suc (s .next))))) (suc (s .temp)) s)
-      (l ++ (valueAt l x ∷ valueAt l y ∷ bool true ∷ bool true ∷ [])) (ts ++ (double (asBits (valueAt l x)) (asBits (valueAt l y)) ∷ []))
+      (l ++ (valueAt l x ∷ valueAt l y ∷ bool true ∷ bool true ∷ []))
+      (ts ++ (double (asBits (valueAt l x)) (asBits (valueAt l y)) ∷ []))
 
   pub record Grows (l : List Value) (ts : List Temp) (r : Ran) : Type 0 where
     pub values : Extends (bool false) l (r .values)
@@ -210,11 +244,13 @@ module _ (b : NetBits) where
   grows (ret a) s l ts = record { values = extends-refl (bool false) l; temps = extends-refl noTemp ts }
   grows (op t f) s l ts = growl l _ ts _ (grows (f (s .next)) _ _ ts)
   grows (declare a i h f) s l ts =
-      go (growl l _ ts _ (grows (f (s .next)) (learn a i h s) _ ts)) (λ k. grows (f k) (reread a i s) l ts) (getD (s .names) (place a i h) 0)
+      go (growl l _ ts _ (grows (f (s .next)) (learn a i h s) _ ts)) (λ k. grows (f k) (reread a i s) l ts)
+      (getD (s .names) (place a i h) 0)
     where
       go : Grows l ts (exec (f (s .next)) (learn a i h s) (l ++ (bits (b a i h ∷ []) ∷ [])) ts)
           → ((k : ℕ) → Grows l ts (exec (f k) (reread a i s) l ts)) → (o : ℕ)
-          → Grows l ts (known o (exec (f (s .next)) (learn a i h s) (l ++ (bits (b a i h ∷ []) ∷ [])) ts) (λ k. exec (f k) (reread a i s) l ts))
+          → Grows l ts (known o (exec (f (s .next)) (learn a i h s) (l ++ (bits (b a i h ∷ []) ∷ [])) ts)
+          (λ k. exec (f k) (reread a i s) l ts))
       go new old zero = new
       go new old (suc k) = old k
   grows (bind w t f) s l ts = grow l _ ts _ _ (grows (f (s .next)) _ _ _)
@@ -252,7 +288,8 @@ module _ (slots : ℕ) (b : NetBits) (L : List Value) (TS : List Temp) where
   pub here-known : (s : St) (l : List Value) (ts : List Temp) → Here s l ts → Known ρ v (s .names)
   here-known s l ts h a i g k e = record { is = h .names a i g k e .0; one = one a i g }
 
-  here-on : (s : St) (l m : List Value) (ts us : List Temp) (k j : ℕ) → Here s l ts → s .next + length m ≡ k → s .temp + length us ≡ j
+  here-on : (s : St) (l m : List Value) (ts us : List Temp) (k j : ℕ) → Here s l ts → s .next + length m ≡ k
+      → s .temp + length us ≡ j
       → Here (at k j s) (l ++ m) (ts ++ us)
   here-on s l m ts us k j h e f = record {
     terms = simp length-append (let a = h .terms in omega arith);
@@ -260,14 +297,16 @@ module _ (slots : ℕ) (b : NetBits) (L : List Value) (TS : List Temp) where
     names = λ a i g k q. (h .names a i g k q .0, let u = h .names a i g k q .1 in omega arith);
   }
 
-  op-here : (s : St) (l : List Value) (a : Value) (ts : List Temp) → Here s l ts → Here (at (suc (s .next)) (s .temp) s) (l ++ (a ∷ [])) ts
+  op-here : (s : St) (l : List Value) (a : Value) (ts : List Temp) → Here s l ts
+      → Here (at (suc (s .next)) (s .temp) s) (l ++ (a ∷ [])) ts
   op-here s l a ts h = record {
     terms = length-snoc l a ∙ ap suc (h .terms);
     temps = h .temps;
     names = λ a i g k q. (h .names a i g k q .0, let u = h .names a i g k q .1 in omega arith);
   }
 
-  learn-here : (a : Age) (i : ℕ) (g : Half) (s : St) (l : List Value) (ts : List Temp) → Here s l ts → v (s .next) ≡ bits (ρ (netName a i g))
+  learn-here : (a : Age) (i : ℕ) (g : Half) (s : St) (l : List Value) (ts : List Temp) → Here s l ts → v (s .next)
+      ≡ bits (ρ (netName a i g))
       → (u : Value) → Here (learn a i g s) (l ++ (u ∷ [])) ts
   learn-here a i g s l ts h new u = record {
     terms = length-snoc l u ∙ ap suc (h .terms);
@@ -282,20 +321,25 @@ module _ (slots : ℕ) (b : NetBits) (L : List Value) (TS : List Temp) where
   reread-here : (a : Age) (i : ℕ) (s : St) (l : List Value) (ts : List Temp) → Here s l ts → Here (reread a i s) l ts
   reread-here a i s l ts h = record { terms = h .terms; temps = h .temps; names = h .names }
 
-  denote-seen : (s : St) (l : List Value) (t : Term) → length l ≡ s .next → Extends (bool false) (l ++ (denote (valueAt l) t ∷ [])) L
+  denote-seen : (s : St) (l : List Value) (t : Term) → length l ≡ s .next
+      → Extends (bool false) (l ++ (denote (valueAt l) t ∷ [])) L
       → Fine (s .next) σ t → v (s .next) ≡ denote v t
   denote-seen s l t len x w =
       let a = denote (valueAt l) t in
-      let xL : Extends (bool false) l L = extends-trans (bool false) l (l ++ (a ∷ [])) L (extends-append (bool false) l (a ∷ [])) x in
+      let xL : Extends (bool false) l L = extends-trans (bool false) l (l ++ (a ∷ [])) L
+      (extends-append (bool false) l (a ∷ [])) x in
       seen-at (bool false) l (a ∷ []) L (s .next) 0 (s .next) len (omega arith) (omega arith) x
       ∙ denote-ext (valueAt l) v t
-      (All-map (λ k. k < s .next) (λ k. valueAt l k ≡ v k) (λ k q. sym (xL .same k (omega arith))) (argumentsOf t) (fine-arguments (s .next) σ t w))
+      (All-map (λ k. k < s .next) (λ k. valueAt l k ≡ v k) (λ k q. sym (xL .same k (omega arith))) (argumentsOf t)
+      (fine-arguments (s .next) σ t w))
 
   equal-seen : (a d k : ℕ) → v a ≡ v d → v k ≡ bool true → v k ≡ denote v (c.equal a d)
-  equal-seen a d k e t = t ∙ ap bool (sym (equalValues-refl (v d))) ∙ ap bool (ap (λ (q : Value). equalValues q (v d)) (sym e))
+  equal-seen a d k e t = t ∙ ap bool (sym (equalValues-refl (v d)))
+      ∙ ap bool (ap (λ (q : Value). equalValues q (v d)) (sym e))
 
   pub meets : {A : Type 0} (m : Prog A) (s : St) (l : List Value) (ts : List Temp) (Q : ℕ → A → Type 0) → Here s l ts
-      → Extends (bool false) ((exec b m s l ts) .values) L → Extends noTemp ((exec b m s l ts) .temps) TS → safe slots σ (s .next) m Q
+      → Extends (bool false) ((exec b m s l ts) .values) L → Extends noTemp ((exec b m s l ts) .temps) TS
+      → safe slots σ (s .next) m Q
       → Met (s .next) ((emit m s) .calls) ((emit m s) .st) ((emit m s) .res) (exec b m s l ts) Q
   unfolding emit exec
   meets (ret a) s l ts Q h x y w = record { holds = λ rest r. r; sorted = λ rest r. r; post = w; here = h }
@@ -303,18 +347,27 @@ module _ (slots : ℕ) (b : NetBits) (L : List Value) (TS : List Temp) where
       let s₁ : St = at (suc (s .next)) (s .temp) s in
       let l₁ : List Value = l ++ (denote (valueAt l) t ∷ []) in
       let e : v (s .next) ≡ denote v t =
-      denote-seen s l t (h .terms) (extends-trans (bool false) l₁ _ L (grows b (f (s .next)) s₁ l₁ ts .values) x) (w .0) in
+      denote-seen s l t (h .terms) (extends-trans (bool false) l₁ _ L (grows b (f (s .next)) s₁ l₁ ts .values) x)
+      (w .0) in
       let sort : σ (s .next) ≡ sortUnder σ t = ap sortOfValue e ∙ denote-sort v (s .next) t (w .0) in
       let r = meets (f (s .next)) s₁ l₁ ts Q (op-here s l (denote (valueAt l) t) ts h) x y
       (w .1 (record { k = s .next; m = suc (s .next); le = omega arith; lt = omega arith; sort = sort })) in
-      record { holds = λ rest q. (e, r .holds rest q); sorted = λ rest q. (w .0, sort, r .sorted rest q); post = r .post; here = r .here }
-  meets {A} (declare a i g f) s l ts Q h x y w = go (λ k s l. meets (f k) s l ts Q) (getD (s .names) (place a i g) 0) refl
+      record {
+        holds = λ rest q. (e, r .holds rest q);
+        sorted = λ rest q. (w .0, sort, r .sorted rest q);
+        post =
+            r .post;
+        here = r .here;
+      }
+  meets {A} (declare a i g f) s l ts Q h x y w = go (λ k s l. meets (f k) s l ts Q)
+      (getD (s .names) (place a i g) 0) refl
     where
       go : ((k : ℕ) (s : St) (l : List Value) → Here s l ts → Extends (bool false) ((exec b (f k) s l ts) .values) L
           → Extends noTemp ((exec b (f k) s l ts) .temps) TS → safe slots σ (s .next) (f k) Q
           → Met (s .next) ((emit (f k) s) .calls) ((emit (f k) s) .st) ((emit (f k) s) .res) (exec b (f k) s l ts) Q)
           → (o : ℕ) → getD (s .names) (place a i g) 0 ≡ o
-          → Met (s .next) ((emit (declare a i g f) s) .calls) ((emit (declare a i g f) s) .st) ((emit (declare a i g f) s) .res)
+          → Met (s .next) ((emit (declare a i g f) s) .calls) ((emit (declare a i g f) s) .st)
+          ((emit (declare a i g f) s) .res)
           (exec b (declare a i g f) s l ts) Q
       go rec zero e =
           let new : Value = bits (b a i g ∷ []) in
@@ -351,14 +404,19 @@ module _ (slots : ℕ) (b : NetBits) (L : List Value) (TS : List Temp) where
       let xt : Extends noTemp (ts ++ u₁) TS = extends-trans noTemp (ts ++ u₁) _ TS (g .temps) y in
       let len = h .terms in
       let lt : t < s .next = w .0 in
-      let ct : v t ≡ valueAt l t = extends-trans (bool false) l (l ++ m₁) L (extends-append (bool false) l m₁) xl .same t (omega arith) in
-      let c0 : v (s .next) ≡ valueAt l t = seen-at (bool false) l m₁ L (s .next) 0 (s .next) len (omega arith) (omega arith) xl in
-      let c1 : v (suc (s .next)) ≡ bool true = seen-at (bool false) l m₁ L (s .next) 1 (suc (s .next)) len (omega arith) (omega arith) xl in
+      let ct : v t ≡ valueAt l t = extends-trans (bool false) l (l ++ m₁) L
+      (extends-append (bool false) l m₁) xl .same t (omega arith) in
+      let c0 : v (s .next) ≡ valueAt l t = seen-at (bool false) l m₁ L (s .next) 0 (s .next) len (omega arith)
+      (omega arith) xl in
+      let c1 : v (suc (s .next)) ≡ bool true = seen-at (bool false) l m₁ L (s .next) 1 (suc (s .next)) len
+      (omega arith) (omega arith) xl in
       let cT : getD TS (s .temp) noTemp ≡ single (asBits (valueAt l t)) =
       seen-at noTemp ts u₁ TS (s .temp) 0 (s .temp) (h .temps) (omega arith) (omega arith) xt in
       let sort : σ (s .next) ≡ n = ap sortOfValue (c0 ∙ sym ct) ∙ w .1 in
-      let vt : valueAt l t ≡ bits (asBits (valueAt l t)) = is-vector (valueAt l t) (let a = w .2 in let d = ap sortOfValue c0 in omega arith) in
-      let is : v (s .next) ≡ bits (ρ (tempName (s .temp) c.none)) = c0 ∙ vt ∙ ap bits (sym (ap (λ (q : Temp). q c.none) cT)) in
+      let vt : valueAt l t ≡ bits (asBits (valueAt l t)) =
+      is-vector (valueAt l t) (let a = w .2 in let d = ap sortOfValue c0 in omega arith) in
+      let is : v (s .next) ≡ bits (ρ (tempName (s .temp) c.none)) = c0 ∙ vt
+      ∙ ap bits (sym (ap (λ (q : Temp). q c.none) cT)) in
       let width : length (ρ (tempName (s .temp) c.none)) ≡ n = sym (ap sortOfValue is) ∙ sort in
       let eq = equal-seen (s .next) t (suc (s .next)) (c0 ∙ sym ct) c1 in
       let r = meets (f (s .next)) s₁ (l ++ m₁) (ts ++ u₁) Q
@@ -367,7 +425,15 @@ module _ (slots : ℕ) (b : NetBits) (L : List Value) (TS : List Temp) where
       let narrow = w .2 in
       record {
         holds = λ rest q. (is, width, (eq, (c1, r .holds rest q)));
-        sorted = λ rest q. (narrow, sort, ((omega arith, omega arith, omega arith, w .1 ∙ sym sort), ap sortOfValue c1, ((omega arith, ap sortOfValue c1), r .sorted rest q)));
+        sorted = λ rest q. (
+          narrow,
+          sort,
+          (
+            (omega arith, omega arith, omega arith, w .1 ∙ sym sort),
+            ap sortOfValue c1,
+            ((omega arith, ap sortOfValue c1), r .sorted rest q),
+          ),
+        );
         post = r .post;
         here = r .here;
       }
@@ -384,29 +450,66 @@ module _ (slots : ℕ) (b : NetBits) (L : List Value) (TS : List Temp) where
       let xL = extends-trans (bool false) l (l ++ m₁) L (extends-append (bool false) l m₁) xl in
       let cp : v p ≡ valueAt l p = xL .same p (omega arith) in
       let cd : v d ≡ valueAt l d = xL .same d (omega arith) in
-      let c0 : v (s .next) ≡ valueAt l p = seen-at (bool false) l m₁ L (s .next) 0 (s .next) len (omega arith) (omega arith) xl in
-      let c1 : v (suc (s .next)) ≡ valueAt l d = seen-at (bool false) l m₁ L (s .next) 1 (suc (s .next)) len (omega arith) (omega arith) xl in
-      let c2 : v (suc (suc (s .next))) ≡ bool true = seen-at (bool false) l m₁ L (s .next) 2 (suc (suc (s .next))) len (omega arith) (omega arith) xl in
-      let c3 : v (suc (suc (suc (s .next)))) ≡ bool true = seen-at (bool false) l m₁ L (s .next) 3 (suc (suc (suc (s .next)))) len (omega arith) (omega arith) xl in
+      let c0 : v (s .next) ≡ valueAt l p = seen-at (bool false) l m₁ L (s .next) 0 (s .next) len (omega arith)
+      (omega arith) xl in
+      let c1 : v (suc (s .next)) ≡ valueAt l d = seen-at (bool false) l m₁ L (s .next) 1 (suc (s .next)) len
+      (omega arith) (omega arith) xl in
+      let c2 : v (suc (suc (s .next))) ≡ bool true = seen-at (bool false) l m₁ L (s .next) 2 (suc (suc (s .next))) len
+      (omega arith) (omega arith) xl in
+      let c3 : v (suc (suc (suc (s .next)))) ≡ bool true =
+      seen-at (bool false) l m₁ L (s .next) 3 (suc (suc (suc (s .next)))) len (omega arith) (omega arith) xl in
       let cT : getD TS (s .temp) noTemp ≡ double (asBits (valueAt l p)) (asBits (valueAt l d)) =
       seen-at noTemp ts u₁ TS (s .temp) 0 (s .temp) (h .temps) (omega arith) (omega arith) xt in
       let sp : σ (s .next) ≡ n = ap sortOfValue (c0 ∙ sym cp) ∙ w .2 in
       let sd : σ (suc (s .next)) ≡ n = ap sortOfValue (c1 ∙ sym cd) ∙ w .3 in
       let narrow : Width n = w .4 in
-      let vp : valueAt l p ≡ bits (asBits (valueAt l p)) = is-vector (valueAt l p) (let e = ap sortOfValue c0 in omega arith) in
-      let vd : valueAt l d ≡ bits (asBits (valueAt l d)) = is-vector (valueAt l d) (let e = ap sortOfValue c1 in omega arith) in
-      let isP : v (s .next) ≡ bits (ρ (tempName (s .temp) c.x)) = c0 ∙ vp ∙ ap bits (sym (ap (λ (q : Temp). q c.x) cT)) in
-      let isD : v (suc (s .next)) ≡ bits (ρ (tempName (s .temp) c.y)) = c1 ∙ vd ∙ ap bits (sym (ap (λ (q : Temp). q c.y) cT)) in
+      let vp : valueAt l p ≡ bits (asBits (valueAt l p)) =
+      is-vector (valueAt l p) (let e = ap sortOfValue c0 in omega arith) in
+      let vd : valueAt l d ≡ bits (asBits (valueAt l d)) =
+      is-vector (valueAt l d) (let e = ap sortOfValue c1 in omega arith) in
+      let isP : v (s .next) ≡ bits (ρ (tempName (s .temp) c.x)) = c0 ∙ vp
+      ∙ ap bits (sym (ap (λ (q : Temp). q c.x) cT)) in
+      let isD : v (suc (s .next)) ≡ bits (ρ (tempName (s .temp) c.y)) = c1 ∙ vd
+      ∙ ap bits (sym (ap (λ (q : Temp). q c.y) cT)) in
       let wp′ : length (ρ (tempName (s .temp) c.x)) ≡ n = sym (ap sortOfValue isP) ∙ sp in
       let wd′ : length (ρ (tempName (s .temp) c.y)) ≡ n = sym (ap sortOfValue isD) ∙ sd in
       let eqP = equal-seen (s .next) p (suc (suc (s .next))) (c0 ∙ sym cp) c2 in
       let eqD = equal-seen (suc (s .next)) d (suc (suc (suc (s .next)))) (c1 ∙ sym cd) c3 in
       let r = meets (f (s .next) (suc (s .next))) s₁ (l ++ m₁) (ts ++ u₁) Q
       (here-on s l m₁ ts u₁ (suc (suc (suc (suc (s .next))))) (suc (s .temp)) h (omega arith) (omega arith)) x y
-      (w .5 (record { k = s .next; l = suc (s .next); m = suc (suc (suc (suc (s .next)))); le = omega arith; ltk = omega arith; ltl = omega arith; sortk = sp; sortl = sd })) in
+      (w .5 (record {
+        k = s .next;
+        l = suc (s .next);
+        m = suc (suc (suc (suc (s .next))));
+        le = omega arith;
+        ltk =
+            omega arith;
+        ltl = omega arith;
+        sortk = sp;
+        sortl = sd;
+      })) in
       record {
         holds = λ rest q. (isP, wp′, (isD, wd′, (eqP, (c2, (eqD, (c3, r .holds rest q))))));
-        sorted = λ rest q. (narrow, sp, (narrow, sd, ((omega arith, omega arith, omega arith, w .2 ∙ sym sp), ap sortOfValue c2, ((omega arith, ap sortOfValue c2), ((omega arith, omega arith, omega arith, w .3 ∙ sym sd), ap sortOfValue c3, ((omega arith, ap sortOfValue c3), r .sorted rest q))))));
+        sorted = λ rest q. (
+          narrow,
+          sp,
+          (
+            narrow,
+            sd,
+            (
+              (omega arith, omega arith, omega arith, w .2 ∙ sym sp),
+              ap sortOfValue c2,
+              (
+                (omega arith, ap sortOfValue c2),
+                (
+                  (omega arith, omega arith, omega arith, w .3 ∙ sym sd),
+                  ap sortOfValue c3,
+                  ((omega arith, ap sortOfValue c3), r .sorted rest q),
+                ),
+              ),
+            ),
+          ),
+        );
         post = r .post;
         here = r .here;
       }

@@ -1,5 +1,6 @@
--- The assertions on temporaries, for a run from the builder's first state: whatever bits the nets have, some assignment with these
--- bits satisfies them, and only one does, as far as the run's names go. So the temporaries leave nothing to choice.
+-- The assertions on temporaries, for a run from the builder's first state: whatever bits the nets have, some
+-- assignment with these bits satisfies them, and only one does, as far as the run's names go. So the temporaries
+-- leave nothing to choice.
 use mathlib.Core.Path.{_≡_, refl, sym, ap, _∙_}
 use mathlib.Core.Bool.{false}
 use mathlib.Core.List.{List, [], _∷_, _++_, append-nil}
@@ -15,7 +16,20 @@ use Rattle.smt.specs.Emit.{St, netName, place, emit}
 use Rattle.smt.specs.Formula.{NetBits}
 use Rattle.soundness.specs.Safe.{safe}
 use Rattle.smt.specs.ShowsShift.{getD-pad}
-use Rattle.soundness.specs.Solve.{Extends, extends-refl, noTemp, assigned, assigned-net, exec, Here, Met, meets, sorts, WellSorted, sorted-earlier}
+use Rattle.soundness.specs.Solve.{
+  Extends,
+  extends-refl,
+  noTemp,
+  assigned,
+  assigned-net,
+  exec,
+  Here,
+  Met,
+  meets,
+  sorts,
+  WellSorted,
+  sorted-earlier,
+}
 use Rattle.soundness.specs.Unique.{Agree, temporaries-unique}
 
 -- Nothing is made and nothing is known.
@@ -25,7 +39,8 @@ first slots = record { next = 0; temp = 0; names = replicate (4 * slots) 0; mark
 none-known : (n j k : ℕ) → getD (replicate n 0) j 0 ≡ suc k → ⊥
 none-known n j k e = let z : _≡_ {A = ℕ} 0 (suc k) = sym (getD-pad [] n 0 j) ∙ e in omega arith
 
-module _ (slots : ℕ) (b : NetBits) {A : Type 0} (m : Prog A) (Q : ℕ → A → Type 0) (ok : (σ : ℕ → Sort) → safe slots σ 0 m Q) where
+module _ (slots : ℕ) (b : NetBits) {A : Type 0} (m : Prog A) (Q : ℕ → A → Type 0)
+    (ok : (σ : ℕ → Sort) → safe slots σ 0 m Q) where
   abbrev calls : List Call
   calls = (emit m (first slots)) .calls
 
@@ -36,7 +51,8 @@ module _ (slots : ℕ) (b : NetBits) {A : Type 0} (m : Prog A) (Q : ℕ → A �
   abbrev pub chosen : Assignment
   chosen = assigned b ((exec b m (first slots) [] []) .temps)
 
-  met : Met slots b values ((exec b m (first slots) [] []) .temps) 0 calls ((emit m (first slots)) .st) ((emit m (first slots)) .res)
+  met : Met slots b values ((exec b m (first slots) [] []) .temps) 0 calls ((emit m (first slots)) .st)
+      ((emit m (first slots)) .res)
       (exec b m (first slots) [] []) Q
   met =
       meets slots b values _ m (first slots) [] [] Q
@@ -52,10 +68,12 @@ module _ (slots : ℕ) (b : NetBits) {A : Type 0} (m : Prog A) (Q : ℕ → A �
   pub temporaries-exist : Sat chosen calls
   temporaries-exist = holds-sat chosen (valueAt values) calls earlier holds
 
-  pub temporaries-only : (η : Assignment) → Sat η calls → ((a : Age) (i : ℕ) (h : Half) → η (netName a i h) ≡ b a i h ∷ []) → Agree chosen η calls
+  pub temporaries-only : (η : Assignment) → Sat η calls → ((a : Age) (i : ℕ) (h : Half) → η (netName a i h)
+      ≡ b a i h ∷ []) → Agree chosen η calls
   temporaries-only η sat nets =
       rw (append-nil calls)
       at (temporaries-unique slots chosen η (valueAt values) (valueAt (run η [] calls))
       (λ a i h. assigned-net b ((exec b m (first slots) [] []) .temps) a i h ∙ sym (nets a i h)) m (first slots) [] Q
-      (λ a i h k e. absurd (none-known (4 * slots) (place a i h) k e)) (λ k l. absurd (omega arith)) (ok (sorts (valueAt values)))
+      (λ a i h k e. absurd (none-known (4 * slots) (place a i h) k e)) (λ k l. absurd (omega arith))
+      (ok (sorts (valueAt values)))
       (met .holds [] tt) (rw (append-nil calls) (sat-holds η calls earlier sat)) tt)

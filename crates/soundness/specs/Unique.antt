@@ -1,4 +1,5 @@
--- Temporaries are unique: two assignments that agree on the nets and meet the calls of a safe run agree on every name it declares.
+-- Temporaries are unique: two assignments that agree on the nets and meet the calls of a safe run agree on every name
+-- it declares.
 use mathlib.Core.Path.{_≡_, refl, sym, ap, ap₂, _∙_}
 use mathlib.Core.List.{List, [], _∷_, _++_}
 use Prim.Native.Nat.{ℕ, zero, suc, _+_, _≤_, _<_}
@@ -42,18 +43,22 @@ module _ (slots : ℕ) (ρ η : Assignment) (v u : ℕ → Value)
 
   -- The known names' terms are there, and are the names' bits.
   abbrev pub KnownBelow : St → Type 0
-  KnownBelow s = (a : Age) (i : ℕ) (h : Half) (k : ℕ) → getD (s .names) (place a i h) 0 ≡ suc k → Named ρ v a i h k × (k < s .next)
+  KnownBelow s = (a : Age) (i : ℕ) (h : Half) (k : ℕ) → getD (s .names)
+      (place a i h) 0 ≡ suc k → Named ρ v a i h k × (k < s .next)
 
   below-on : (s : St) (n m : ℕ) → s .next ≤ n → KnownBelow s → KnownBelow (at n m s)
   below-on s n m l kn a i h k e = (kn a i h k e .0, let q = kn a i h k e .1 in omega arith)
 
-  below-learnt : (a : Age) (i : ℕ) (h : Half) (s : St) → Named ρ v a i h (s .next) → KnownBelow s → KnownBelow (learn a i h s)
+  below-learnt : (a : Age) (i : ℕ) (h : Half) (s : St) → Named ρ v a i h (s .next) → KnownBelow s
+      → KnownBelow (learn a i h s)
   below-learnt a i h s new kn d j g k e = (
     learnt ρ v a i h (s .next) (s .names) new (λ a i h k e. kn a i h k e .0) d j g k e,
-    stored (s .names) (place a i h) (suc (s .next)) (place d j g) k e (λ p q. omega arith) (λ p. let q = kn d j g k p .1 in omega arith),
+    stored (s .names) (place a i h) (suc (s .next)) (place d j g) k e (λ p q. omega arith)
+        (λ p. let q = kn d j g k p .1 in omega arith),
   )
 
-  pub temporaries-unique : {A : Type 0} (m : Prog A) (s : St) (rest : List Call) (Q : ℕ → A → Type 0) → KnownBelow s → Upto (s .next)
+  pub temporaries-unique : {A : Type 0} (m : Prog A) (s : St) (rest : List Call) (Q : ℕ → A → Type 0) → KnownBelow s
+      → Upto (s .next)
       → safe slots (sorts v) (s .next) m Q
       → Holds ρ v (s .next) ((emit m s) .calls ++ rest) → Holds η u (s .next) ((emit m s) .calls ++ rest)
       → Agree ρ η rest → Agree ρ η ((emit m s) .calls ++ rest)
@@ -62,10 +67,18 @@ module _ (slots : ℕ) (ρ η : Assignment) (v u : ℕ → Value)
   temporaries-unique (op t f) s rest Q kn h e p q r =
       let n = s .next in
       let x : v n ≡ u n = p .0
-      ∙ denote-ext v u t (All-map (λ a. a < n) (λ a. v a ≡ u a) (λ a l. h a l) (argumentsOf t) (fine-arguments n (sorts v) t (e .0)))
+      ∙ denote-ext v u t (All-map (λ a. a < n) (λ a. v a ≡ u a) (λ a l. h a l) (argumentsOf t)
+      (fine-arguments n (sorts v) t (e .0)))
       ∙ sym (q .0) in
       temporaries-unique (f n) _ rest Q (below-on s (suc n) (s .temp) (omega arith) kn) (upto-suc n h x)
-      (e .1 (record { k = n; m = suc n; le = omega arith; lt = omega arith; sort = ap sortOfValue (p .0) ∙ denote-sort v n t (e .0) }))
+      (e .1 (record {
+        k = n;
+        m = suc n;
+        le = omega arith;
+        lt = omega arith;
+        sort = ap sortOfValue (p .0)
+            ∙ denote-sort v n t (e .0);
+      }))
       (p .1) (q .1) r
   temporaries-unique {A} (declare a i d f) s rest Q kn h e p q r =
       go (λ k s. temporaries-unique (f k) s rest Q) (getD (s .names) (place a i d) 0) refl
@@ -84,21 +97,43 @@ module _ (slots : ℕ) (ρ η : Assignment) (v u : ℕ → Value)
           rw z (
             nets a i d,
             rec n (learn a i d s) (below-learnt a i d s new kn) (upto-suc n h x)
-                (e .1 (record { k = n; m = suc n; le = omega arith; lt = omega arith; sort = ap sortOfValue (p′ .0) ∙ p′ .1 })) (p′ .2) (q′ .2) r,
+                (e .1 (record {
+                  k = n;
+                  m = suc n;
+                  le = omega arith;
+                  lt = omega arith;
+                  sort = ap sortOfValue (p′ .0)
+                      ∙ p′ .1;
+                })) (p′ .2) (q′ .2) r,
           )
       go rec (suc k) z =
           let was = kn a i d k z in
           let l : k < s .next = was .1 in
           rw z (rec k (reread a i s) kn h
-          (e .1 (record { k = k; m = s .next; le = omega arith; lt = l; sort = ap sortOfValue (was .0 .is) ∙ was .0 .one })) (rw z at p) (rw z at q) r)
+          (e .1 (record {
+            k = k;
+            m = s .next;
+            le = omega arith;
+            lt = l;
+            sort = ap sortOfValue (was .0 .is)
+                ∙ was .0 .one;
+          })) (rw z at p) (rw z at q) r)
   temporaries-unique (bind w t f) s rest Q kn h e p q r =
       let n = s .next in
       let vt : v n ≡ v t = bound-eq ρ v (suc n) n t (p .2 .0) (p .2 .1 .0) in
       let x : v n ≡ u n = vt ∙ h t (e .0) ∙ sym (bound-eq η u (suc n) n t (q .2 .0) (q .2 .1 .0)) in
       let y : v (suc n) ≡ u (suc n) = p .2 .1 .0 ∙ sym (q .2 .1 .0) in (
         bits-inj _ _ (sym (p .0) ∙ x ∙ q .0),
-        temporaries-unique (f n) _ rest Q (below-on s (suc (suc n)) (suc (s .temp)) (omega arith) kn) (upto-suc (suc n) (upto-suc n h x) y)
-            (e .3 (record { k = n; m = suc (suc n); le = omega arith; lt = omega arith; sort = ap sortOfValue vt ∙ e .1 })) (p .2 .1 .1) (q .2 .1 .1) r,
+        temporaries-unique (f n) _ rest Q (below-on s (suc (suc n)) (suc (s .temp)) (omega arith) kn)
+            (upto-suc (suc n) (upto-suc n h x) y)
+            (e .3 (record {
+              k = n;
+              m = suc (suc n);
+              le = omega arith;
+              lt = omega arith;
+              sort = ap sortOfValue vt
+                  ∙ e .1;
+            })) (p .2 .1 .1) (q .2 .1 .1) r,
       )
   temporaries-unique (bind2 w a b f) s rest Q kn h e p q r =
       let n = s .next in
@@ -109,15 +144,27 @@ module _ (slots : ℕ) (ρ η : Assignment) (v u : ℕ → Value)
       let va : v n ≡ v a = bound-eq ρ v (suc (suc n)) n a (ofX .0) (ofX .1 .0) in
       let vb : v (suc n) ≡ v b = bound-eq ρ v (suc (suc (suc n))) (suc n) b (ofY .0) (ofY .1 .0) in
       let x : v n ≡ u n = va ∙ h a (e .0) ∙ sym (bound-eq η u (suc (suc n)) n a (ofX′ .0) (ofX′ .1 .0)) in
-      let y : v (suc n) ≡ u (suc n) = vb ∙ h b (e .1) ∙ sym (bound-eq η u (suc (suc (suc n))) (suc n) b (ofY′ .0) (ofY′ .1 .0)) in
+      let y : v (suc n) ≡ u (suc n) = vb ∙ h b (e .1) ∙ sym
+      (bound-eq η u (suc (suc (suc n))) (suc n) b (ofY′ .0) (ofY′ .1 .0)) in
       let z : v (suc (suc n)) ≡ u (suc (suc n)) = ofX .1 .0 ∙ sym (ofX′ .1 .0) in
       let o : v (suc (suc (suc n))) ≡ u (suc (suc (suc n))) = ofY .1 .0 ∙ sym (ofY′ .1 .0) in (
         bits-inj _ _ (sym (p .0) ∙ x ∙ q .0),
         (
           bits-inj _ _ (sym (p .2 .0) ∙ y ∙ q .2 .0),
-          temporaries-unique (f n (suc n)) _ rest Q (below-on s (suc (suc (suc (suc n)))) (suc (s .temp)) (omega arith) kn)
+          temporaries-unique (f n (suc n)) _ rest Q (below-on s (suc (suc (suc (suc n)))) (suc (s .temp))
+              (omega arith) kn)
               (upto-suc (suc (suc (suc n))) (upto-suc (suc (suc n)) (upto-suc (suc n) (upto-suc n h x) y) z) o)
-              (e .5 (record { k = n; l = suc n; m = suc (suc (suc (suc n))); le = omega arith; ltk = omega arith; ltl = omega arith; sortk = ap sortOfValue va ∙ e .2; sortl = ap sortOfValue vb ∙ e .3 }))
+              (e .5 (record {
+                k = n;
+                l = suc n;
+                m = suc (suc (suc (suc n)));
+                le = omega arith;
+                ltk =
+                    omega arith;
+                ltl = omega arith;
+                sortk = ap sortOfValue va ∙ e .2;
+                sortl = ap sortOfValue vb ∙ e .3;
+              }))
               (ofY .1 .1) (ofY′ .1 .1) r,
         ),
       )

@@ -1,1 +1,1 @@
-// That the builder's terms show the rules of the cells: theorems only, in specs/.
+// That the calls of the builder are well formed, and that its temporaries exist and are unique: theorems only, in specs/.
