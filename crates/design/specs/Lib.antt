@@ -20,3 +20,4 @@ pub mod Declares
 pub mod Theorem
 pub mod Bound
 pub mod WellFormed
+pub mod Marks
