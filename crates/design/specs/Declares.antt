@@ -48,7 +48,7 @@ use Rattle.design.specs.Exists.{zeros-none}
 use Rattle.design.specs.Requirement3.{declaredNames, IsDeclared, Declared}
 
 -- A name of a net is known: it has a term.
-abbrev KnownIn : List ℕ → ℕ → Type 0
+abbrev pub KnownIn : List ℕ → ℕ → Type 0
 KnownIn names p = (k : ℕ) × (getD names p 0 ≡ suc k)
 
 -- A store of a term keeps known names known, and makes its own known.
@@ -65,9 +65,9 @@ makes-known (x ∷ names) zero n l = (n, refl)
 makes-known (x ∷ names) (suc p) n l = makes-known names p n (omega arith)
 
 -- What a run leaves of the names: as many, and what was known.
-record Kept (s t : St) : Type 0 where
-  many : length (t .names) ≡ length (s .names)
-  still : (p : ℕ) → KnownIn (s .names) p → KnownIn (t .names) p
+pub record Kept (s t : St) : Type 0 where
+  pub many : length (t .names) ≡ length (s .names)
+  pub still : (p : ℕ) → KnownIn (s .names) p → KnownIn (t .names) p
 
 kept-refl : (s : St) → Kept s s
 kept-refl s = record { many = refl; still = λ p h. h }
@@ -81,7 +81,7 @@ kept-learn a i h s = record { many = length-set (s .names) (place a i h) (suc (s
 same-names : (s t : St) → t .names ≡ s .names → Kept s t
 same-names s t e = record { many = ap length e; still = λ p h. rw e h }
 
-kept : {A : Type 0} (m : Prog A) (s : St) → Kept s ((emit m s) .st)
+pub kept : {A : Type 0} (m : Prog A) (s : St) → Kept s ((emit m s) .st)
 unfolding emit
 kept (ret a) s = kept-refl s
 kept (op t f) s = kept-trans (same-names s (at (suc (s .next)) (s .temp) s) refl) (kept (f (s .next)) _)
@@ -116,7 +116,7 @@ makes-const a i h s l = go (getD (s .names) (place a i h) 0) refl
     go zero e = rw e (makes-known (s .names) (place a i h) (s .next) l)
     go (suc k) e = rw e (k, e)
 
-makes-net : (a : Age) (i : ℕ) (h : Half) → Makes (place a i h) (netOf a (slot i))
+pub makes-net : (a : Age) (i : ℕ) (h : Half) → Makes (place a i h) (netOf a (slot i))
 unfolding netOf tvConst
 makes-net a i isUndef = makes-first (place a i isUndef) (bvConst a i isUndef) _ (makes-const a i isUndef)
 makes-net a i isOne =
@@ -204,7 +204,7 @@ declared-right : (cs ds : List Call) (name : Name) → IsDeclared ds name → Is
 declared-right cs ds name m = rw (names-append cs ds) (Memᴰ·append-right (declaredNames cs) m)
 
 -- Every known name is among the declared names of some calls.
-abbrev Listed : List ℕ → List Call → Type 0
+abbrev pub Listed : List ℕ → List Call → Type 0
 Listed names cs = (a : Age) (i : ℕ) (h : Half) (k : ℕ) → getD names (place a i h) 0 ≡ suc k → IsDeclared cs (netName a i h)
 
 listed-on : (names : List ℕ) (cs ds : List Call) → Listed names cs → Listed names (cs ++ ds)
@@ -246,7 +246,7 @@ listed (bind2 w x y f) s cs l =
     listed-group ((emit (f (s .next) (suc (s .next))) t₁) .st .names) cs (bound2 s w x y) ((emit (f (s .next) (suc (s .next))) t₁) .calls)
     (listed (f (s .next) (suc (s .next))) t₁ (cs ++ bound2 s w x y) (listed-on (s .names) cs (bound2 s w x y) l))
 
-listed-work : (steps : List Step) (s : St) (cs : List Call) → Listed (s .names) cs → Listed ((work steps s) .st .names) (cs ++ (work steps s) .calls)
+pub listed-work : (steps : List Step) (s : St) (cs : List Call) → Listed (s .names) cs → Listed ((work steps s) .st .names) (cs ++ (work steps s) .calls)
 unfolding work
 listed-work [] s cs l = listed-on (s .names) cs [] l
 listed-work (declared m ∷ rest) s cs l =

@@ -22,3 +22,4 @@ pub mod Theorem
 pub mod Bound
 pub mod WellFormed
 pub mod Required
+pub mod Marks
