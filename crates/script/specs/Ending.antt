@@ -16,7 +16,7 @@ use Rattle.engine.specs.Encode.{Op, operationAt, countAt, callOf, callAt, nextA
 use Rattle.engine.specs.Encode as o
 use Rattle.engine.specs.Steps.{calls-end, calls-step}
 use Rattle.text.specs.Bytes.{ascii}
-use Rattle.text.specs.Names.{nameText, namesOfMark, bothNames, askedFrom, asked}
+use Rattle.text.specs.Names.{nameText, spelling, namesOfMark, bothNames, askedFrom, asked}
 use Rattle.terms.specs.Made.{leaves-append}
 use Rattle.terms.specs.Find.{firstCalls, Reached, reached-start, reached-next, first-more, split, madeAt}
 use Rattle.terms.specs.Sort.{payloads}
@@ -157,16 +157,15 @@ names-end {marks} {done} {first} {slot} here past = sym (append-nil done) ∙ rw
 
 -- The first slot that asks for names: those before it ask for none.
 pub record FirstAsked (marks : List ℕ) (slot : ℕ) : Type 0 where
+  pub asks : slot < length marks → (getD marks slot 0 ≡ 1 → ⊥) → getD marks slot 0 ≡ 2
   pub same : askedFrom 0 marks ≡ askedFrom slot (drop slot marks)
 
-pub first-start : (marks : List ℕ) → FirstAsked marks 0
-first-start marks = record { same = refl }
+pub asked-start : (marks : List ℕ) → askedFrom 0 marks ≡ askedFrom 0 (drop 0 marks)
+asked-start marks = refl
 
-pub first-next : {marks : List ℕ} {slot : ℕ} → FirstAsked marks slot → slot < length marks → (getD marks slot 0 ≡ 1 → ⊥) → (getD marks slot 0 ≡ 2 → ⊥)
-    → FirstAsked marks (slot + 1)
-unfolding askedFrom
-first-next {marks} {slot} here inside one two =
-    record { same = here .same ∙ rw (drop-cons marks slot 0 inside, ne-eqb _ 1 one, ne-eqb _ 2 two, add-one slot) }
+pub asked-next : (marks : List ℕ) (slot : ℕ) → slot < length marks → (getD marks slot 0 ≡ 1 → ⊥) → (getD marks slot 0 ≡ 2 → ⊥)
+    → askedFrom slot (drop slot marks) ≡ askedFrom (slot + 1) (drop (slot + 1) marks)
+asked-next marks slot inside one two = asked-here marks slot inside ∙ rw (ne-eqb _ 1 one, ne-eqb _ 2 two)
 
 -- The two names of a slot, with a space between them.
 abbrev pub pairNames : c.Letter → ℕ → List ℕ
@@ -197,3 +196,8 @@ value-some {marks} {slot} letter here inside e =
     ap getValue (here .same ∙ asked-here marks slot inside ∙ ap (λ (names : List Name). names ++ askedFrom (slot + 1) (drop (slot + 1) marks)) e)
     ∙ value-pair (record { letter = letter; index = slot; suffix = c.x }) (record { letter = letter; index = slot; suffix = c.y })
     (askedFrom (slot + 1) (drop (slot + 1) marks))
+
+-- The line that asks for the pair of a slot and for further names.
+abbrev pub valuesText : ℕ → ℕ → List ℕ → List ℕ
+valuesText letter slot names =
+    ascii "(get-value (" ++ (spelling letter slot 120 ++ (ascii " " ++ spelling letter slot 121)) ++ names ++ ascii "))\n"

@@ -3,7 +3,7 @@
 use terms::Found;
 ghost use mathlib.Core.Path.{_≡_};
 ghost use mathlib.Core.List.{_∷_, [], _++_, map};
-ghost use Prim.Native.Nat.{_-_, _≤_, _<_};
+ghost use Prim.Native.Nat.{_+_, _-_, _≤_, _<_};
 ghost use lib.ListN.{length, getD, take, drop};
 ghost use Rattle.engine.specs.Call as c;
 ghost use Rattle.engine.specs.Encode.{opOf, letters, suffixes, countAt, decode};
@@ -12,13 +12,13 @@ ghost use Rattle.script.specs.Record.{shapeAt, bodyAt, defineAt, declare
 ghost use Rattle.terms.specs.Made.{made};
 ghost use Rattle.engine.specs.Sorts as sorts;
 ghost use Rattle.engine.specs.Sorts.{leaves};
-ghost use Rattle.script.specs.Ending.{namesFrom};
+ghost use Rattle.script.specs.Ending.{namesFrom, FirstAsked, valuesText};
 ghost use Rattle.script.specs.Walk.{IsWellFormed};
-ghost use Rattle.text.specs.Names.{letterText, suffixText, nameText, namesOfMark, spelling};
+ghost use Rattle.text.specs.Names.{letterText, suffixText, nameText, namesOfMark, spelling, asked};
 ghost use Rattle.text.specs.Write.{Wrote};
 ghost use Rattle.terms.specs.Find.{firstCalls};
 ghost use Rattle.terms.specs.Sort.{payloads};
-ghost use Rattle.script.specs.Text.{numbered, reference, lines, sortText, boolText, bitsText, literalText, extractText, spaced, applied, conjunction};
+ghost use Rattle.script.specs.Text.{numbered, reference, lines, getValue, ending, script, sortText, boolText, bitsText, literalText, extractText, spaced, applied, conjunction};
 ghost use Rattle.script.specs.Pieces.{argumentTexts, extractionText};
 ghost use Rattle.text.specs.Bytes.{ascii};
 ghost use Rattle.bitvec.specs.Bits.{nat2bv};
@@ -535,4 +535,71 @@ fn put_names(text: &mut [u8], start: usize, recorded: &[u8], first: usize) -> us
         slot += 1;
     }
     at
+}
+
+// The first slot whose mark asks for names, or the number of marks.
+fn first_asked(recorded: &[u8]) -> usize
+    ensures { λ r. ⌜ FirstAsked (now (recorded .entry)) r ⌝ }
+{
+    let mut slot = 0;
+    while slot < recorded.len() {
+        let mark = recorded[slot];
+        if mark == 1 {
+            return slot;
+        }
+        if mark == 2 {
+            return slot;
+        }
+        slot += 1;
+    }
+    slot
+}
+
+// Writes the line that asks for values, from the first slot that is asked for.
+fn put_values(text: &mut [u8], at: usize, letter: u8, recorded: &[u8], slot: usize) -> usize
+    requires { ⌜ slot < length (now recorded) ⌝ }
+    ensures { λ r. ⌜ Wrote (now (text .entry)) (now (text .exit)) at r (valuesText letter slot (namesFrom (now (recorded .entry)) (slot + 1))) ⌝ }
+{
+    let names = text::put_bytes(text, at, b"(get-value (");
+    let rest = put_pair(text, names, letter, slot);
+    let closing = put_names(text, rest, recorded, slot + 1);
+    text::put_bytes(text, closing, b"))\n")
+}
+
+// Writes the line that asks for the values of the names asked, if there are any.
+fn put_get_value(text: &mut [u8], at: usize, recorded: &[u8]) -> usize
+    ensures { λ r. ⌜ Wrote (now (text .entry)) (now (text .exit)) at r (getValue (asked (now (recorded .entry)))) ⌝ }
+{
+    let slot = first_asked(recorded);
+    if slot < recorded.len() {
+        if recorded[slot] == 1 {
+            return put_values(text, at, b'n', recorded, slot);
+        }
+        return put_values(text, at, b'p', recorded, slot);
+    }
+    at
+}
+
+// Writes what follows the calls' lines.
+fn put_ending(text: &mut [u8], at: usize, calls: &[u32], recorded: &[u8]) -> usize
+    ensures { λ r. ⌜ Wrote (now (text .entry)) (now (text .exit)) at r (ending (leaves sorts.start (decode (now (calls .entry))) .checked) (asked (now (recorded .entry)))) ⌝ }
+{
+    if has_check(calls) {
+        return put_get_value(text, at, recorded);
+    }
+    text::put_bytes(text, at, b"; nothing asked\n")
+}
+
+// Writes the script of a well-formed call list.
+fn put_script(text: &mut [u8], calls: &[u32], recorded: &[u8]) -> usize
+    requires { ⌜ IsWellFormed (now calls) ⌝ }
+    ensures { λ r. ⌜ Wrote (now (text .entry)) (now (text .exit)) 0 r (script (decode (now (calls .entry))) (asked (now (recorded .entry)))) ⌝ }
+{
+    let lines = text::put_bytes(
+        text,
+        0,
+        b"(set-option :produce-models true)\n(set-logic QF_BV)\n",
+    );
+    let ending = put_records(text, lines, calls);
+    put_ending(text, ending, calls, recorded)
 }
