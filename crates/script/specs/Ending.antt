@@ -117,8 +117,8 @@ module _ {p : Call → Bool} {w : List ℕ} {i at k : ℕ} (here : NoneOf p w i 
       few = omega (arith, here .few);
       within = omega (arith, here .few);
       none =
-        ap (λ (n : ℕ). any p (firstCalls w n)) (add-one i) ∙ ap (any p) (first-more (here .reached) inside)
-        ∙ any-append p (firstCalls w i) (callAt w at ∷ []) ∙ rw (here .none, other)
+          ap (λ (n : ℕ). any p (firstCalls w n)) (add-one i) ∙ ap (any p) (first-more (here .reached) inside)
+          ∙ any-append p (firstCalls w i) (callAt w at ∷ []) ∙ rw (here .none, other);
     }
 
     pub some-here : p (callAt w at) ≡ true → any p (decode w) ≡ true

@@ -2,17 +2,19 @@
 // writes a piece from a place on and gives the next place; past the slice's end it only counts.
 use terms::Found;
 ghost use mathlib.Core.Path.{_≡_};
+ghost use mathlib.Core.Bool.{_&&_};
 ghost use mathlib.Core.List.{_∷_, [], _++_, map};
 ghost use Prim.Native.Nat.{_+_, _-_, _≤_, _<_};
 ghost use lib.ListN.{length, getD, take, drop};
 ghost use Rattle.engine.specs.Call as c;
-ghost use Rattle.engine.specs.Encode.{opOf, letters, suffixes, countAt, decode};
+ghost use Rattle.engine.specs.Encode.{opOf, letters, suffixes, countAt, callAt, decode};
 ghost use Rattle.script.specs.Literal.{LiteralFits, digitOr, literalNumber};
 ghost use Rattle.script.specs.Record.{shapeAt, bodyAt, defineAt, declareAt, assertAt, lineAt, Ready};
 ghost use Rattle.terms.specs.Made.{made};
 ghost use Rattle.engine.specs.Sorts as sorts;
 ghost use Rattle.engine.specs.Sorts.{leaves};
-ghost use Rattle.script.specs.Ending.{namesFrom, FirstAsked, valuesText};
+ghost use Rattle.script.specs.Ending.{any, namesFrom, FirstAsked, valuesText};
+ghost use Rattle.script.specs.Marks.{lowNumber, declaresName, markStands, badMark};
 ghost use Rattle.script.specs.Walk.{IsWellFormed};
 ghost use Rattle.text.specs.Names.{letterText, suffixText, nameText, namesOfMark, spelling, asked};
 ghost use Rattle.text.specs.Write.{Wrote};
@@ -24,6 +26,12 @@ ghost use Rattle.text.specs.Bytes.{ascii};
 ghost use Rattle.bitvec.specs.Bits.{nat2bv};
 ghost use lib.Dec.{eqb};
 ghost use Rattle.script.specs.Shape.{shapeOf, arityOf, nameOf, operationText};
+
+// The first recorded mark that does not stand, if there is one.
+enum Mark {
+    Fine,
+    Bad(usize),
+}
 
 // The shape of each operation's line: an application (0), a Bool (1), an and (2), a literal (3), an extract (4), a declaration (5), an
 // assertion (6), check (7).
@@ -602,4 +610,84 @@ fn put_script(text: &mut [u8], calls: &[u32], recorded: &[u8]) -> usize
     );
     let ending = put_records(text, lines, calls);
     put_ending(text, ending, calls, recorded)
+}
+
+// The number of a letter or a suffix, as a word has it.
+fn low_number(n: u32) -> u32
+    ensures { λ r. ⌜ r ≡ lowNumber n ⌝ }
+{
+    if n == 1 {
+        return 1;
+    }
+    if n == 2 {
+        return 2;
+    }
+    0
+}
+
+// Whether the record at a place declares a name, by the numbers of its letter and suffix.
+fn declares_here(calls: &[u32], head: usize, letter: u32, index: usize, suffix: u32) -> bool
+    ensures { λ r. ⌜ r ≡ declaresName letter index suffix (callAt (now (calls .entry)) head) ⌝ }
+{
+    if shape(terms::operation(calls, head)) != 5 {
+        return false;
+    }
+    if low_number(terms::argument(calls, head, 0)) != letter {
+        return false;
+    }
+    if terms::term_argument(calls, head, 1) != index {
+        return false;
+    }
+    low_number(terms::argument(calls, head, 2)) == suffix
+}
+
+// Whether a call list declares a name.
+fn is_declared(calls: &[u32], letter: u32, index: usize, suffix: u32) -> bool
+    ensures { λ r. ⌜ r ≡ any (declaresName letter index suffix) (decode (now (calls .entry))) ⌝ }
+{
+    let mut head = 0;
+    while head < calls.len() {
+        if declares_here(calls, head, letter, index, suffix) {
+            return true;
+        }
+        head = terms::next_record(calls, head);
+    }
+    false
+}
+
+// Whether a call list declares both names of a slot.
+fn is_pair_declared(calls: &[u32], letter: u32, slot: usize) -> bool
+    ensures { λ r. ⌜ r ≡ (any (declaresName letter slot 1) (decode (now (calls .entry))) && any (declaresName letter slot 2) (decode (now (calls .entry)))) ⌝ }
+{
+    if is_declared(calls, letter, slot, 1) {
+        return is_declared(calls, letter, slot, 2);
+    }
+    false
+}
+
+// Whether a mark is none, or asks for names that the calls declare.
+fn mark_stands(calls: &[u32], slot: usize, mark: u8) -> bool
+    ensures { λ r. ⌜ r ≡ markStands (decode (now (calls .entry))) slot mark ⌝ }
+{
+    if mark == 1 {
+        return is_pair_declared(calls, 0, slot);
+    }
+    if mark == 2 {
+        return is_pair_declared(calls, 1, slot);
+    }
+    mark == 0
+}
+
+// The first mark that does not stand.
+fn bad_mark(calls: &[u32], recorded: &[u8]) -> Mark
+    ensures { λ r. ⌜ r ≡ badMark (decode (now (calls .entry))) 0 (now (recorded .entry)) ⌝ }
+{
+    let mut slot = 0;
+    while slot < recorded.len() {
+        if !mark_stands(calls, slot, recorded[slot]) {
+            return Mark::Bad(slot);
+        }
+        slot += 1;
+    }
+    Mark::Fine
 }
