@@ -1,5 +1,6 @@
 // The script writer: a call list and the names that its recorded marks ask for, as SMT-LIB text in a lent slice of bytes. Each function
 // writes a piece from a place on and gives the next place; past the slice's end it only counts.
+use logic::Fault;
 use terms::Found;
 ghost use mathlib.Core.Path.{_≡_};
 ghost use mathlib.Core.Bool.{_&&_};
@@ -14,10 +15,11 @@ ghost use Rattle.terms.specs.Made.{made};
 ghost use Rattle.engine.specs.Sorts as sorts;
 ghost use Rattle.engine.specs.Sorts.{leaves};
 ghost use Rattle.script.specs.Ending.{any, namesFrom, FirstAsked, valuesText};
+ghost use Rattle.script.specs.Written.{scriptOf, marked, Scripted};
 ghost use Rattle.script.specs.Marks.{lowNumber, declaresName, markStands, badMark};
 ghost use Rattle.script.specs.Walk.{IsWellFormed};
 ghost use Rattle.text.specs.Names.{letterText, suffixText, nameText, namesOfMark, spelling, asked};
-ghost use Rattle.text.specs.Write.{Wrote};
+ghost use Rattle.text.specs.Write.{Wrote, capped};
 ghost use Rattle.terms.specs.Find.{firstCalls};
 ghost use Rattle.terms.specs.Sort.{payloads};
 ghost use Rattle.script.specs.Text.{numbered, reference, lines, getValue, ending, script, sortText, boolText, bitsText, literalText, extractText, spaced, applied, conjunction};
@@ -26,6 +28,12 @@ ghost use Rattle.text.specs.Bytes.{ascii};
 ghost use Rattle.bitvec.specs.Bits.{nat2bv};
 ghost use lib.Dec.{eqb};
 ghost use Rattle.script.specs.Shape.{shapeOf, arityOf, nameOf, operationText};
+
+// What the writer answers: how many bytes it wrote, or a refusal with document 01's number and place.
+pub enum Written {
+    Bytes(usize),
+    Refused(Fault),
+}
 
 // The first recorded mark that does not stand, if there is one.
 enum Mark {
@@ -690,4 +698,36 @@ fn bad_mark(calls: &[u32], recorded: &[u8]) -> Mark
         slot += 1;
     }
     Mark::Fine
+}
+
+// How many bytes a script has: it is written into a text of one byte, past which writing only counts.
+fn script_length(calls: &[u32], recorded: &[u8]) -> usize
+    requires { ⌜ IsWellFormed (now calls) ⌝ }
+    ensures { λ r. ⌜ r ≡ capped (0 + length (scriptOf (now (calls .entry)) (now (recorded .entry)))) ⌝ }
+{
+    let mut trial = [0u8; 1];
+    put_script(&mut trial, calls, recorded)
+}
+
+// Writes the script of a well-formed call list, if its marks stand and the text has room.
+fn write_marked(calls: &[u32], recorded: &[u8], text: &mut [u8]) -> Written
+    requires { ⌜ IsWellFormed (now calls) ⌝ }
+    ensures { λ r. ⌜ Scripted (now (calls .entry)) (now (recorded .entry)) (now (text .entry)) (now (text .exit)) r (marked (now (calls .entry)) (now (recorded .entry)) (length (now (text .entry)))) ⌝ }
+{
+    match bad_mark(calls, recorded) {
+        Mark::Bad(slot) => Written::Refused(Fault {
+            number: 2,
+            place: slot,
+        }),
+        Mark::Fine => {
+            let needed = script_length(calls, recorded);
+            if text.len() < needed {
+                return Written::Refused(Fault {
+                    number: 15,
+                    place: needed,
+                });
+            }
+            Written::Bytes(put_script(text, calls, recorded))
+        }
+    }
 }
