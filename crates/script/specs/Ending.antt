@@ -16,7 +16,7 @@ use Rattle.engine.specs.Encode.{Op, operationAt, countAt, callOf, callAt, nextA
 use Rattle.engine.specs.Encode as o
 use Rattle.engine.specs.Steps.{calls-end, calls-step}
 use Rattle.text.specs.Bytes.{ascii}
-use Rattle.text.specs.Names.{nameText, namesOfMark, bothNames, askedFrom, asked}
+use Rattle.text.specs.Names.{nameText, spelling, namesOfMark, bothNames, askedFrom, asked}
 use Rattle.terms.specs.Made.{leaves-append}
 use Rattle.terms.specs.Find.{firstCalls, Reached, reached-start, reached-next, first-more, split, madeAt}
 use Rattle.terms.specs.Sort.{payloads}
@@ -51,70 +51,88 @@ checks-by o.assert n a = refl
 checks-by o.check n a = refl
 checks-by o.unknown n a = refl
 
-after-checks : (x : Context) (call : Call) → after x call .checked ≡ (checks call || x .checked)
-after-checks x (c.term t) = refl
-after-checks x (c.declare name w) = refl
-after-checks x (c.assert k) = refl
-after-checks x c.check = refl
+or-false : (b : Bool) → (b || false) ≡ b
+or-false true = refl
+or-false false = refl
 
 or-true : (b : Bool) → (b || true) ≡ true
 or-true true = refl
 or-true false = refl
 
--- Once there was a check, there was one.
-stays : (x : Context) (calls : List Call) → x .checked ≡ true → leaves x calls .checked ≡ true
-unfolding leaves
-stays x [] e = e
-stays x (call ∷ calls) e = stays (after x call) calls (after-checks x call ∙ rw e (or-true (checks call)))
+-- Whether some call of a list is of a kind.
+unfoldable pub any : (Call → Bool) → List Call → Bool
+any p [] = false
+any p (call ∷ calls) = p call || any p calls
 
--- Records passed without a check.
-pub record Unchecked (w : List ℕ) (records at terms : ℕ) : Type 0 where
+or-assoc : (a b d : Bool) → ((a || b) || d) ≡ (a || (b || d))
+or-assoc true b d = refl
+or-assoc false b d = refl
+
+after-checks : (x : Context) (call : Call) → after x call .checked ≡ (x .checked || checks call)
+after-checks x (c.term t) = sym (or-false (x .checked))
+after-checks x (c.declare name w) = sym (or-false (x .checked))
+after-checks x (c.assert k) = sym (or-false (x .checked))
+after-checks x c.check = sym (or-true (x .checked))
+
+-- A list has a check where some call is one.
+leaves-checks : (x : Context) (calls : List Call) → leaves x calls .checked ≡ (x .checked || any checks calls)
+unfolding leaves any
+leaves-checks x [] = sym (or-false (x .checked))
+leaves-checks x (call ∷ calls) =
+    leaves-checks (after x call) calls ∙ rw (after-checks x call) (or-assoc (x .checked) (checks call) (any checks calls))
+
+pub checked-any : (calls : List Call) → leaves start calls .checked ≡ any checks calls
+checked-any calls = leaves-checks start calls
+
+any-append : (p : Call → Bool) (a b : List Call) → any p (a ++ b) ≡ (any p a || any p b)
+unfolding any
+any-append p [] b = refl
+any-append p (call ∷ a) b = rw (any-append p a b) (sym (or-assoc (p call) (any p a) (any p b)))
+
+-- Records passed of which none is of a kind.
+pub record NoneOf (p : Call → Bool) (w : List ℕ) (records at terms : ℕ) : Type 0 where
   pub reached : Reached w records at terms
   pub few : records ≤ at
   pub within : records ≤ length w
-  pub none : leaves start (firstCalls w records) .checked ≡ false
+  pub none : any p (firstCalls w records) ≡ false
 
-pub unchecked-start : (w : List ℕ) → Unchecked w 0 0 0
-unfolding leaves callsFrom
-unchecked-start w = record { reached = reached-start w; few = omega arith; within = omega arith; none = refl }
+pub none-start : (p : Call → Bool) (w : List ℕ) → NoneOf p w 0 0 0
+unfolding any callsFrom
+none-start p w = record { reached = reached-start w; few = omega arith; within = omega arith; none = refl }
 
-module _ {w : List ℕ} {i at k : ℕ} (here : Unchecked w i at k) where
+module _ {p : Call → Bool} {w : List ℕ} {i at k : ℕ} (here : NoneOf p w i at k) where
   all : decode w ≡ firstCalls w i ++ callsFrom (length w - i) w at
   all =
       let sum : length w ≡ i + (length w - i) = omega (arith, here .within) in
       ap (λ (n : ℕ). callsFrom n w 0) sum ∙ split i (length w - i) w 0 ∙ rw (here .reached .place)
 
-  pub unchecked-end : length w ≤ at → leaves start (decode w) .checked ≡ false
-  unchecked-end past = rw (all, calls-end (length w - i) w at past, append-nil) (here .none)
+  pub none-end : length w ≤ at → any p (decode w) ≡ false
+  none-end past = rw (all, calls-end (length w - i) w at past, append-nil) (here .none)
 
   module _ (inside : at < length w) where
-    at-checks : checks (callAt w at) ≡ eqb (shapeAt w at) 7
-    at-checks = checks-by (operationAt w at) (countAt w at) (payloads w at)
-
-    pub unchecked-next : (shapeAt w at ≡ 7 → ⊥) → Unchecked w (i + 1) (nextAt w at) (k + madeAt w at)
-    unfolding leaves
-    unchecked-next other = record {
+    pub none-next : p (callAt w at) ≡ false → NoneOf p w (i + 1) (nextAt w at) (k + madeAt w at)
+    unfolding any
+    none-next other = record {
       reached = reached-next (here .reached) inside;
       few = omega (arith, here .few);
       within = omega (arith, here .few);
       none =
-          ap (λ (n : ℕ). leaves start (firstCalls w n) .checked) (add-one i)
-          ∙ ap (λ (calls : List Call). leaves start calls .checked) (first-more (here .reached) inside)
-          ∙ ap (λ (x : Context). x .checked) (leaves-append start (firstCalls w i) (callAt w at ∷ []))
-          ∙ after-checks (leaves start (firstCalls w i)) (callAt w at) ∙ rw (at-checks, ne-eqb _ 7 other) (here .none);
+          ap (λ (n : ℕ). any p (firstCalls w n)) (add-one i) ∙ ap (any p) (first-more (here .reached) inside)
+          ∙ any-append p (firstCalls w i) (callAt w at ∷ []) ∙ rw (here .none, other);
     }
 
-    pub checked-here : shapeAt w at ≡ 7 → leaves start (decode w) .checked ≡ true
-    unfolding leaves
-    checked-here e =
+    pub some-here : p (callAt w at) ≡ true → any p (decode w) ≡ true
+    unfolding any
+    some-here e =
         let left : length w - i ≡ suc (length w - i - 1) = omega (arith, here .few) in
         let rest = callsFrom (length w - i - 1) w (nextAt w at) in
-        let x = leaves start (firstCalls w i) in
-        ap (λ (calls : List Call). leaves start calls .checked)
+        ap (any p)
         (all ∙ ap (λ (n : ℕ). firstCalls w i ++ callsFrom n w at) left
         ∙ ap (λ (l : List Call). firstCalls w i ++ l) (calls-step (length w - i - 1) w at inside))
-        ∙ ap (λ (y : Context). y .checked) (leaves-append start (firstCalls w i) (callAt w at ∷ rest))
-        ∙ stays (after x (callAt w at)) rest (after-checks x (callAt w at) ∙ rw (at-checks, eq-eqb _ 7 e))
+        ∙ any-append p (firstCalls w i) (callAt w at ∷ rest) ∙ rw (here .none, e)
+
+pub checks-at : (w : List ℕ) (at : ℕ) → checks (callAt w at) ≡ eqb (shapeAt w at) 7
+checks-at w at = checks-by (operationAt w at) (countAt w at) (payloads w at)
 
 -- ---- the names asked
 
@@ -157,16 +175,15 @@ names-end {marks} {done} {first} {slot} here past = sym (append-nil done) ∙ rw
 
 -- The first slot that asks for names: those before it ask for none.
 pub record FirstAsked (marks : List ℕ) (slot : ℕ) : Type 0 where
+  pub asks : slot < length marks → (getD marks slot 0 ≡ 1 → ⊥) → getD marks slot 0 ≡ 2
   pub same : askedFrom 0 marks ≡ askedFrom slot (drop slot marks)
 
-pub first-start : (marks : List ℕ) → FirstAsked marks 0
-first-start marks = record { same = refl }
+pub asked-start : (marks : List ℕ) → askedFrom 0 marks ≡ askedFrom 0 (drop 0 marks)
+asked-start marks = refl
 
-pub first-next : {marks : List ℕ} {slot : ℕ} → FirstAsked marks slot → slot < length marks → (getD marks slot 0 ≡ 1 → ⊥) → (getD marks slot 0 ≡ 2 → ⊥)
-    → FirstAsked marks (slot + 1)
-unfolding askedFrom
-first-next {marks} {slot} here inside one two =
-    record { same = here .same ∙ rw (drop-cons marks slot 0 inside, ne-eqb _ 1 one, ne-eqb _ 2 two, add-one slot) }
+pub asked-next : (marks : List ℕ) (slot : ℕ) → slot < length marks → (getD marks slot 0 ≡ 1 → ⊥) → (getD marks slot 0 ≡ 2 → ⊥)
+    → askedFrom slot (drop slot marks) ≡ askedFrom (slot + 1) (drop (slot + 1) marks)
+asked-next marks slot inside one two = asked-here marks slot inside ∙ rw (ne-eqb _ 1 one, ne-eqb _ 2 two)
 
 -- The two names of a slot, with a space between them.
 abbrev pub pairNames : c.Letter → ℕ → List ℕ
@@ -197,3 +214,8 @@ value-some {marks} {slot} letter here inside e =
     ap getValue (here .same ∙ asked-here marks slot inside ∙ ap (λ (names : List Name). names ++ askedFrom (slot + 1) (drop (slot + 1) marks)) e)
     ∙ value-pair (record { letter = letter; index = slot; suffix = c.x }) (record { letter = letter; index = slot; suffix = c.y })
     (askedFrom (slot + 1) (drop (slot + 1) marks))
+
+-- The line that asks for the pair of a slot and for further names.
+abbrev pub valuesText : ℕ → ℕ → List ℕ → List ℕ
+valuesText letter slot names =
+    ascii "(get-value (" ++ (spelling letter slot 120 ++ (ascii " " ++ spelling letter slot 121)) ++ names ++ ascii "))\n"

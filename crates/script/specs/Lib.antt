@@ -6,3 +6,5 @@ pub mod Literal
 pub mod Record
 pub mod Walk
 pub mod Ending
+pub mod Marks
+pub mod Written

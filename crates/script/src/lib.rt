@@ -1,29 +1,45 @@
 // The script writer: a call list and the names that its recorded marks ask for, as SMT-LIB text in a lent slice of bytes. Each function
 // writes a piece from a place on and gives the next place; past the slice's end it only counts.
+use logic::Fault;
 use terms::Found;
 ghost use mathlib.Core.Path.{_≡_};
+ghost use mathlib.Core.Bool.{_&&_};
 ghost use mathlib.Core.List.{_∷_, [], _++_, map};
-ghost use Prim.Native.Nat.{_-_, _≤_, _<_};
+ghost use Prim.Native.Nat.{_+_, _-_, _≤_, _<_};
 ghost use lib.ListN.{length, getD, take, drop};
 ghost use Rattle.engine.specs.Call as c;
-ghost use Rattle.engine.specs.Encode.{opOf, letters, suffixes, countAt, decode};
+ghost use Rattle.engine.specs.Encode.{opOf, letters, suffixes, countAt, callAt, decode};
 ghost use Rattle.script.specs.Literal.{LiteralFits, digitOr, literalNumber};
 ghost use Rattle.script.specs.Record.{shapeAt, bodyAt, defineAt, declareAt, assertAt, lineAt, Ready};
 ghost use Rattle.terms.specs.Made.{made};
 ghost use Rattle.engine.specs.Sorts as sorts;
 ghost use Rattle.engine.specs.Sorts.{leaves};
-ghost use Rattle.script.specs.Ending.{namesFrom};
+ghost use Rattle.script.specs.Ending.{any, namesFrom, FirstAsked, valuesText};
+ghost use Rattle.script.specs.Written.{scriptOf, marked, Scripted};
+ghost use Rattle.script.specs.Marks.{lowNumber, declaresName, markStands, badMark};
 ghost use Rattle.script.specs.Walk.{IsWellFormed};
-ghost use Rattle.text.specs.Names.{letterText, suffixText, nameText, namesOfMark, spelling};
-ghost use Rattle.text.specs.Write.{Wrote};
+ghost use Rattle.text.specs.Names.{letterText, suffixText, nameText, namesOfMark, spelling, asked};
+ghost use Rattle.text.specs.Write.{Wrote, capped};
 ghost use Rattle.terms.specs.Find.{firstCalls};
 ghost use Rattle.terms.specs.Sort.{payloads};
-ghost use Rattle.script.specs.Text.{numbered, reference, lines, sortText, boolText, bitsText, literalText, extractText, spaced, applied, conjunction};
+ghost use Rattle.script.specs.Text.{numbered, reference, lines, getValue, ending, script, sortText, boolText, bitsText, literalText, extractText, spaced, applied, conjunction};
 ghost use Rattle.script.specs.Pieces.{argumentTexts, extractionText};
 ghost use Rattle.text.specs.Bytes.{ascii};
 ghost use Rattle.bitvec.specs.Bits.{nat2bv};
 ghost use lib.Dec.{eqb};
 ghost use Rattle.script.specs.Shape.{shapeOf, arityOf, nameOf, operationText};
+
+// What the writer answers: how many bytes it wrote, or a refusal with document 01's number and place.
+pub enum Written {
+    Bytes(usize),
+    Refused(Fault),
+}
+
+// The first recorded mark that does not stand, if there is one.
+enum Mark {
+    Fine,
+    Bad(usize),
+}
 
 // The shape of each operation's line: an application (0), a Bool (1), an and (2), a literal (3), an extract (4), a declaration (5), an
 // assertion (6), check (7).
@@ -535,4 +551,183 @@ fn put_names(text: &mut [u8], start: usize, recorded: &[u8], first: usize) -> us
         slot += 1;
     }
     at
+}
+
+// The first slot whose mark asks for names, or the number of marks.
+fn first_asked(recorded: &[u8]) -> usize
+    ensures { λ r. ⌜ FirstAsked (now (recorded .entry)) r ⌝ }
+{
+    let mut slot = 0;
+    while slot < recorded.len() {
+        let mark = recorded[slot];
+        if mark == 1 {
+            return slot;
+        }
+        if mark == 2 {
+            return slot;
+        }
+        slot += 1;
+    }
+    slot
+}
+
+// Writes the line that asks for values, from the first slot that is asked for.
+fn put_values(text: &mut [u8], at: usize, letter: u8, recorded: &[u8], slot: usize) -> usize
+    requires { ⌜ slot < length (now recorded) ⌝ }
+    ensures { λ r. ⌜ Wrote (now (text .entry)) (now (text .exit)) at r (valuesText letter slot (namesFrom (now (recorded .entry)) (slot + 1))) ⌝ }
+{
+    let names = text::put_bytes(text, at, b"(get-value (");
+    let rest = put_pair(text, names, letter, slot);
+    let closing = put_names(text, rest, recorded, slot + 1);
+    text::put_bytes(text, closing, b"))\n")
+}
+
+// Writes the line that asks for the values of the names asked, if there are any.
+fn put_get_value(text: &mut [u8], at: usize, recorded: &[u8]) -> usize
+    ensures { λ r. ⌜ Wrote (now (text .entry)) (now (text .exit)) at r (getValue (asked (now (recorded .entry)))) ⌝ }
+{
+    let slot = first_asked(recorded);
+    if slot < recorded.len() {
+        if recorded[slot] == 1 {
+            return put_values(text, at, b'n', recorded, slot);
+        }
+        return put_values(text, at, b'p', recorded, slot);
+    }
+    at
+}
+
+// Writes what follows the calls' lines.
+fn put_ending(text: &mut [u8], at: usize, calls: &[u32], recorded: &[u8]) -> usize
+    ensures { λ r. ⌜ Wrote (now (text .entry)) (now (text .exit)) at r (ending (leaves sorts.start (decode (now (calls .entry))) .checked) (asked (now (recorded .entry)))) ⌝ }
+{
+    if has_check(calls) {
+        return put_get_value(text, at, recorded);
+    }
+    text::put_bytes(text, at, b"; nothing asked\n")
+}
+
+// Writes the script of a well-formed call list.
+fn put_script(text: &mut [u8], calls: &[u32], recorded: &[u8]) -> usize
+    requires { ⌜ IsWellFormed (now calls) ⌝ }
+    ensures { λ r. ⌜ Wrote (now (text .entry)) (now (text .exit)) 0 r (script (decode (now (calls .entry))) (asked (now (recorded .entry)))) ⌝ }
+{
+    let lines = text::put_bytes(
+        text,
+        0,
+        b"(set-option :produce-models true)\n(set-logic QF_BV)\n",
+    );
+    let ending = put_records(text, lines, calls);
+    put_ending(text, ending, calls, recorded)
+}
+
+// The number of a letter or a suffix, as a word has it.
+fn low_number(n: u32) -> u32
+    ensures { λ r. ⌜ r ≡ lowNumber n ⌝ }
+{
+    if n == 1 {
+        return 1;
+    }
+    if n == 2 {
+        return 2;
+    }
+    0
+}
+
+// Whether the record at a place declares a name, by the numbers of its letter and suffix.
+fn declares_here(calls: &[u32], head: usize, letter: u32, index: usize, suffix: u32) -> bool
+    ensures { λ r. ⌜ r ≡ declaresName letter index suffix (callAt (now (calls .entry)) head) ⌝ }
+{
+    if shape(terms::operation(calls, head)) != 5 {
+        return false;
+    }
+    if low_number(terms::argument(calls, head, 0)) != letter {
+        return false;
+    }
+    if terms::term_argument(calls, head, 1) != index {
+        return false;
+    }
+    low_number(terms::argument(calls, head, 2)) == suffix
+}
+
+// Whether a call list declares a name.
+fn is_declared(calls: &[u32], letter: u32, index: usize, suffix: u32) -> bool
+    ensures { λ r. ⌜ r ≡ any (declaresName letter index suffix) (decode (now (calls .entry))) ⌝ }
+{
+    let mut head = 0;
+    while head < calls.len() {
+        if declares_here(calls, head, letter, index, suffix) {
+            return true;
+        }
+        head = terms::next_record(calls, head);
+    }
+    false
+}
+
+// Whether a call list declares both names of a slot.
+fn is_pair_declared(calls: &[u32], letter: u32, slot: usize) -> bool
+    ensures { λ r. ⌜ r ≡ (any (declaresName letter slot 1) (decode (now (calls .entry))) && any (declaresName letter slot 2) (decode (now (calls .entry)))) ⌝ }
+{
+    if is_declared(calls, letter, slot, 1) {
+        return is_declared(calls, letter, slot, 2);
+    }
+    false
+}
+
+// Whether a mark is none, or asks for names that the calls declare.
+fn mark_stands(calls: &[u32], slot: usize, mark: u8) -> bool
+    ensures { λ r. ⌜ r ≡ markStands (decode (now (calls .entry))) slot mark ⌝ }
+{
+    if mark == 1 {
+        return is_pair_declared(calls, 0, slot);
+    }
+    if mark == 2 {
+        return is_pair_declared(calls, 1, slot);
+    }
+    mark == 0
+}
+
+// The first mark that does not stand.
+fn bad_mark(calls: &[u32], recorded: &[u8]) -> Mark
+    ensures { λ r. ⌜ r ≡ badMark (decode (now (calls .entry))) 0 (now (recorded .entry)) ⌝ }
+{
+    let mut slot = 0;
+    while slot < recorded.len() {
+        if !mark_stands(calls, slot, recorded[slot]) {
+            return Mark::Bad(slot);
+        }
+        slot += 1;
+    }
+    Mark::Fine
+}
+
+// How many bytes a script has: it is written into a text of one byte, past which writing only counts.
+fn script_length(calls: &[u32], recorded: &[u8]) -> usize
+    requires { ⌜ IsWellFormed (now calls) ⌝ }
+    ensures { λ r. ⌜ r ≡ capped (0 + length (scriptOf (now (calls .entry)) (now (recorded .entry)))) ⌝ }
+{
+    let mut trial = [0u8; 1];
+    put_script(&mut trial, calls, recorded)
+}
+
+// Writes the script of a well-formed call list, if its marks stand and the text has room.
+fn write_marked(calls: &[u32], recorded: &[u8], text: &mut [u8]) -> Written
+    requires { ⌜ IsWellFormed (now calls) ⌝ }
+    ensures { λ r. ⌜ Scripted (now (calls .entry)) (now (recorded .entry)) (now (text .entry)) (now (text .exit)) r (marked (now (calls .entry)) (now (recorded .entry)) (length (now (text .entry)))) ⌝ }
+{
+    match bad_mark(calls, recorded) {
+        Mark::Bad(slot) => Written::Refused(Fault {
+            number: 2,
+            place: slot,
+        }),
+        Mark::Fine => {
+            let needed = script_length(calls, recorded);
+            if text.len() < needed {
+                return Written::Refused(Fault {
+                    number: 15,
+                    place: needed,
+                });
+            }
+            Written::Bytes(put_script(text, calls, recorded))
+        }
+    }
 }

@@ -5,21 +5,22 @@ use Prim.Native.Nat.{_-_, _+_, _≤_, _<_, _^_}
 use Prim.Native.Nat.{ℕ}
 use mathlib.Core.Path.{_≡_, refl, sym, _∙_}
 use native.Mathlib.Omega.{arith}
+use borrow.Author.Tests.{eq-eqb, ne-eqb}
 use lib.ListN.{length}
 use Rattle.engine.specs.Encode.{nextAt}
 use Rattle.script.specs.Record.{shape-at}
-use Rattle.script.specs.Ending.{Unchecked, unchecked-start, unchecked-next, unchecked-end, checked-here}
+use Rattle.script.specs.Ending.{checks, checks-at, checked-any, NoneOf, none-start, none-next, none-end, some-here}
 use Rattle.script.proofs.has_check.Statement.{statement}
 use Rattle.script.proofs.has_check.Tie as tie
 
 abbrev Inv-loop : tie.InvT-loop
-Inv-loop calls head₀ head = (records terms : ℕ) × Unchecked calls records head terms
+Inv-loop calls head₀ head = (records terms : ℕ) × NoneOf checks calls records head terms
 
 abbrev μ-loop : tie.MeasureT-loop
 μ-loop calls head₀ head = length calls - head
 
 loop-holds : tie.Need-loop-holds Inv-loop μ-loop
-loop-holds c = (0, 0, unchecked-start _)
+loop-holds c = (0, 0, none-start _ _)
 
 operation-requires : tie.Need-operation-requires Inv-loop μ-loop
 operation-requires c κs = search needs
@@ -34,7 +35,8 @@ returns c =
     let looped = turn .before in
     let start = looped .before .before in
     let shape = shape-at (start .args .calls .now) (looped .loop .head) (shaped .before .operation .ensures) (shaped .shape .ensures) in
-    sym (checked-here (looped .loop .inv .2) (turn .loop-test .taken) (shape ∙ c .if1 .taken))
+    let check = checks-at (start .args .calls .now) (looped .loop .head) ∙ eq-eqb _ 7 (shape ∙ c .if1 .taken) in
+    sym (checked-any _ ∙ some-here (looped .loop .inv .2) (turn .loop-test .taken) check)
 
 next-record-requires : tie.Need-next-record-requires Inv-loop μ-loop
 next-record-requires c κs = search needs
@@ -57,11 +59,12 @@ loop-again c =
     let short = start .good .0 in
     let next : nextAt (start .args .calls .now) (looped .loop .head) ≡ c .next-record .result =
     omega (arith, inside, c .next-record .ensures) in
-    let step = unchecked-next (looped .loop .inv .2) inside (λ e. other .if1 .left (sym shape ∙ e)) in
+    let none = checks-at (start .args .calls .now) (looped .loop .head) ∙ ne-eqb _ 7 (λ e. other .if1 .left (sym shape ∙ e)) in
+    let step = none-next (looped .loop .inv .2) inside none in
     (_, _, rw next at step)
 
 returns-2 : tie.Need-returns-2 Inv-loop μ-loop
-returns-2 c = sym (unchecked-end (c .before .loop .inv .2) (c .loop-test .left))
+returns-2 c = sym (checked-any _ ∙ none-end (c .before .loop .inv .2) (c .loop-test .left))
 
 pub has-check-spec : {M : Type 1} → statement M
 has-check-spec =

@@ -1,0 +1,42 @@
+-- `script::put_script` meets its contract: the header, the lines and the ending. Assumes nothing.
+use borrow.Author.Needs.{needs}
+use Rattle.text.specs.Write.{wrote-then}
+use Rattle.script.specs.Text.{script}
+use Rattle.script.proofs.put_script.Statement.{statement}
+use Rattle.script.proofs.put_script.Tie as tie
+
+slice-aggregate-put-bytes : tie.Need-slice-aggregate-put-bytes
+slice-aggregate-put-bytes c = search needs
+
+put-bytes-requires : tie.Need-put-bytes-requires
+put-bytes-requires c κs = search needs
+
+put-records-requires : tie.Need-put-records-requires
+put-records-requires c κs = search needs
+
+put-ending-requires : tie.Need-put-ending-requires
+put-ending-requires c κs = search needs
+
+same-length : tie.Need-same-length
+same-length c = search needs
+
+returns : tie.Need-returns
+unfolding script
+returns c =
+    let ended = c .before .before in
+    let lined = ended .before .before .before .before in
+    let headed = lined .before .before .before .before in
+    let start = headed .before .before .before .before .before .before in
+    let short = start .good .0 .0 in
+    wrote-then short (wrote-then short (headed .put-bytes .ensures) (lined .put-records .ensures)) (ended .put-ending .ensures)
+
+pub put-script-spec : {M : Type 1} → statement M
+put-script-spec =
+    tie.close
+    (tie.spec
+    slice-aggregate-put-bytes
+    put-bytes-requires
+    put-records-requires
+    put-ending-requires
+    same-length
+    returns)

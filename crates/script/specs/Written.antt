@@ -1,0 +1,86 @@
+-- Document 01, the writer: 19, then 2, then 15 at the room needed; on refusal nothing is written, on success nothing past the text.
+use mathlib.Core.Path.{_≡_, refl, sym, ap, _∙_}
+use mathlib.Core.Bool.{Bool, true, false, cond}
+use mathlib.Core.List.{List, [], _∷_, _++_}
+use mathlib.Core.Option.{Option, some, none}
+use Prim.Native.Nat.{ℕ, zero, suc, _+_, _-_, _^_, _<_, _≤_}
+use native.Mathlib.Omega.{arith}
+use lib.Dec.{ltb}
+use lib.ListN.{length, drop}
+use borrow.Author.Tests.{lt-ltb, le-ltb}
+use Rattle.logic.specs.declared.Fault.{Fault}
+use Rattle.engine.specs.Call.{Call}
+use Rattle.engine.specs.Encode.{decode}
+use Rattle.engine.specs.WellFormed.{malformedAt, outcome, wellFormed}
+use Rattle.text.specs.Names.{asked}
+use Rattle.text.specs.Write.{capped, overwrite, overwrite-fits, Wrote}
+use Rattle.script.specs.declared.Mark.{Mark}
+use Rattle.script.specs.declared.Mark.the-variants.{Fine, Bad}
+use Rattle.script.specs.declared.Written.{Written}
+use Rattle.script.specs.declared.Written.the-variants.{Bytes, Refused}
+use Rattle.script.specs.Text.{script}
+use Rattle.script.specs.Marks.{badMark}
+use Rattle.script.specs.Walk.{IsWellFormed}
+
+-- The script of a list of words and its recorded marks.
+abbrev pub scriptOf : List ℕ → List ℕ → List ℕ
+scriptOf w marks = script (decode w) (asked marks)
+
+abbrev pub refuse : ℕ → ℕ → Written
+refuse number place = Refused (record { number = number; place = place })
+
+-- A text of some length into some room; the room needed is told as a machine word.
+abbrev pub roomFor : ℕ → ℕ → Written
+roomFor needed room = cond (ltb room needed) (refuse 15 (capped needed)) (Bytes needed)
+
+abbrev pub onFine : Mark → Written → Written
+onFine Fine r = r
+onFine (Bad slot) r = refuse 2 slot
+
+abbrev pub onFormed : Option ℕ → Written → Written
+onFormed none r = r
+onFormed (some place) r = refuse 19 place
+
+-- What the writer answers: the number of bytes, or the first fault.
+unfoldable pub marked : List ℕ → List ℕ → ℕ → Written
+marked w marks room = onFine (badMark (decode w) 0 marks) (roomFor (length (scriptOf w marks)) room)
+
+unfoldable pub written : List ℕ → List ℕ → ℕ → Written
+written w marks room = onFormed (malformedAt w) (marked w marks room)
+
+-- The text after it.
+abbrev pub textAfter : Written → List ℕ → List ℕ → List ℕ
+textAfter (Bytes n) text before = text ++ drop (length text) before
+textAfter (Refused e) text before = before
+
+pub record Scripted (w marks before after : List ℕ) (answer expected : Written) : Type 0 where
+  pub answers : answer ≡ expected
+  pub writes : after ≡ textAfter answer (scriptOf w marks) before
+
+-- Marks first, then room.
+module _ (w marks : List ℕ) (room : ℕ) where
+  pub marked-bad : {slot : ℕ} → badMark (decode w) 0 marks ≡ Bad slot → marked w marks room ≡ refuse 2 slot
+  unfolding marked
+  marked-bad e = rw e
+
+  pub marked-fine : badMark (decode w) 0 marks ≡ Fine → marked w marks room ≡ roomFor (length (scriptOf w marks)) room
+  unfolding marked
+  marked-fine e = rw e
+
+-- The room that a dry run counts.
+module _ (text : List ℕ) (room needed : ℕ) (short : room < 2 ^ 63) (counted : needed ≡ capped (0 + length text)) where
+  pub room-short : room < needed → roomFor (length text) room ≡ refuse 15 needed
+  room-short h =
+      let long : room < length text = omega arith in
+      let same : capped (length text) ≡ needed = omega arith in
+      rw (lt-ltb room (length text) long, same)
+
+  pub room-enough : needed ≤ room → roomFor (length text) room ≡ Bytes needed
+  room-enough h =
+      let fits : length text ≤ room = omega arith in
+      let same : length text ≡ needed = omega arith in
+      rw (le-ltb room (length text) fits, same)
+
+pub whole-text : {text before after : List ℕ} {r : ℕ} → Wrote before after 0 r text → length text ≤ length before
+    → after ≡ text ++ drop (length text) before
+whole-text {text} {before} wrote fits = wrote .stored ∙ overwrite-fits before text fits
