@@ -171,7 +171,7 @@ unfolding isTemp
 net-no-temp curr i h j s e = let z : _≡_ {A = ℕ} 0 1 = ap (λ (d : Name). isTemp (d .letter)) e in omega arith
 net-no-temp past i h j s e = let z : _≡_ {A = ℕ} 0 1 = ap (λ (d : Name). isTemp (d .letter)) e in omega arith
 
-kept : (l : List ℕ) (i a j : ℕ) → getD (set l i (suc a)) j 0 ≡ 0 → getD l j 0 ≡ 0
+pub kept : (l : List ℕ) (i a j : ℕ) → getD (set l i (suc a)) j 0 ≡ 0 → getD l j 0 ≡ 0
 kept [] i a j e = e
 kept (x ∷ l) zero a zero e = absurd (omega arith)
 kept (x ∷ l) zero a (suc j) e = e
@@ -270,10 +270,10 @@ module _ (slots : ℕ) where
   KnownSorts σ s = (a : Age) (i : ℕ) (h : Half) (k : ℕ) → getD (s .names)
       (place a i h) 0 ≡ suc k → (σ k ≡ 1) × (k < s .next)
 
-  known-on : (σ : ℕ → Sort) (s : St) (n m : ℕ) → s .next ≤ n → KnownSorts σ s → KnownSorts σ (at n m s)
+  pub known-on : (σ : ℕ → Sort) (s : St) (n m : ℕ) → s .next ≤ n → KnownSorts σ s → KnownSorts σ (at n m s)
   known-on σ s n m l kn a i h k e = (kn a i h k e .0, let q = kn a i h k e .1 in omega arith)
 
-  known-learnt : (σ : ℕ → Sort) (a : Age) (i : ℕ) (h : Half) (s : St) → σ (s .next) ≡ 1 → KnownSorts σ s
+  pub known-learnt : (σ : ℕ → Sort) (a : Age) (i : ℕ) (h : Half) (s : St) → σ (s .next) ≡ 1 → KnownSorts σ s
       → KnownSorts σ (learn a i h s)
   known-learnt σ a i h s new kn d j g k e =
       stored (s .names) (place a i h) (suc (s .next)) (place d j g) k e

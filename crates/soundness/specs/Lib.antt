@@ -4,3 +4,4 @@ pub mod Solve
 pub mod Unique
 pub mod Formed
 pub mod Temporaries
+pub mod Marks
