@@ -5,3 +5,4 @@ pub mod Unique
 pub mod Formed
 pub mod Temporaries
 pub mod Marks
+pub mod Pairs

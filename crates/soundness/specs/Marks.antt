@@ -46,7 +46,8 @@ Paired p (declare a i h f) = Next p a i h × ((k : ℕ) → Paired (pendingAfter
 Paired p (bind w t f) = IsClear p × ((k : ℕ) → Paired clear (f k))
 Paired p (bind2 w x y f) = IsClear p × ((k l : ℕ) → Paired clear (f k l))
 
-pub paired-seq : {A B : Type 0} (p : Pending) (m : Prog A) (g : A → Prog B) → Paired p m → ((x : A) → Paired clear (g x))
+pub paired-seq : {A B : Type 0} (p : Pending) (m : Prog A) (g : A → Prog B) → Paired p m
+    → ((x : A) → Paired clear (g x))
     → Paired p (m >>= g)
 unfolding _>>=_
 paired-seq clear (ret x) g h k = k x
@@ -108,12 +109,14 @@ module _ (slots : ℕ) where
     own l e = let z = sym (getD-set-same names q (suc n) 0 l) ∙ e in omega arith
 
   -- After a slot is marked: it has the new mark, and every other has its own.
-  remarked : {X : Type 0} (marks : List ℕ) (a : Age) (i : ℕ) (b : Age) (j : ℕ) → getD (set marks i (mark a)) j 0 ≡ mark b
+  remarked : {X : Type 0} (marks : List ℕ) (a : Age) (i : ℕ) (b : Age) (j : ℕ) → getD (set marks i (mark a)) j 0
+      ≡ mark b
       → (i ≡ j → mark a ≡ mark b → X) → (getD marks j 0 ≡ mark b → X) → X
   remarked marks a i curr j e = stored marks i (mark a) j 0 e
   remarked marks a i past j e = stored marks i (mark a) j 1 e
 
-  inside : (a : Age) (i : ℕ) (h : Half) (s : St) → i < slots → length (s .names) ≡ 4 * slots → place a i h < length (s .names)
+  inside : (a : Age) (i : ℕ) (h : Half) (s : St) → i < slots → length (s .names) ≡ 4 * slots
+      → place a i h < length (s .names)
   inside curr i isUndef s l e = omega arith
   inside curr i isOne s l e = omega arith
   inside past i isUndef s l e = omega arith
@@ -121,7 +124,8 @@ module _ (slots : ℕ) where
 
   -- A new mark: its name x is taken, or else it is the old one.
   marks-on : (a : Age) (i : ℕ) (s : St) (names : List ℕ) → ((r : ℕ) → Taken (s .names) r → Taken names r)
-      → Taken names (place a i isUndef) → ((b : Age) (j : ℕ) → getD (s .marks) j 0 ≡ mark b → Taken (s .names) (place b j isUndef))
+      → Taken names (place a i isUndef) → ((b : Age) (j : ℕ) → getD (s .marks) j 0 ≡ mark b
+      → Taken (s .names) (place b j isUndef))
       → (b : Age) (j : ℕ) → getD (set (s .marks) i (mark a)) j 0 ≡ mark b → Taken names (place b j isUndef)
   marks-on a i s names on new old b j e =
       remarked (s .marks) a i b j e
@@ -132,7 +136,8 @@ module _ (slots : ℕ) where
   x-new : (a : Age) (i : ℕ) (s : St) → i < slots → Marked clear s → Marked (due a i) (learn a i isUndef s)
   x-new a i s l m =
       let q = place a i isUndef in
-      let mine : Taken (set (s .names) q (suc (s .next))) q = own (s .names) q (s .next) (inside a i isUndef s l (m .size)) in
+      let mine : Taken (set (s .names) q (suc (s .next))) q =
+      own (s .names) q (s .next) (inside a i isUndef s l (m .size)) in
       record {
         size = length-set (s .names) q (suc (s .next)) ∙ m .size;
         both = λ b j h other. stays (s .names) q (s .next) (place b j isOne)
@@ -141,10 +146,17 @@ module _ (slots : ℕ) where
         pending = mine;
       }
 
-  x-known : (a : Age) (i k : ℕ) (s : St) → getD (s .names) (place a i isUndef) 0 ≡ suc k → Marked clear s → Marked (due a i) (reread a i s)
+  x-known : (a : Age) (i k : ℕ) (s : St) → getD (s .names) (place a i isUndef) 0 ≡ suc k → Marked clear s
+      → Marked (due a i) (reread a i s)
   x-known a i k s e m =
       let mine : Taken (s .names) (place a i isUndef) = λ z. let w = sym z ∙ e in omega arith in
-      record { size = m .size; both = λ b j h other. m .both b j h tt; marks = marks-on a i s (s .names) (λ r h. h) mine (m .marks); pending = mine }
+      record {
+        size = m .size;
+        both = λ b j h other. m .both b j h tt;
+        marks =
+            marks-on a i s (s .names) (λ r h. h) mine (m .marks);
+        pending = mine;
+      }
 
   -- And then of its y.
   y-both : (a : Age) (i : ℕ) (names : List ℕ) (b : Age) (j : ℕ) → Taken names (place a i isOne)
@@ -165,12 +177,14 @@ module _ (slots : ℕ) where
       record {
         size = length-set (s .names) q (suc (s .next)) ∙ m .size;
         both = λ b j h _. y-both a i names b j mine
-            (λ g other. keep (place b j isOne) (m .both b j (was (s .names) q (s .next) (place b j isUndef) g (x-even b j a i)) other)) h;
+            (λ g other. keep (place b j isOne) (m .both b j
+            (was (s .names) q (s .next) (place b j isUndef) g (x-even b j a i)) other)) h;
         marks = marks-on a i s names keep (keep (place a i isUndef) (m .pending)) (m .marks);
         pending = tt;
       }
 
-  y-known : (a : Age) (i k : ℕ) (s : St) → getD (s .names) (place a i isOne) 0 ≡ suc k → Marked (due a i) s → Marked clear (reread a i s)
+  y-known : (a : Age) (i k : ℕ) (s : St) → getD (s .names) (place a i isOne) 0 ≡ suc k → Marked (due a i) s
+      → Marked clear (reread a i s)
   y-known a i k s e m =
       let mine : Taken (s .names) (place a i isOne) = λ z. let w = sym z ∙ e in omega arith in
       record {
@@ -184,13 +198,15 @@ module _ (slots : ℕ) where
   counted n t s m = record { size = m .size; both = m .both; marks = m .marks; pending = tt }
 
   -- By what is due: a clear state declares x, and one with a y due that y.
-  new : (p : Pending) (a : Age) (i : ℕ) (h : Half) (s : St) → i < slots → Next p a i h → Marked p s → Marked (pendingAfter a i h) (learn a i h s)
+  new : (p : Pending) (a : Age) (i : ℕ) (h : Half) (s : St) → i < slots → Next p a i h → Marked p s
+      → Marked (pendingAfter a i h) (learn a i h s)
   new clear a i isUndef s l n m = x-new a i s l m
   new clear a i isOne s l n m = absurd n
   new (due b j) a i isUndef s l n m = absurd n
   new (due b j) a i isOne s l n m = y-new a i s l (rw (← (n .0), ← (n .1)) at m)
 
-  old : (p : Pending) (a : Age) (i : ℕ) (h : Half) (k : ℕ) (s : St) → getD (s .names) (place a i h) 0 ≡ suc k → Next p a i h → Marked p s
+  old : (p : Pending) (a : Age) (i : ℕ) (h : Half) (k : ℕ) (s : St) → getD (s .names) (place a i h) 0 ≡ suc k
+      → Next p a i h → Marked p s
       → Marked (pendingAfter a i h) (reread a i s)
   old clear a i isUndef k s e n m = x-known a i k s e m
   old clear a i isOne k s e n m = absurd n
@@ -202,42 +218,67 @@ module _ (slots : ℕ) where
   is-clear (due a i) s h m = absurd h
 
   -- A safe run that declares in pairs keeps the marks to declared names.
-  pub emit-marked : {A : Type 0} (σ : ℕ → Sort) (p : Pending) (m : Prog A) (s : St) (Q : ℕ → A → Type 0) (rest : List Call)
-      → safe slots σ (s .next) m Q → Paired p m → KnownSorts slots σ s → WellSorted σ (s .next) ((emit m s) .calls ++ rest)
+  pub emit-marked : {A : Type 0} (σ : ℕ → Sort) (p : Pending) (m : Prog A) (s : St) (Q : ℕ → A
+      → Type 0) (rest : List Call)
+      → safe slots σ (s .next) m Q → Paired p m → KnownSorts slots σ s
+      → WellSorted σ (s .next) ((emit m s) .calls ++ rest)
       → Marked p s → Marked clear ((emit m s) .st)
   unfolding emit
   emit-marked σ p (ret x) s Q rest w d kn f g = is-clear p s d g
   emit-marked σ p (op t f) s Q rest w d kn o g =
       emit-marked σ clear (f (s .next)) (at (suc (s .next)) (s .temp) s) Q rest
-      (w .1 (record { k = s .next; m = suc (s .next); le = omega arith; lt = omega arith; sort = o .1 })) (d .1 (s .next))
+      (w .1 (record { k = s .next; m = suc (s .next); le = omega arith; lt = omega arith; sort = o .1 }))
+      (d .1 (s .next))
       (known-on slots σ s (suc (s .next)) (s .temp) (omega arith) kn) (o .2) (counted _ _ s (is-clear p s (d .0) g))
   emit-marked {A} σ p (declare a i h f) s Q rest w d kn o g =
       go (λ k s. emit-marked σ (pendingAfter a i h) (f k) s Q rest) (getD (s .names) (place a i h) 0) refl
     where
       go : ((k : ℕ) (s : St) → safe slots σ (s .next) (f k) Q → Paired (pendingAfter a i h) (f k) → KnownSorts slots σ s
-          → WellSorted σ (s .next) ((emit (f k) s) .calls ++ rest) → Marked (pendingAfter a i h) s → Marked clear ((emit (f k) s) .st))
+          → WellSorted σ (s .next) ((emit (f k) s) .calls ++ rest) → Marked (pendingAfter a i h) s
+          → Marked clear ((emit (f k) s) .st))
           → (t : ℕ) → getD (s .names) (place a i h) 0 ≡ t → Marked clear ((emit (declare a i h f) s) .st)
       go rec zero z =
           let n = s .next in
-          let o′ : WellSorted σ n (c.declare (netName a i h) 1 ∷ ((emit (f n) (learn a i h s)) .calls ++ rest)) = rw z at o in
-          rw z (rec n (learn a i h s) (w .1 (record { k = n; m = suc n; le = omega arith; lt = omega arith; sort = o′ .1 })) (d .1 n)
+          let o′ : WellSorted σ n (c.declare (netName a i h) 1 ∷ ((emit (f n) (learn a i h s)) .calls ++ rest)) =
+          rw z at o in
+          rw z (rec n (learn a i h s) (w .1 (record {
+            k = n;
+            m = suc n;
+            le = omega arith;
+            lt = omega arith;
+            sort =
+                o′ .1;
+          })) (d .1 n)
           (known-learnt slots σ a i h s (o′ .1) kn) (o′ .2) (new p a i h s (w .0) (d .0) g))
       go rec (suc k) z =
           let q = kn a i h k z in
           let l : k < s .next = q .1 in
-          rw z (rec k (reread a i s) (w .1 (record { k = k; m = s .next; le = omega arith; lt = l; sort = q .0 })) (d .1 k) kn (rw z at o)
+          rw z (rec k (reread a i s) (w .1 (record { k = k; m = s .next; le = omega arith; lt = l; sort = q .0 }))
+          (d .1 k) kn (rw z at o)
           (old p a i h k s z (d .0) g))
   emit-marked σ p (bind u t f) s Q rest w d kn o g =
       let n = s .next in
       emit-marked σ clear (f n) (at (suc (suc n)) (suc (s .temp)) s) Q rest
       (w .3 (record { k = n; m = suc (suc n); le = omega arith; lt = omega arith; sort = o .1 })) (d .1 n)
-      (known-on slots σ s (suc (suc n)) (suc (s .temp)) (omega arith) kn) (o .2 .2 .1) (counted _ _ s (is-clear p s (d .0) g))
+      (known-on slots σ s (suc (suc n)) (suc (s .temp)) (omega arith) kn) (o .2 .2 .1)
+      (counted _ _ s (is-clear p s (d .0) g))
   emit-marked σ p (bind2 u x y f) s Q rest w d kn o g =
       let n = s .next in
       let m = suc (suc (suc (suc n))) in
       emit-marked σ clear (f n (suc n)) (at m (suc (s .temp)) s) Q rest
-      (w .5 (record { k = n; l = suc n; m = m; le = omega arith; ltk = omega arith; ltl = omega arith; sortk = o .1; sortl = o .2 .1 })) (d .1 n (suc n))
-      (known-on slots σ s m (suc (s .temp)) (omega arith) kn) (o .2 .2 .2 .1 .2 .1) (counted _ _ s (is-clear p s (d .0) g))
+      (w .5 (record {
+        k = n;
+        l = suc n;
+        m = m;
+        le = omega arith;
+        ltk = omega arith;
+        ltl = omega arith;
+        sortk =
+            o .1;
+        sortl = o .2 .1;
+      })) (d .1 n (suc n))
+      (known-on slots σ s m (suc (s .temp)) (omega arith) kn) (o .2 .2 .2 .1 .2 .1)
+      (counted _ _ s (is-clear p s (d .0) g))
 
   -- A marked slot has both names.
   pub marked-declared : (s : St) → Marked clear s → (a : Age) (i : ℕ) (h : Half) → getD (s .marks) i 0 ≡ mark a
