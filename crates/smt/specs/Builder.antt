@@ -13,12 +13,11 @@ use Rattle.logic.specs.declared.Trit.the-variants.{Zero, One, Undef}
 use Rattle.bitvec.specs.Bits.{Bits, nat2bv}
 use Rattle.engine.specs.Call.{BinaryOp, Compare}
 use Rattle.engine.specs.Call as c
-use Rattle.cell.specs.Cell.{Cell, Control, FlipFlop, Unary, Binary, Shift}
+use Rattle.cell.specs.Cell.{Cell, Control, FlipFlop, Binary, Shift}
 use Rattle.cell.specs.Cell as cells
 use Rattle.smt.specs.Prog.{
   Prog,
   ret,
-  op,
   declare,
   bind,
   bind2,
@@ -39,8 +38,6 @@ use Rattle.smt.specs.Prog.{
   buildAnd,
   buildBitvecEq,
   buildCompare,
-  buildBvult,
-  buildBvslt,
   buildBitvecLit,
   buildBitvecIte,
   buildConcat,

@@ -1,77 +1,44 @@
 -- The bits of a cell's terms, of the bits of the nets, and that the calls of `cell` give just these.
-use mathlib.Core.Path.{_≡_, refl, sym, ap, ap₂, _∙_}
-use mathlib.Core.Bool.{Bool, true, false, not, cond, _&&_, _||_}
+use mathlib.Core.Path.{_≡_, refl, _∙_}
+use mathlib.Core.Bool.{Bool, true, false, not, cond}
 use mathlib.Core.List.{List, [], _∷_, _++_, map}
-use Prim.Native.Nat.{ℕ, zero, suc, _+_, _-_, _*_, _≤_, _<_, max}
+use Prim.Native.Nat.{ℕ, zero, suc, _+_, _≤_, _<_}
 use native.Mathlib.Omega.{arith}
-use lib.ListN.{
-  length,
-  getD,
-  take,
-  drop,
-  replicate,
-  length-map,
-  length-append,
-  length-replicate,
-  length-take,
-  length-drop,
-}
+use lib.ListN.{length, take, drop, replicate, length-map, length-append, length-replicate, length-take, length-drop}
 use Rattle.logic.specs.Net.{Net, constant, slot}
-use Rattle.logic.specs.Table.{tab, length-tab}
+use Rattle.logic.specs.Table.{length-tab}
 use Rattle.logic.specs.declared.Trit.{Trit}
 use Rattle.logic.specs.declared.Trit.the-variants.{Zero, One, Undef}
-use Rattle.bitvec.specs.Bits.{Bits, nat2bv}
+use Rattle.bitvec.specs.Bits.{nat2bv}
 use Rattle.bitvec.specs.Ops.{bvmul}
 use Rattle.engine.specs.Call as c
 use Rattle.engine.specs.Call.{BinaryOp}
 use Rattle.engine.specs.Meaning.{Value, bits, Assignment}
 use Rattle.cell.specs.Cell.{Cell, Control, FlipFlop, Shift, Binary, binaryWidth, outputLen}
 use Rattle.cell.specs.Cell as cells
-use Rattle.smt.specs.Prog.{
-  Prog,
-  ret,
-  op,
-  declare,
-  bind,
-  bind2,
-  _>>=_,
-  Age,
-  curr,
-  past,
-  Half,
-  isUndef,
-  isOne,
-  BitVec,
-  bv,
-  TritVec,
-  tv,
-}
+use Rattle.smt.specs.Prog.{_>>=_, Age, curr, past, isUndef, isOne, TritVec}
 use Rattle.smt.specs.Builder.{
   tvLit,
   tvBind,
   tvExtract,
   tvNot,
-  tvAnd,
   tvOr,
   tvXor,
   tvMux,
   tvConcat,
   collect,
-  netOf,
   valueOf,
   currNet,
   pastNet,
   invertNet,
   clockNet,
   tvShift,
-  Prepared,
   outputNets,
   oneHot,
   overwritten,
   hasClear,
   shiftWidth,
   zext,
-  sext,
   extended,
   firstMatch,
   net,
@@ -90,11 +57,10 @@ use Rattle.smt.specs.Builder.{
   cleared,
   dffCell,
   adcCell,
-  tvBinary,
   cell,
 }
 use Rattle.rules.specs.Shape.{Shaped, Wide}
-use Rattle.smt.specs.Wp.{wp, wp-seq, wp-mono}
+use Rattle.smt.specs.Wp.{wp, wp-seq}
 use Rattle.smt.specs.Formula.{
   TritBits,
   tb,

@@ -1,6 +1,6 @@
 -- Requirement 2: the bits of a cell's terms show the cell's rule on what its nets show, whatever their hidden bits.
 use mathlib.Core.Path.{_≡_, refl, sym, ap, ap₂, _∙_}
-use mathlib.Core.Bool.{Bool, true, false, not, cond, _&&_, _||_}
+use mathlib.Core.Bool.{Bool, true, false, not, cond}
 use mathlib.Core.List.{List, [], _∷_, _++_, map, map-append}
 use Prim.Native.Nat.{ℕ, zero, suc, _+_, _-_, _*_, _≤_, _<_, max}
 use native.Mathlib.Numerals.{add-one}
@@ -26,7 +26,7 @@ use Rattle.logic.specs.Trit.{shows, xOf, yOf}
 use Rattle.logic.specs.declared.Trit.{Trit}
 use Rattle.logic.specs.declared.Trit.the-variants.{Zero, One, Undef}
 use Rattle.bitvec.specs.Bits.{Bits, bv2nat, nat2bv}
-use Rattle.bitvec.specs.Ops.{bvmul, msb}
+use Rattle.bitvec.specs.Ops.{bvmul}
 use Rattle.bitvec.specs.Laws.{length-bvshl, length-bvlshr, length-bvashr}
 use Rattle.engine.specs.Call.{BinaryOp}
 use Rattle.engine.specs.Call as c
@@ -40,7 +40,7 @@ use Rattle.rules.specs.Rules as r
 use Rattle.rules.specs.CellRule.{Trits, ofNet, asRead, control, inactive, outputs, read, edge, flipFlopInputs, cellRule}
 use Rattle.rules.specs.CellRule as rule
 use Rattle.rules.specs.Shape.{Shaped}
-use Rattle.smt.specs.Prog.{Age, curr, past, Half, isUndef, isOne, TritVec}
+use Rattle.smt.specs.Prog.{Age, curr, past, isUndef, isOne, TritVec}
 use Rattle.smt.specs.Emit.{St, emit}
 use Rattle.smt.specs.Builder.{
   outputNets,
@@ -51,7 +51,6 @@ use Rattle.smt.specs.Builder.{
   shiftWidth,
   ilog2,
   zext,
-  sext,
   extended,
   cell,
 }
@@ -66,16 +65,8 @@ use Rattle.smt.specs.Formula.{
   bitOf,
   readBits,
   litBits,
-  concatBits,
   extractBits,
-  notBits,
-  andBits,
-  orBits,
-  xorBits,
   muxBits,
-  invertBits,
-  isZero,
-  adcBits,
   shiftBits,
   binaryBits,
 }
@@ -90,17 +81,14 @@ use Rattle.smt.specs.CellBits.{
   clockBits,
   shiftedBits,
   shiftCellBits,
-  comparedBits,
   productBits,
   sumBits,
-  matchesBits,
   matchBits,
   loadedBits,
   clockedBits,
   clearedBits,
   adcCellBits,
   cellBits,
-  wide,
   length-overwritten,
   NotInput,
   cell-wp,
@@ -108,7 +96,6 @@ use Rattle.smt.specs.CellBits.{
 use Rattle.smt.specs.Shows.{
   Shown,
   empty,
-  lane,
   Shows,
   shown-is,
   shown-x,
@@ -123,7 +110,6 @@ use Rattle.smt.specs.Shows.{
   mux-shows,
   lit-shows,
   invert-shows,
-  append-shows,
   Singles,
   none,
   more,

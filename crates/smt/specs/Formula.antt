@@ -2,13 +2,13 @@
 -- its calls spell, under QF_BV's operations.
 use mathlib.Core.Bool.{Bool, true, false, not, cond, _&&_, _||_}
 use mathlib.Core.List.{List, [], _∷_, _++_, map}
-use Prim.Native.Nat.{ℕ, zero, suc, _+_, _-_}
-use lib.ListN.{length, getD, take, drop, replicate}
+use Prim.Native.Nat.{ℕ, _-_}
+use lib.ListN.{getD}
 use Rattle.logic.specs.Table.{zipWith}
 use Rattle.logic.specs.Trit.{shows, xOf, yOf}
 use Rattle.logic.specs.Net.{Net, constant, slot}
 use Rattle.logic.specs.declared.Trit.{Trit}
-use Rattle.logic.specs.declared.Trit.the-variants.{Zero, One, Undef}
+use Rattle.logic.specs.declared.Trit.the-variants.{One}
 use Rattle.bitvec.specs.Bits.{Bits}
 use Rattle.bitvec.specs.Ops.{equal, concat, extract, bvnot, bvand, bvor, bvxor, bvadd, bvcomp, bvmul}
 use Rattle.engine.specs.Call.{BinaryOp, Compare}
@@ -16,7 +16,7 @@ use Rattle.engine.specs.Meaning.{Assignment, denoteOp, denoteCompare}
 use Rattle.cell.specs.Cell.{Binary}
 use Rattle.cell.specs.Cell as cells
 use Rattle.engine.specs.Call as c
-use Rattle.smt.specs.Prog.{Age, curr, past, Half, isUndef, isOne}
+use Rattle.smt.specs.Prog.{Age, Half, isUndef, isOne}
 use Rattle.smt.specs.Emit.{netName}
 use Rattle.smt.specs.Builder.{zeros, ones}
 

@@ -1,14 +1,13 @@
 -- tv_eq and tv_refines: the term of tv_eq is true just where the bits are equal, that of tv_refines just where what
 -- `from` shows refines what `to` shows. So it is false exactly where some trit of `from` is defined and that of `to`
 -- is not the same.
-use mathlib.Core.Path.{_≡_, refl, sym, ap, ap₂, _∙_}
+use mathlib.Core.Path.{_≡_, refl, ap, ap₂, _∙_}
 use mathlib.Core.Bool.{Bool, true, false, not, _&&_}
-use mathlib.Core.List.{List, [], _∷_}
-use Prim.Native.Nat.{ℕ, zero, suc}
+use mathlib.Core.List.{List}
+use Prim.Native.Nat.{ℕ}
 use Rattle.logic.specs.Table.{zipWith}
 use Rattle.logic.specs.Trit.{shows}
 use Rattle.logic.specs.declared.Trit.{Trit}
-use Rattle.logic.specs.declared.Trit.the-variants.{Zero, One, Undef}
 use Rattle.bitvec.specs.Bits.{Bits}
 use Rattle.bitvec.specs.Ops.{same, equal, bvnot, bvand}
 use Rattle.bitvec.specs.Numbers.{equal-refl}

@@ -1,19 +1,19 @@
 -- Two vectors of bits show a vector of trits. Each formula of the builder on vectors of one width shows its rule on
 -- what its operands show, whatever their hidden bits: one induction over the lanes for each, and in a lane a table.
-use mathlib.Core.Path.{_≡_, refl, sym, ap, ap₂, _∙_}
+use mathlib.Core.Path.{_≡_, refl, ap, _∙_}
 use mathlib.Core.Bool.{Bool, true, false, not, cond, _&&_, _||_}
 use mathlib.Core.List.{List, [], _∷_, _++_, map}
-use Prim.Native.Nat.{ℕ, zero, suc, _+_, _-_, _≤_, _<_}
+use Prim.Native.Nat.{ℕ, zero, suc, _+_, _<_}
 use native.Mathlib.Nat.{zero-add, suc-add}
 use native.Mathlib.Omega.{arith}
 use lib.Dec.{T}
-use lib.ListN.{length, getD, replicate}
+use lib.ListN.{length, getD}
 use Rattle.logic.specs.Table.{zipWith}
-use Rattle.logic.specs.Trit.{shows, xOf, yOf}
+use Rattle.logic.specs.Trit.{shows}
 use Rattle.logic.specs.declared.Trit.{Trit}
 use Rattle.logic.specs.declared.Trit.the-variants.{Zero, One, Undef}
 use Rattle.bitvec.specs.Bits.{Bits}
-use Rattle.bitvec.specs.Ops.{equal, bvnot, bvand, bvor, bvxor, differ, bvcomp}
+use Rattle.bitvec.specs.Ops.{equal, bvand, bvor, bvxor, differ}
 use Rattle.rules.specs.Trits as t
 use Rattle.rules.specs.Rules as r
 use Rattle.smt.specs.Terms.{extract-one}
@@ -23,9 +23,6 @@ use Rattle.smt.specs.Formula.{
   show,
   litBits,
   concatBits,
-  is0,
-  is1,
-  isTrue,
   extractBits,
   notBits,
   andBits,

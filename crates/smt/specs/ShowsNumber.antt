@@ -3,41 +3,28 @@
 use mathlib.Core.Path.{_≡_, refl, sym, ap, ap₂, _∙_}
 use mathlib.Core.Bool.{Bool, true, false, not, cond, _&&_, _||_, false≢true}
 use mathlib.Core.List.{List, [], _∷_, _++_, map}
-use Prim.Native.Nat.{ℕ, zero, suc, _+_, _-_, _*_, _/_, _%_, _^_, _≤_, _<_}
+use Prim.Native.Nat.{ℕ, zero, suc, _+_, _-_, _*_, _/_, _%_, _^_, _<_}
 use native.Mathlib.Nat.{pow-suc, mul-comm, div-div-eq-div-mul, div-one, mod-add-mod}
 use native.Mathlib.Numerals.{add-one}
 use native.Mathlib.Omega.{arith}
-use lib.Dec.{eqb, ltb}
-use lib.ListN.{length, getD, take, drop, replicate, length-append, length-replicate, length-map}
-use Rattle.logic.specs.Table.{zipWith, tab, tab-ext}
+use lib.Dec.{eqb}
+use lib.ListN.{length, getD, take, replicate, length-append, length-map}
+use Rattle.logic.specs.Table.{tab, tab-ext}
 use Rattle.logic.specs.Trit.{shows}
 use Rattle.logic.specs.declared.Trit.{Trit}
 use Rattle.logic.specs.declared.Trit.the-variants.{Zero, One, Undef}
 use Rattle.bitvec.specs.Bits.{Bits, bit, bv2nat, nat2bv, odd}
-use Rattle.bitvec.specs.Ops.{same, equal, concat, bvnot, bvand, bvor, bvxor, bvadd, bvcomp, bvult, bvslt, msb, bvmul}
+use Rattle.bitvec.specs.Ops.{same, equal, concat, bvnot, bvand, bvor, bvxor, bvadd, bvult, bvslt, msb}
 use Rattle.bitvec.specs.Laws.{length-nat2bv, bv2nat-nat2bv, nat2bv-mod}
 use Rattle.bitvec.specs.Numbers.{bvslt-signs}
 use Rattle.bitvec.specs.Shifts.{bv2nat-zeros}
 use Rattle.engine.specs.Call as c
-use Rattle.rules.specs.Trits as t
 use Rattle.rules.specs.Trits.{isX, anyX, digit, number, trit, bitAt}
 use Rattle.rules.specs.Rules as r
 use Rattle.rules.specs.Number.{sum-low}
 use Rattle.smt.specs.Builder.{zeros, ones}
 use Rattle.smt.specs.Wp.{equal-eq}
-use Rattle.smt.specs.Formula.{
-  TritBits,
-  tb,
-  isZero,
-  noX,
-  oneBit,
-  equalsBits,
-  lessBits,
-  mulBits,
-  carryOr,
-  carryBits,
-  adcBits,
-}
+use Rattle.smt.specs.Formula.{tb, isZero, noX, oneBit, equalsBits, lessBits, mulBits, carryOr, carryBits, adcBits}
 use Rattle.smt.specs.Shows.{Shown, empty, lane, Shows, shown-x, shown-y, shown-ts, one-more}
 
 -- ---- X or not

@@ -1,9 +1,9 @@
 -- The shifts show their rules: QF_BV's three shifts bit by bit, the places to shift by as a number that does not
 -- overflow at prepare_shift's width, and a value extended by its fill.
-use mathlib.Core.Path.{_≡_, refl, sym, ap, ap₂, _∙_}
-use mathlib.Core.Bool.{Bool, true, false, not, cond, _&&_, _||_, Bool·not-not}
-use mathlib.Core.List.{List, [], _∷_, _++_, map}
-use Prim.Native.Nat.{ℕ, zero, suc, _+_, _-_, _*_, _/_, _%_, _^_, _≤_, _<_, max}
+use mathlib.Core.Path.{_≡_, refl, sym, ap, _∙_}
+use mathlib.Core.Bool.{Bool, true, false, not, cond, Bool·not-not}
+use mathlib.Core.List.{List, [], _∷_, _++_}
+use Prim.Native.Nat.{ℕ, zero, suc, _+_, _-_, _*_, _/_, _^_, _≤_, _<_, max}
 use native.Mathlib.Nat.{pow-suc, mul-le-mul, mod-eq-of-lt, add-comm}
 use native.Mathlib.Omega.{arith}
 use lib.Dec.{ltb}
@@ -16,7 +16,6 @@ use lib.ListN.{
   replicate,
   length-append,
   length-replicate,
-  length-map,
   List·getD-append,
   List·getD-eq-default,
   List·getD-map,
@@ -30,14 +29,12 @@ use Rattle.logic.specs.declared.Trit.{Trit}
 use Rattle.logic.specs.declared.Trit.the-variants.{Zero, One, Undef}
 use Rattle.bitvec.specs.Bits.{Bits, bv2nat, nat2bv}
 use Rattle.bitvec.specs.Ops.{extract, bvnot, msb, bvshl, bvlshr, bvashr, bvmul}
-use Rattle.bitvec.specs.Laws.{length-bvnot, length-bvlshr, bv2nat-nat2bv, bv2nat-lt}
+use Rattle.bitvec.specs.Laws.{length-bvnot, length-bvlshr, bv2nat-nat2bv}
 use Rattle.bitvec.specs.Numbers.{bv2nat-bvmul}
 use Rattle.bitvec.specs.Shifts.{shl-list, lshr-list}
-use Rattle.rules.specs.Trits.{anyX, number, digit, isX}
-use Rattle.rules.specs.Rules as r
-use Rattle.smt.specs.Builder.{ones, ilog2, halvings, shiftWidth}
-use Rattle.smt.specs.Formula.{TritBits, tb}
-use Rattle.smt.specs.Shows.{Shown, empty, lane, shown-x, shown-y, shown-ts, shown-at, getD-any}
+use Rattle.rules.specs.Trits.{anyX, number}
+use Rattle.smt.specs.Builder.{ones, ilog2, halvings}
+use Rattle.smt.specs.Shows.{Shown, lane, shown-x, shown-y, shown-ts, shown-at, getD-any}
 use Rattle.smt.specs.ShowsNumber.{number-defined, ones-shows, shown-tab}
 
 -- ---- the shifts, bit by bit

@@ -1,11 +1,11 @@
 -- The terms that each function of the builder makes have the bits that Formula says, under any assignment and any
 -- valuation that meets its calls.
-use mathlib.Core.Path.{_≡_, refl, sym, ap, ap₂, _∙_}
-use mathlib.Core.Bool.{Bool, true, false, not, cond, _&&_, _||_}
-use mathlib.Core.List.{List, [], _∷_, _++_, map, append-nil}
-use Prim.Native.Nat.{ℕ, zero, suc, _+_, _-_, _≤_, _<_}
+use mathlib.Core.Path.{_≡_, refl, sym, ap, _∙_}
+use mathlib.Core.Bool.{Bool, false}
+use mathlib.Core.List.{List, [], _∷_, map, append-nil}
+use Prim.Native.Nat.{ℕ, zero, suc, _+_, _-_, _<_}
 use native.Mathlib.Omega.{arith}
-use lib.ListN.{length, getD, take, drop, replicate, drop-of-length-le, length-map}
+use lib.ListN.{length, getD, drop, drop-of-length-le, length-map}
 use lib.Seq.{drop-cons}
 use Rattle.logic.specs.Net.{Net, constant, slot}
 use Rattle.logic.specs.declared.Trit.{Trit}
@@ -13,29 +13,10 @@ use Rattle.bitvec.specs.Bits.{Bits}
 use Rattle.bitvec.specs.Ops.{extract}
 use Rattle.engine.specs.Call.{BinaryOp, Compare}
 use Rattle.engine.specs.Call as c
-use Rattle.engine.specs.Meaning.{Value, bool, bits, asBool, asBits, Assignment, denote, denoteOp, denoteCompare}
+use Rattle.engine.specs.Meaning.{Value, bool, bits, Assignment}
 use Rattle.cell.specs.Cell.{Control, Binary}
 use Rattle.cell.specs.Cell as cells
-use Rattle.smt.specs.Prog.{
-  Prog,
-  ret,
-  op,
-  declare,
-  bind,
-  bind2,
-  _>>=_,
-  Age,
-  curr,
-  past,
-  Half,
-  isUndef,
-  isOne,
-  BitVec,
-  bv,
-  TritVec,
-  tv,
-}
-use Rattle.smt.specs.Emit.{netName}
+use Rattle.smt.specs.Prog.{Prog, _>>=_, Age, isUndef, isOne, BitVec, bv, TritVec, tv}
 use Rattle.smt.specs.Builder.{
   bvConcatOn,
   bvConcat,
@@ -44,7 +25,6 @@ use Rattle.smt.specs.Builder.{
   boolToBv,
   tvLit,
   tvConst,
-  tvBind,
   tvConcatOn,
   tvConcat,
   tvExtract,
@@ -60,10 +40,7 @@ use Rattle.smt.specs.Builder.{
   collect,
   netOf,
   valueOf,
-  currNet,
-  pastNet,
   invertNet,
-  clockNet,
   bvNoX,
   carryX,
   tvAdc,
@@ -74,7 +51,7 @@ use Rattle.smt.specs.Builder.{
   tvShift,
   Prepared,
 }
-use Rattle.smt.specs.Wp.{wp, wp-seq, wp-mono, Named}
+use Rattle.smt.specs.Wp.{wp, wp-seq}
 use Rattle.smt.specs.Formula.{
   TritBits,
   tb,
@@ -85,11 +62,6 @@ use Rattle.smt.specs.Formula.{
   readBits,
   litBits,
   concatBits,
-  is0,
-  is1,
-  isZero,
-  isTrue,
-  oneBit,
   extractBits,
   notBits,
   andBits,
@@ -99,7 +71,6 @@ use Rattle.smt.specs.Formula.{
   invertBits,
   sameBits,
   refinesBits,
-  noX,
   equalsBits,
   lessBits,
   mulBits,

@@ -1,20 +1,18 @@
 -- What holds of the result of a run of the builder, under any valuation of the terms that meets what it emits. The
 -- rule of each kind of call is a weakest precondition with no state in it, so a run's parts are judged one by one.
 use mathlib.Core.Path.{_≡_, refl, sym, ap, ap₂, _∙_}
-use mathlib.Core.Bool.{Bool, true, false, not, cond, _&&_, false≢true}
+use mathlib.Core.Bool.{Bool, true, false, _&&_, false≢true}
 use mathlib.Core.List.{List, [], _∷_, _++_}
-use Prim.Native.Nat.{ℕ, zero, suc, _+_, _*_, _≤_, _<_}
+use Prim.Native.Nat.{ℕ, zero, suc}
 use native.Mathlib.Omega.{arith}
-use native.Mathlib.Decide.{ℕ-discrete}
 use lib.ListN.{length, getD, set}
-use lib.Seq.{getD-set-same, getD-set-other}
 use Rattle.bitvec.specs.Bits.{Bits}
 use Rattle.bitvec.specs.Ops as bv
-use Rattle.engine.specs.Call.{Name, Term, Call}
+use Rattle.engine.specs.Call.{Name, Call}
 use Rattle.engine.specs.Call as c
-use Rattle.engine.specs.Meaning.{Value, bool, bits, asBool, asBits, equalValues, Assignment, denote, Holds}
+use Rattle.engine.specs.Meaning.{Value, bool, bits, equalValues, Assignment, denote, Holds}
 use Rattle.smt.specs.Prog.{Prog, ret, op, declare, bind, bind2, _>>=_, Age, curr, past, Half, isUndef, isOne}
-use Rattle.smt.specs.Emit.{St, Out, netName, offset, place, at, reread, learn, after, known, emit}
+use Rattle.smt.specs.Emit.{St, netName, place, at, reread, learn, after, known, emit}
 
 module _ (ρ : Assignment) (v : ℕ → Value) where
   -- The bits of a net's name, one of them.

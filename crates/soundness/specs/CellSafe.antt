@@ -1,58 +1,52 @@
 -- Every cell of an accepted list makes well-formed calls, and its two terms have the cell's output width.
-use mathlib.Core.Path.{_≡_, refl, sym, ap, ap₂, _∙_}
+use mathlib.Core.Path.{_≡_, refl}
 use mathlib.Core.Bool.{Bool, true, false, not, cond}
-use mathlib.Core.List.{List, [], _∷_, _++_, map}
+use mathlib.Core.List.{List, [], _∷_, _++_}
 use Prim.Native.Nat.{ℕ, zero, suc, _+_, _-_, _^_, _/_, _≤_, _<_, max}
 use native.Mathlib.Nat.{pow-suc, le-trans}
 use native.Mathlib.Numerals.{add-one}
 use native.Mathlib.Omega.{arith}
 use lib.Dec.{ltb, eqb}
-use borrow.Author.Tests.{ltb-true, ltb-false}
-use lib.ListN.{length, getD, take, drop, replicate, length-map, length-append, length-replicate}
+use borrow.Author.Tests.{ltb-false}
+use lib.ListN.{length, getD, take, drop, replicate, length-append, length-replicate}
 use Rattle.logic.specs.Net.{Net, constant, slot}
 use Rattle.logic.specs.Table.{tab, length-tab}
 use Rattle.logic.specs.declared.Trit.{Trit}
 use Rattle.logic.specs.declared.Trit.the-variants.{Zero, One, Undef}
-use Rattle.bitvec.specs.Bits.{Bits, nat2bv}
 use Rattle.bitvec.specs.Laws.{length-nat2bv}
 use Rattle.engine.specs.Call.{BinaryOp}
 use Rattle.engine.specs.Call as c
 use Rattle.engine.specs.Sorts.{Sort}
-use Rattle.cell.specs.Cell.{Cell, Control, FlipFlop, Shift, Binary, binaryWidth, outputLen}
+use Rattle.cell.specs.Cell.{Cell, Control, FlipFlop, Shift, binaryWidth, outputLen}
 use Rattle.cell.specs.Cell as cells
 use Rattle.rules.specs.Width.{Each}
 use Rattle.rules.specs.Shape.{Shaped}
 use Rattle.working_out.specs.Laid.{netsOf}
 use Rattle.bound.specs.Bounded.{Bounded}
-use Rattle.smt.specs.Prog.{Prog, ret, op, declare, bind, bind2, _>>=_, Age, curr, past, BitVec, bv, TritVec, tv}
+use Rattle.smt.specs.Prog.{_>>=_, curr, past, TritVec}
 use Rattle.smt.specs.Builder.{
   tvLit,
   tvBind,
   tvExtract,
   tvNot,
-  tvAnd,
   tvOr,
   tvXor,
   tvMux,
   tvConcat,
   collect,
-  netOf,
   valueOf,
   currNet,
   pastNet,
   invertNet,
   clockNet,
   tvShift,
-  Prepared,
   outputNets,
   oneHot,
   overwritten,
   hasClear,
-  ilog2,
   halvings,
   shiftWidth,
   zext,
-  sext,
   extended,
   firstMatch,
   net,
@@ -71,22 +65,14 @@ use Rattle.smt.specs.Builder.{
   cleared,
   dffCell,
   adcCell,
-  tvBinary,
-  tvAdc,
   cell,
 }
 use Rattle.smt.specs.CellBits.{NotInput, wide, length-overwritten}
 use Rattle.soundness.specs.Safe.{
-  Truth,
   Width,
-  Made,
-  Made2,
   safe,
-  safe-mono,
   safe-seq,
-  VectorOf,
   TritsOf,
-  later,
   tvBind-safe,
   tvLit-safe,
   tvNot-safe,

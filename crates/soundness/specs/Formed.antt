@@ -1,6 +1,6 @@
 -- The calls of a safe run are formed, as fault 19 asks: well sorted, each name declared once, numbers within a word.
 use mathlib.Core.Path.{_≡_, refl, sym, ap, ap₂, _∙_}
-use mathlib.Core.Bool.{Bool, true, false}
+use mathlib.Core.Bool.{false}
 use mathlib.Core.List.{List, [], _∷_, _++_, List·Memᴰ, List·Memᴰ·head, List·Memᴰ·tail}
 use Prim.Native.Nat.{ℕ, zero, suc, _+_, _*_, _≤_, _<_}
 use native.Mathlib.Omega.{arith}
@@ -10,28 +10,14 @@ use lib.ListN.{length, getD, set, length-set, List·getD-append}
 use lib.Seq.{getD-append-seam, getD-set-same}
 use Rattle.engine.specs.Call.{Name, Letter, Suffix, Term, Call}
 use Rattle.engine.specs.Call as c
-use Rattle.engine.specs.Meaning.{argumentsOf, All, terms}
+use Rattle.engine.specs.Meaning.{argumentsOf, terms}
 use Rattle.engine.specs.Laws.{All-map, length-snoc}
 use Rattle.engine.specs.Sorts.{Sort, sortAt, sortOf, IsBool, Context, Formed, payloadLimit, countLimit}
 use Rattle.engine.specs.Sorts as sorts
 use Rattle.smt.specs.Prog.{Prog, ret, op, declare, bind, bind2, Age, curr, past, Half, isUndef, isOne}
-use Rattle.smt.specs.Emit.{
-  St,
-  letterOf,
-  suffixOf,
-  netName,
-  tempName,
-  offset,
-  place,
-  at,
-  reread,
-  learn,
-  after,
-  emit,
-  known,
-}
+use Rattle.smt.specs.Emit.{St, netName, tempName, place, at, reread, learn, after, emit, known}
 use Rattle.smt.specs.Wp.{stored}
-use Rattle.soundness.specs.Safe.{Truth, Width, sortUnder, Fine, Made, Made2, safe}
+use Rattle.soundness.specs.Safe.{Truth, sortUnder, Fine, safe}
 use Rattle.soundness.specs.Solve.{WellSorted, fine-arguments}
 
 -- ---- what is left of Formed: names and numbers

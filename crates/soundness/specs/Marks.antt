@@ -1,8 +1,8 @@
 -- The marks: a slot that is marked n or p has both names of that letter declared, x and y. For the builder declares
 -- the two one after the other, and marks a slot only where it declares.
-use mathlib.Core.Path.{_≡_, refl, sym, ap, _∙_}
-use mathlib.Core.List.{List, [], _∷_, _++_}
-use Prim.Native.Nat.{ℕ, zero, suc, _+_, _*_, _≤_, _<_}
+use mathlib.Core.Path.{_≡_, refl, sym, _∙_}
+use mathlib.Core.List.{List, _∷_, _++_}
+use Prim.Native.Nat.{ℕ, zero, suc, _*_, _<_}
 use native.Mathlib.Omega.{arith}
 use native.Mathlib.Decide.{ℕ-discrete}
 use lib.ListN.{length, getD, set, length-set}
@@ -13,7 +13,7 @@ use Rattle.engine.specs.Call as c
 use Rattle.engine.specs.Sorts.{Sort}
 use Rattle.smt.specs.Emit.{St, netName, place, mark, at, reread, learn, after, emit, known}
 use Rattle.smt.specs.Wp.{stored}
-use Rattle.soundness.specs.Safe.{safe, Made, Made2}
+use Rattle.soundness.specs.Safe.{safe}
 use Rattle.soundness.specs.Solve.{WellSorted}
 use Rattle.soundness.specs.Formed.{kept, KnownSorts, known-on, known-learnt}
 

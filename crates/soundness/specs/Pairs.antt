@@ -1,14 +1,14 @@
 -- Every function of the builder declares the names of a net in pairs, x and then y.
 use mathlib.Core.Path.{refl}
 use mathlib.Core.Bool.{Bool, true, false, cond}
-use mathlib.Core.List.{List, [], _∷_, _++_}
+use mathlib.Core.List.{List, [], _∷_}
 use Prim.Native.Nat.{ℕ, zero, suc}
 use native.Mathlib.Omega.{arith}
 use lib.ListN.{length, replicate}
 use Rattle.logic.specs.Net.{Net, constant, slot}
 use Rattle.logic.specs.declared.Trit.{Trit}
 use Rattle.logic.specs.declared.Trit.the-variants.{Zero, One, Undef}
-use Rattle.engine.specs.Call.{BinaryOp, Compare}
+use Rattle.engine.specs.Call.{BinaryOp}
 use Rattle.engine.specs.Call as c
 use Rattle.cell.specs.Cell.{Cell, Control, FlipFlop, Shift, Binary}
 use Rattle.cell.specs.Cell as cells
@@ -21,7 +21,6 @@ use Rattle.smt.specs.Builder.{
   boolToBv,
   tvLit,
   tvConst,
-  tvBind,
   tvConcatOn,
   tvConcat,
   tvExtract,
@@ -71,7 +70,7 @@ use Rattle.smt.specs.Builder.{
   hasClear,
   cell,
 }
-use Rattle.soundness.specs.Marks.{Pending, clear, Paired, paired-seq}
+use Rattle.soundness.specs.Marks.{clear, Paired, paired-seq}
 
 -- Declares in pairs, from nothing due.
 abbrev pub Pairs : {A : Type 0} → Prog A → Type 0

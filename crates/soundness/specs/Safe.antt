@@ -1,16 +1,15 @@
 -- The calls of a run are well formed: each argument is an earlier term of the sort that SMT-LIB asks, each width is
 -- at most 64, and each net's slot is one of the design's. Stated over the sorts of all terms, with no state in it.
-use mathlib.Core.Path.{_≡_, refl, sym, ap, ap₂, _∙_}
-use mathlib.Core.Bool.{Bool, true, false, not, cond}
-use mathlib.Core.List.{List, [], _∷_, _++_, map}
+use mathlib.Core.Path.{_≡_, refl, ap}
+use mathlib.Core.Bool.{true, false, not}
+use mathlib.Core.List.{List, [], _∷_}
 use Prim.Native.Nat.{ℕ, zero, suc, _+_, _-_, _≤_, _<_}
 use native.Mathlib.Nat.{le-trans}
 use native.Mathlib.Omega.{arith}
-use lib.ListN.{length, replicate, length-map, length-replicate}
+use lib.ListN.{length, length-map, length-replicate}
 use Rattle.logic.specs.Net.{Net, constant, slot}
 use Rattle.logic.specs.Trit.{xOf, yOf}
 use Rattle.logic.specs.declared.Trit.{Trit}
-use Rattle.bitvec.specs.Bits.{Bits}
 use Rattle.cell.specs.Cell.{Control, Binary, binaryWidth}
 use Rattle.cell.specs.Cell as cells
 use Rattle.engine.specs.Call.{Term, BinaryOp, Compare}
@@ -18,30 +17,8 @@ use Rattle.engine.specs.Call as c
 use Rattle.engine.specs.Meaning.{All}
 use Rattle.rules.specs.Width.{Each}
 use Rattle.engine.specs.Sorts.{Sort, binarySort, countLimit}
-use Rattle.smt.specs.Prog.{
-  Prog,
-  ret,
-  op,
-  declare,
-  bind,
-  bind2,
-  _>>=_,
-  Age,
-  curr,
-  past,
-  Half,
-  BitVec,
-  bv,
-  TritVec,
-  tv,
-  resultWidth,
-  buildBvand,
-  buildBvor,
-  buildBvnot,
-}
+use Rattle.smt.specs.Prog.{Prog, ret, op, declare, bind, bind2, _>>=_, Age, BitVec, bv, TritVec, tv, resultWidth}
 use Rattle.smt.specs.Builder.{
-  zeros,
-  ones,
   bvConcatOn,
   bvConcat,
   bvIsZero,
@@ -65,10 +42,7 @@ use Rattle.smt.specs.Builder.{
   collect,
   netOf,
   valueOf,
-  currNet,
-  pastNet,
   invertNet,
-  clockNet,
   bvNoX,
   carryX,
   tvAdc,

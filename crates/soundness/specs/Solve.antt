@@ -1,16 +1,15 @@
 -- Temporaries exist: whatever bits the nets have, the temporaries can be chosen so that every call of a safe run
 -- holds, and the run's calls are well sorted. The values of the terms and of the temporaries are those that running
 -- the calls gives.
-use mathlib.Core.Path.{_≡_, refl, sym, ap, ap₂, _∙_}
-use mathlib.Core.Bool.{Bool, true, false, not, cond, _&&_, _||_}
-use mathlib.Core.List.{List, [], _∷_, _++_, map}
-use Prim.Native.Nat.{ℕ, zero, suc, _+_, _-_, _*_, _≤_, _<_}
+use mathlib.Core.Path.{_≡_, refl, sym, ap, _∙_}
+use mathlib.Core.Bool.{Bool, true, false, not, cond}
+use mathlib.Core.List.{List, [], _∷_, _++_}
+use Prim.Native.Nat.{ℕ, zero, suc, _+_, _≤_, _<_}
 use native.Mathlib.Omega.{arith}
 use native.Mathlib.Nat.{le-refl}
-use lib.ListN.{length, getD, set, length-append, List·getD-append}
-use lib.Seq.{getD-append-seam, getD-append-add}
+use lib.ListN.{length, getD, length-append, List·getD-append}
+use lib.Seq.{getD-append-add}
 use Rattle.bitvec.specs.Bits.{Bits}
-use Rattle.bitvec.specs.Ops as bv
 use Rattle.bitvec.specs.Laws.{
   length-concat,
   length-extract,
@@ -45,11 +44,11 @@ use Rattle.engine.specs.Meaning.{
 }
 use Rattle.engine.specs.Laws.{All-map, denote-ext, length-snoc}
 use Rattle.engine.specs.Sorts.{Sort, binarySort}
-use Rattle.smt.specs.Prog.{Prog, ret, op, declare, bind, bind2, _>>=_, Age, curr, past, Half, isUndef, isOne}
-use Rattle.smt.specs.Emit.{St, Out, netName, tempName, place, at, reread, learn, bound, bound2, after, known, emit}
-use Rattle.smt.specs.Wp.{Named, Known, place-inj, stored}
-use Rattle.smt.specs.Formula.{NetBits, netBits}
-use Rattle.soundness.specs.Safe.{Truth, Vector, Alike, Width, sortUnder, Fine, Made, Made2, safe}
+use Rattle.smt.specs.Prog.{Prog, ret, op, declare, bind, bind2, Age, curr, past, Half, isUndef, isOne}
+use Rattle.smt.specs.Emit.{St, netName, tempName, place, at, reread, learn, known, emit}
+use Rattle.smt.specs.Wp.{Known, place-inj, stored}
+use Rattle.smt.specs.Formula.{NetBits}
+use Rattle.soundness.specs.Safe.{Truth, Width, sortUnder, Fine, safe}
 
 -- ---- a list that goes on
 

@@ -1,14 +1,14 @@
 -- The assertions on temporaries, for a run from the builder's first state: whatever bits the nets have, some
 -- assignment with these bits satisfies them, and only one does, as far as the run's names go. So the temporaries
 -- leave nothing to choice.
-use mathlib.Core.Path.{_≡_, refl, sym, ap, _∙_}
+use mathlib.Core.Path.{_≡_, refl, sym, _∙_}
 use mathlib.Core.Bool.{false}
-use mathlib.Core.List.{List, [], _∷_, _++_, append-nil}
-use Prim.Native.Nat.{ℕ, zero, suc, _*_, _<_}
+use mathlib.Core.List.{List, [], _∷_, append-nil}
+use Prim.Native.Nat.{ℕ, suc, _*_}
 use native.Mathlib.Omega.{arith}
-use lib.ListN.{length, getD, replicate}
+use lib.ListN.{getD, replicate}
 use Rattle.engine.specs.Call.{Call}
-use Rattle.engine.specs.Meaning.{Value, bool, bits, Assignment, valueAt, run, Earlier, Holds, Sat}
+use Rattle.engine.specs.Meaning.{Value, bool, Assignment, valueAt, run, Earlier, Holds, Sat}
 use Rattle.engine.specs.Laws.{holds-sat, sat-holds}
 use Rattle.engine.specs.Sorts.{Sort}
 use Rattle.smt.specs.Prog.{Prog, Age, Half}
@@ -17,17 +17,14 @@ use Rattle.smt.specs.Formula.{NetBits}
 use Rattle.soundness.specs.Safe.{safe}
 use Rattle.smt.specs.ShowsShift.{getD-pad}
 use Rattle.soundness.specs.Solve.{
-  Extends,
   extends-refl,
   noTemp,
   assigned,
   assigned-net,
   exec,
-  Here,
   Met,
   meets,
   sorts,
-  WellSorted,
   sorted-earlier,
 }
 use Rattle.soundness.specs.Unique.{Agree, temporaries-unique}

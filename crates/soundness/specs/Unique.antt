@@ -1,21 +1,20 @@
 -- Temporaries are unique: two assignments that agree on the nets and meet the calls of a safe run agree on every name
 -- it declares.
-use mathlib.Core.Path.{_≡_, refl, sym, ap, ap₂, _∙_}
+use mathlib.Core.Path.{_≡_, refl, sym, ap, _∙_}
 use mathlib.Core.List.{List, [], _∷_, _++_}
-use Prim.Native.Nat.{ℕ, zero, suc, _+_, _≤_, _<_}
+use Prim.Native.Nat.{ℕ, zero, suc, _≤_, _<_}
 use native.Mathlib.Omega.{arith}
 use native.Mathlib.Decide.{ℕ-discrete}
-use lib.ListN.{length, getD, set}
+use lib.ListN.{getD}
 use Rattle.bitvec.specs.Bits.{Bits}
-use Rattle.engine.specs.Call.{Name, Term, Call}
+use Rattle.engine.specs.Call.{Call}
 use Rattle.engine.specs.Call as c
-use Rattle.engine.specs.Meaning.{Value, bool, bits, Assignment, denote, argumentsOf, Holds}
+use Rattle.engine.specs.Meaning.{Value, bits, Assignment, argumentsOf, Holds}
 use Rattle.engine.specs.Laws.{All-map, denote-ext}
-use Rattle.engine.specs.Sorts.{Sort}
 use Rattle.smt.specs.Prog.{Prog, ret, op, declare, bind, bind2, Age, Half}
 use Rattle.smt.specs.Emit.{St, netName, place, at, reread, learn, emit}
-use Rattle.smt.specs.Wp.{Named, Known, learnt, bound-eq, stored}
-use Rattle.soundness.specs.Safe.{Made, Made2, safe}
+use Rattle.smt.specs.Wp.{Named, learnt, bound-eq, stored}
+use Rattle.soundness.specs.Safe.{safe}
 use Rattle.soundness.specs.Solve.{sortOfValue, sorts, denote-sort, fine-arguments}
 
 -- The two agree on the names that calls declare.
