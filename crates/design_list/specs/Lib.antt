@@ -8,3 +8,4 @@ pub mod Cover
 pub mod Answers
 pub mod Accepted
 pub mod Table
+pub mod Facts
