@@ -16,7 +16,7 @@ use Rattle.logic.specs.Table.{tab, length-tab}
 use Rattle.bitvec.specs.Bits.{bit}
 use Rattle.engine.specs.Sorts.{Sort, Context, start, after, sortAt, Allowed}
 use Rattle.engine.specs.Structure.{originOf, sortFrom, sortOfTerm, declaredBefore}
-use Rattle.engine.specs.StructureLaws.{Below, sortFrom-ext}
+use Rattle.engine.specs.StructureLaws.{Below, sortFrom-ext, from-low, through-low}
 use Rattle.engine.specs.ReadBack.{reads-at, stands}
 use Rattle.engine.specs.Reached.{Makes, one, nothing, makes-at, makes-op, passes-snoc, Right, Passes, passes-forward, Tabled, sort-said, known-declared, known-after, getD-tab}
 use Rattle.engine.specs.Encode.{words, makesTerm, operationAt, countAt, argumentAt, nextAt, callAt, letterNumber, suffixNumber}
@@ -409,3 +409,8 @@ names-next names w at x right room named =
 pub names-none : (names : List ℕ) → ((k : ℕ) → getD names k 0 ≡ 0) → NamesTo names []
 unfolding known
 names-none names zeros l i s tl ti ts = rw (zeros (slotOf (payloadOf l) (payloadOf i) (payloadOf s)))
+
+-- A sort that is written fits a byte.
+pub record-low : (table w : List ℕ) (at : ℕ) → recordSort table w at ≤ 65
+record-low table w at =
+    from-low (sortOfTerm table w) (originOf (callAt w at)) (λ a. through-low (suc a) table w a)

@@ -8,19 +8,10 @@ use lib.ListN.{length, getD, set}
 use lib.Dec.{eqb, leb, ltb}
 use Rattle.logic.specs.Word.{kindOf, payloadOf}
 use Rattle.engine.specs.Call.{Name}
-use Rattle.engine.specs.Sorts.{Sort, noSort, Context}
-use Rattle.engine.specs.Encode.{
-  Op,
-  makesTerm,
-  letterNumber,
-  suffixNumber,
-  operationAt,
-  countAt,
-  argumentAt,
-  nextAt,
-  callAt,
-  offset,
-}
+use Rattle.engine.specs.Sorts.{Sort, noSort, Context, start, after}
+use Rattle.bitvec.specs.Bits.{bit}
+use Rattle.eval.specs.declared.Seen.{Seen}
+use Rattle.engine.specs.Encode.{Op, makesTerm, letterNumber, suffixNumber, operationAt, countAt, argumentAt, nextAt, callAt, offset, callOf}
 use Rattle.engine.specs.WellFormed.{
   isNumber,
   countFits,
@@ -134,3 +125,17 @@ noteName names w at =
     (set names
     (slotOf (payloadOf (getD w (at + 1) 0)) (payloadOf (getD w (at + 2) 0)) (payloadOf (getD w (at + 3) 0))) 1)
     names
+
+-- Whether an operation is the check, or none that a list can have.
+abbrev pub isCheck : Op → Bool
+isCheck op = after start (callOf op 0 (λ i. 0)) .checked
+
+-- How far a list is read, after the record at its place.
+abbrev pub seenNext : List ℕ → Seen → Seen
+seenNext w s =
+    record {
+      at = nextAt w (s .at);
+      terms = s .terms + bit (makesTerm (operationAt w (s .at)));
+      declared = s .declared + bit (isDeclare (operationAt w (s .at)));
+      checked = isCheck (operationAt w (s .at));
+    }

@@ -12,7 +12,9 @@ ghost use Rattle.engine.specs.Encode.{operationAt, countAt, argumentAt, callAt}
 ghost use Rattle.engine.specs.WellFormed.{firstFailing, outcome};
 ghost use Rattle.engine.specs.Structure.{capped, originBy, guarded, sortOfTerm, originOf};
 ghost use Rattle.call_list.specs.Operations.{opFrom, isDeclare};
-ghost use Rattle.eval.specs.Tables.{wordSort, recordSort, standsBy, wrongAs, slotOf, knownBy, againBy, headBy, onWrong, faultBy, checkedAs};
+ghost use Rattle.eval.specs.Tables.{wordSort, recordSort, standsBy, wrongAs, slotOf, knownBy, againBy, headBy, onWrong, faultBy, noteSort, noteName, isCheck, seenNext, checkedAs};
+ghost use Rattle.eval.specs.Checking.{Checked};
+ghost use Rattle.bitvec.specs.Bits.{bit};
 
 // What checking a call list answers: how many terms it makes and names it declares, or the first place at fault.
 pub enum CallList {
@@ -250,4 +252,137 @@ fn record_fault(calls: &[u32], sorts: &[u8], names: &[u8], terms: usize, at: usi
     } else {
         Wrong::At(at)
     }
+}
+
+// A number stored at a place of a table; past its end nothing changes.
+fn put_byte(table: &mut [u8], at: usize, value: u32)
+    requires { ⌜ value < 256 ⌝ }
+    ensures { λ _. ⌜ now (table .exit) ≡ set (now (table .entry)) at value ⌝ }
+{
+    if at < table.len() {
+        table[at] = value as u8;
+    }
+}
+
+// The sort of the term that a record makes goes into the table of sorts.
+fn note_sort(calls: &[u32], sorts: &mut [u8], at: usize, terms: usize)
+    ensures { λ _. ⌜ now (sorts .exit) ≡ noteSort (now (sorts .entry)) (now (calls .entry)) at terms ⌝ }
+{
+    if call_list::makes_term(call_list::operation_at(calls, at)) {
+        let sort = record_sort(calls, sorts, at);
+        put_byte(sorts, terms, sort);
+    }
+}
+
+// The name that a record declares goes into the table of names.
+fn note_name(calls: &[u32], names: &mut [u8], at: usize)
+    requires { ⌜ at < length (now calls) ⌝ }
+    ensures { λ _. ⌜ now (names .exit) ≡ noteName (now (names .entry)) (now (calls .entry)) at ⌝ }
+{
+    if call_list::is_declare(call_list::operation_at(calls, at)) {
+        let letter = logic::payload(logic::word_at(calls, at + 1));
+        let index = logic::word_at(calls, at + 2);
+        let suffix = logic::payload(logic::word_at(calls, at + 3));
+        if call_list::number_at_most(index, 65535) {
+            let low = logic::payload(index);
+            put_byte(
+                names,
+                (letter as usize * 3 + suffix as usize) * 65536 + low as usize,
+                1,
+            );
+        }
+    }
+}
+
+// How far a list is read: the place, the terms and names so far, and whether check was called.
+pub struct Seen {
+    pub at: usize,
+    pub terms: usize,
+    pub declared: usize,
+    pub checked: bool,
+}
+
+fn number(holds: bool) -> usize
+    ensures { λ r. ⌜ r ≡ bit holds ⌝ }
+{
+    if holds { 1 } else { 0 }
+}
+
+fn is_check(operation: Operation) -> bool
+    ensures { λ r. ⌜ r ≡ isCheck (opFrom operation) ⌝ }
+{
+    match operation {
+        Operation::BoolLit => false,
+        Operation::BoolIte => false,
+        Operation::Not => false,
+        Operation::And => false,
+        Operation::Lit => false,
+        Operation::Equal => false,
+        Operation::Ite => false,
+        Operation::Concat => false,
+        Operation::Extract => false,
+        Operation::BvNot => false,
+        Operation::Binary(_) => false,
+        Operation::Compare(_) => false,
+        Operation::Declare => false,
+        Operation::Assert => false,
+        Operation::Check => true,
+        Operation::Unknown => true,
+    }
+}
+
+// The same after the record at its place.
+fn after_record(calls: &[u32], seen: Seen) -> Seen
+    requires { ⌜ (seen .at < length (now calls)) × (seen .terms ≤ seen .at) × (seen .declared ≤ seen .at) ⌝ }
+    ensures { λ r. ⌜ r ≡ seenNext (now (calls .entry)) seen ⌝ }
+{
+    let operation = call_list::operation_at(calls, seen.at);
+    let n = call_list::count_at(calls, seen.at);
+    Seen {
+        at: seen.at + 1 + n as usize,
+        terms: seen.terms + number(call_list::makes_term(operation)),
+        declared: seen.declared + number(call_list::is_declare(operation)),
+        checked: is_check(operation),
+    }
+}
+
+// The check with its tables: sorts of the first terms, and names; the table of names starts all zeros.
+fn check_tables(calls: &[u32], sorts: &mut [u8], names: &mut [u8]) -> CallList
+    requires { ⌜ (589824 ≤ length (now names)) × ((k : ℕ) → getD (now names) k 0 ≡ 0) ⌝ }
+    ensures { λ r. ⌜ Checked (now (calls .entry)) (now (sorts .exit)) r ⌝ }
+{
+    let mut seen = Seen {
+        at: 0,
+        terms: 0,
+        declared: 0,
+        checked: false,
+    };
+    while seen.at < calls.len() {
+        if seen.checked {
+            return CallList::Malformed(seen.at);
+        }
+        match record_fault(calls, sorts, names, seen.terms, seen.at) {
+            Wrong::At(place) => {
+                return CallList::Malformed(place);
+            }
+            Wrong::None => {
+                note_sort(calls, sorts, seen.at, seen.terms);
+                note_name(calls, names, seen.at);
+                seen = after_record(calls, seen);
+            }
+        }
+    }
+    CallList::WellFormed {
+        terms: seen.terms,
+        declared: seen.declared,
+    }
+}
+
+// Whether a call list is well formed, and where it is not (fault 19).
+pub fn check(calls: &[u32]) -> CallList
+    ensures { λ r. ⌜ r ≡ checkedAs (outcome (now (calls .entry))) ⌝ }
+{
+    let mut sorts = [0u8; 65536];
+    let mut names = [0u8; 589824];
+    check_tables(calls, &mut sorts, &mut names)
 }

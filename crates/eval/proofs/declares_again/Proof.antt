@@ -1,4 +1,4 @@
--- `eval::declares_again` meets its contract: TODO. Assumes nothing.
+-- `eval::declares_again` meets its contract: each way out has what its tests say. Assumes nothing.
 use borrow.Author.Needs.{needs}
 use Rattle.eval.proofs.declares_again.Statement.{statement}
 use Rattle.eval.proofs.declares_again.Tie as tie

@@ -1,4 +1,4 @@
--- `eval::head_stands` meets its contract: TODO. Assumes nothing.
+-- `eval::head_stands` meets its contract: each way out has what its tests say. Assumes nothing.
 use borrow.Author.Tests.{lt-ltb, le-ltb, eq-eqb, ne-eqb}
 use borrow.Author.Needs.{needs}
 use Rattle.eval.proofs.head_stands.Statement.{statement}

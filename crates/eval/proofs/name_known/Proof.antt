@@ -1,4 +1,4 @@
--- `eval::name_known` meets its contract: TODO. Assumes nothing.
+-- `eval::name_known` meets its contract: each way out has what its tests say. Assumes nothing.
 use borrow.Author.Needs.{needs}
 use mathlib.Core.Path.{sym, _∙_}
 use native.Mathlib.Omega.{arith}

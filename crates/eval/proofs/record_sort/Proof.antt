@@ -1,4 +1,4 @@
--- `eval::record_sort` meets its contract: TODO. Assumes nothing.
+-- `eval::record_sort` meets its contract: each way out has what its tests say. Assumes nothing.
 use borrow.Author.Needs.{needs}
 use native.Mathlib.Omega.{arith}
 use Rattle.eval.proofs.record_sort.Statement.{statement}

@@ -1,4 +1,4 @@
--- `eval::word_sort` meets its contract: TODO. Assumes nothing.
+-- `eval::word_sort` meets its contract: each way out has what its tests say. Assumes nothing.
 use borrow.Author.Tests.{lt-ltb, le-ltb, eq-eqb, ne-eqb}
 use borrow.Author.Needs.{needs}
 use Rattle.eval.proofs.word_sort.Statement.{statement}
