@@ -411,7 +411,7 @@ pub fn place_of_term(calls: &[u32], term: Term) -> usize
 }
 
 // Whether an operation declares a name.
-fn is_declare(operation: Operation) -> bool
+pub fn is_declare(operation: Operation) -> bool
     ensures { λ r. ⌜ r ≡ isDeclare (opFrom operation) ⌝ }
 {
     match operation {

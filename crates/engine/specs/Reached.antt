@@ -124,7 +124,7 @@ makes x c.check h = nothing refl refl
 pub makes-at : (w : List ℕ) (at : ℕ) (x : Context) → Right w at x → Makes x (callAt w at)
 makes-at w at x r = makes x (callAt w at) (reads-at x w at (r .head) (r .arguments) .allowed)
 
-makes-op : (w : List ℕ) (at : ℕ) (x : Context) → Right w at x → makesTerm (operationAt w at) ≡ makesTerm (operationOf (callAt w at))
+pub makes-op : (w : List ℕ) (at : ℕ) (x : Context) → Right w at x → makesTerm (operationAt w at) ≡ makesTerm (operationOf (callAt w at))
 makes-op w at x r = ap makesTerm (sym (reads-at x w at (r .head) (r .arguments) .operation))
 
 -- Sorts so far stay.
@@ -297,7 +297,7 @@ word-same n a word e low = go (eqb a word) refl
         (e ∙ ap numberWord (sym (eqb-true (payloadOf word) n (right-of (isNumber word) (eqb (payloadOf word) n) u)))
         ∙ number-word word (eqb-true (kindOf word) 3 (left-of (isNumber word) (eqb (payloadOf word) n) u))))
 
-getD-tab : (n i : ℕ) (f : ℕ → ℕ) → i < n → getD (tab n f) i 0 ≡ f i
+pub getD-tab : (n i : ℕ) (f : ℕ → ℕ) → i < n → getD (tab n f) i 0 ≡ f i
 unfolding tab
 getD-tab zero i f h = absurd (omega arith)
 getD-tab (suc n) zero f h = refl
@@ -318,7 +318,7 @@ spelled-same x name width n a h e letter index suffix =
     (word-same _ (a 2) suffix (sym (getD-tab n 2 a (omega arith)) ∙ ap (λ (l : List ℕ). getD l 2 0) (sym e)) (omega arith))
 
 -- A right record makes known just the name that it declares.
-known-after : (x : Context) (call : Call) (n : ℕ) (a : ℕ → ℕ) → Allowed x call → words call ≡ tab n a → (l i s : ℕ)
+pub known-after : (x : Context) (call : Call) (n : ℕ) (a : ℕ → ℕ) → Allowed x call → words call ≡ tab n a → (l i s : ℕ)
     → known (after x call .names) l i s
     ≡ ((declares call && eqb (a 0) l && eqb (a 1) i && eqb (a 2) s) || known (x .names) l i s)
 unfolding known

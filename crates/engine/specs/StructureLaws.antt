@@ -90,7 +90,7 @@ sortFrom-ext k f g (Joined a b) h e = rw (e (a .0) (h .0), e (b .0) (h .1))
 capped-low : (s : ℕ) → capped s ≤ 65
 capped-low s = omega arith
 
-from-low : (f : ℕ → ℕ) (d : Origin) → ((a : ℕ) → f a ≤ 65) → sortFrom f d ≤ 65
+pub from-low : (f : ℕ → ℕ) (d : Origin) → ((a : ℕ) → f a ≤ 65) → sortFrom f d ≤ 65
 from-low f (Given s) h = capped-low s
 from-low f (Same a) h = h (a .0)
 from-low f (Joined a b) h = capped-low (f (a .0) + f (b .0))

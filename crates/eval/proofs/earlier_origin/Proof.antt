@@ -1,4 +1,4 @@
--- `eval::earlier_origin` meets its contract: TODO. Assumes nothing.
+-- `eval::earlier_origin` meets its contract: each way out has what its tests say. Assumes nothing.
 use borrow.Author.Tests.{lt-ltb, le-ltb}
 use borrow.Author.Needs.{needs}
 use Rattle.eval.proofs.earlier_origin.Statement.{statement}

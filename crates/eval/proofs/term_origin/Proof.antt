@@ -1,4 +1,4 @@
--- `eval::term_origin` meets its contract: TODO. Assumes nothing.
+-- `eval::term_origin` meets its contract: each way out has what its tests say. Assumes nothing.
 use borrow.Author.Tests.{lt-ltb, le-ltb}
 use borrow.Author.Needs.{needs}
 use Rattle.eval.proofs.term_origin.Statement.{statement}
