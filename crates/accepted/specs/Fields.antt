@@ -52,24 +52,59 @@ known-within total p known =
     go false false false false true a-is b-is d-is e-is k = ltb-true _ _ e-is
     go false false false false false a-is b-is d-is e-is k = absurd (false≢true k)
 
-module _ (w : List ℕ) (total : ℕ) where
-  -- The words from one place up to another name nets within the total.
-  abbrev pub Named : ℕ → ℕ → Type 0
-  Named from to = (at : ℕ) → from ≤ at → at < to → Within total (netIn w at)
+-- A net of a net or control word between two places, within the total.
+pub record Stands (w : List ℕ) (total from to : ℕ) (net : Net) : Type 0 where
+  pub place : ℕ
+  pub low : from ≤ place
+  pub high : place < to
+  pub kind : kindOf (getD w place 0) ≤ 1
+  pub same : net ≡ netIn w place
+  pub within : Within total net
 
-  pub named-nets : {from to : ℕ} → Named from to → (n at : ℕ) → from ≤ at → at + n ≤ to → Each (Within total) (netsIn w n at)
-  named-nets named n at low high = each-tab (Within total) n (λ i. netIn w (at + i)) (λ i l. named (at + i) (omega arith) (omega arith))
+-- n nets of which P holds.
+pub record Vector (P : Net → Type 0) (n : ℕ) (nets : List Net) : Type 0 where
+  pub size : length nets ≡ n
+  pub each : Each P nets
+
+module _ (w : List ℕ) (total : ℕ) where
+  -- The words from a place on are net or control words.
+  abbrev pub Named : ℕ → ℕ → ℕ → Type 0
+  Named end from to = (at : ℕ) → from ≤ at → at < to → IsNet w total 1 end at
+
+  pub net : {end from to : ℕ} → Named end from to → (at : ℕ) → from ≤ at → at < to → Stands w total from end (netIn w at)
+  net named at low high =
+      let is = named at low high in
+      record {
+        place = at;
+        low = low;
+        high = is .inside;
+        kind = is .kind;
+        same = refl;
+        within = known-within total (numberIn w at) (is .known);
+      }
+
+  pub vector :
+      {end from to : ℕ} → Named end from to → (n at : ℕ) → from ≤ at → at + n ≤ to →
+      Vector (Stands w total from end) n (netsIn w n at)
+  vector {end} {from} named n at low high = record {
+    size = length-tab n _;
+    each = each-tab (Stands w total from end) n (λ i. netIn w (at + i))
+    (λ i l. net named (at + i) (omega arith) (omega arith));
+  }
 
   pub nets-read :
-      (most end n at : ℕ) {next : ℕ} → netsAt w total most end n at ≡ S.Clean next → (next ≡ at + n) × Named at (at + n)
-  nets-read most end n at {next} read =
-      let all =
-      many-read (netAt w total most end) (IsNet w total most end) (λ i next e. net-read w total most end i e) n at next read in (
-        all .0,
-        λ i low high.
-            let same : at + (i - at) ≡ i = omega arith in
-            known-within total (payloadOf (getD w i 0)) (rw same at (all .1 (i - at) (omega arith) .known)),
-      )
+      (most end n at : ℕ) {next : ℕ} → most ≤ 1 → netsAt w total most end n at ≡ S.Clean next → (next ≡ at + n) × Named end at (at + n)
+  nets-read most end n at {next} few read = (all .0, at-place)
+    where
+      all : (next ≡ at + n) × ((i : ℕ) → i < n → IsNet w total most end (at + i))
+      all = many-read (netAt w total most end) (IsNet w total most end) (λ i next e. net-read w total most end i e) n at next read
+
+      at-place : Named end at (at + n)
+      at-place i low high =
+          let same : at + (i - at) ≡ i = omega arith in
+          let is : IsNet w total most end i = rw same at (all .1 (i - at) (omega arith)) in
+          let right : kindOf (getD w i 0) ≤ most = is .kind in
+          record { inside = is .inside; kind = omega arith; known = is .known }
 
 module _ (w : List ℕ) (end : ℕ) where
   pub constants-read : (n at : ℕ) {next : ℕ} → constantsAt w end n at ≡ S.Clean next → next ≡ at + n
@@ -138,7 +173,7 @@ module _ (w : List ℕ) (end : ℕ) where
 
 -- What a body that was read says of its words: the controls and nets name nets within the total, and the record ends after the patterns.
 pub record Body (w : List ℕ) (total : ℕ) (layout : Fields) (n end start : ℕ) : Type 0 where
-  pub named : Named w total start (start + layout .controls + layout .nets)
+  pub named : Named w total end start (start + layout .controls + layout .nets)
   pub ends : end ≡ start + layout .controls + layout .nets + layout .constants +
       sumBy patternWords (patternsIn w n (layout .patterns) (start + layout .controls + layout .nets + layout .constants))
   pub few : Each (λ (alternates : List (List Trit)). length alternates ≤ 64)
@@ -146,8 +181,8 @@ pub record Body (w : List ℕ) (total : ℕ) (layout : Fields) (n end start : �
 
 pub body-of : {w : List ℕ} {total : ℕ} {layout : Fields} {n end start : ℕ} → IsBody w total layout n end start → Body w total layout n end start
 body-of {w} {total} {layout} {n} {end} {start} is =
-    let controls = nets-read w total 1 end (layout .controls) start (is .controls-read) in
-    let nets = nets-read w total 0 end (layout .nets) (is .nets) (is .nets-read) in
+    let controls = nets-read w total 1 end (layout .controls) start (omega arith) (is .controls-read) in
+    let nets = nets-read w total 0 end (layout .nets) (is .nets) (omega arith) (is .nets-read) in
     let nets-at : is .nets ≡ start + layout .controls = controls .0 in
     let constants-at : is .constants ≡ start + layout .controls + layout .nets = nets .0 ∙ rw nets-at in
     let patterns-at : is .patterns ≡ start + layout .controls + layout .nets + layout .constants =
@@ -160,7 +195,7 @@ body-of {w} {total} {layout} {n} {end} {start} is =
     }
   where
     go : (at : ℕ) → start ≤ at → at < start + layout .controls + layout .nets → Dec (at < start + layout .controls) →
-        Named w total start (start + layout .controls) →
-        Named w total (start + layout .controls) (start + layout .controls + layout .nets) → Within total (netIn w at)
+        Named w total end start (start + layout .controls) →
+        Named w total end (start + layout .controls) (start + layout .controls + layout .nets) → IsNet w total 1 end at
     go at low high (yes y) controls nets = controls at low y
     go at low high (no n) controls nets = nets at (omega arith) high

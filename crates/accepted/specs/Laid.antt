@@ -25,7 +25,7 @@ use Rattle.design_list.specs.Laws.{IsPlaced}
 use Rattle.design_list.specs.Cover.{Walk, done, placed, walk-cells}
 use Rattle.design_list.specs.Read.{read, accepted}
 use Rattle.design_list.specs.Accepted.{IsAccepted, accepted-read}
-use Rattle.working_out.specs.Reading.{Each, isIn, cellIn, cellOf, role, isVoid}
+use Rattle.working_out.specs.Reading.{Each, each-map, isIn, cellIn, cellOf, role, isVoid}
 use Rattle.working_out.specs.Laid.{Run, Ascending, Within, netsOf, CellLaid, Apart, MayReplace, Replaces, PairWithin, Laid}
 use Rattle.accepted.specs.Cells.{IsCell, cell-read}
 use Rattle.accepted.specs.Replacements.{Climb, climb-read, climb-each, climb-ascends, IsReplacement, replacement-read, IsPair, pair-read}
@@ -160,7 +160,7 @@ module _ (d : Design) (w : List ℕ) where
   placed-laid :
       {at : ℕ} {op : Operation} {width next : ℕ} → IsRecord w (total d) at op width next → (slot : ℕ) →
       CellLaid d (record { slot = slot; cell = cellAt w at })
-  placed-laid is slot = let cell = cell-read is in record { shaped = cell .shaped; within = cell .within }
+  placed-laid {at = at} is slot = let cell = cell-read is in record { shaped = cell .shaped; within = each-map (netsOf (cellAt w at)) (λ net stands. stands .within) (cell .stands) }
 
   replacement-replaces :
       Run 0 (d .cells) (total d) → {least at above next : ℕ} → IsReplacement w (total d) (heads (d .cells) (d .base)) least at above next →
