@@ -33,24 +33,26 @@ unfolding tab
 each-tab P zero f h = tt
 each-tab P (suc n) f h = (h zero (omega arith), each-tab P n (λ i. f (suc i)) (λ i l. h (suc i) (omega arith)))
 
--- A known payload names a net within the total.
-pub known-within : (total p : ℕ) → isKnown total p ≡ true → Within total (netOf p)
-known-within total p known =
-    go (eqb p 0) (eqb p 1) (eqb p 536870911) (ltb p 2) (ltb (p - 2) total) refl refl refl refl known
+-- What holds of every constant, and of the slot of a payload that names no constant, holds of what a payload names.
+pub net-cases : (P : Net → Type 0) (p : ℕ) → ((t : Trit) → P (constant t)) → (isConstant p ≡ false → P (slot (p - 2))) → P (netOf p)
+net-cases P p constants slots = go (eqb p 0) (eqb p 1) (eqb p 536870911) (ltb p 2) refl refl refl slots
   where
     go :
-        (a b c d e : Bool) → eqb p 0 ≡ a → eqb p 1 ≡ b → ltb p 2 ≡ d → ltb (p - 2) total ≡ e → cond (cond d true c) true e ≡ true →
-        Within total (cond a (constant Zero) (cond b (constant One) (cond c (constant Undef) (slot (p - 2)))))
-    go true b c d e a-is b-is d-is e-is k = tt
-    go false true c d e a-is b-is d-is e-is k = tt
-    go false false true d e a-is b-is d-is e-is k = tt
-    go false false false true e a-is b-is d-is e-is k =
+        (a b c d : Bool) → eqb p 0 ≡ a → eqb p 1 ≡ b → ltb p 2 ≡ d → (cond d true c ≡ false → P (slot (p - 2))) →
+        P (cond a (constant Zero) (cond b (constant One) (cond c (constant Undef) (slot (p - 2)))))
+    go true b c d a-is b-is d-is slots = constants Zero
+    go false true c d a-is b-is d-is slots = constants One
+    go false false true d a-is b-is d-is slots = constants Undef
+    go false false false true a-is b-is d-is slots =
         let low : p < 2 = ltb-true _ _ d-is in
         let some : p ≡ 0 → ⊥ = eqb-false _ _ a-is in
         let more : p ≡ 1 → ⊥ = eqb-false _ _ b-is in
         absurd (omega arith)
-    go false false false false true a-is b-is d-is e-is k = ltb-true _ _ e-is
-    go false false false false false a-is b-is d-is e-is k = absurd (false≢true k)
+    go false false false false a-is b-is d-is slots = slots refl
+
+-- A known payload names a net within the total.
+pub known-within : (total p : ℕ) → isKnown total p ≡ true → Within total (netOf p)
+known-within total p known = net-cases (Within total) p (λ t. tt) (λ other. ltb-true _ _ (rw other at known))
 
 -- A net of a net or control word between two places, within the total.
 pub record Stands (w : List ℕ) (total from to : ℕ) (net : Net) : Type 0 where

@@ -27,6 +27,7 @@ use Rattle.design_list.specs.Read.{read, accepted}
 use Rattle.design_list.specs.Accepted.{IsAccepted, accepted-read}
 use Rattle.working_out.specs.Reading.{Each, each-map, isIn, cellIn, cellOf, role, isVoid}
 use Rattle.working_out.specs.Laid.{Run, Ascending, Within, netsOf, CellLaid, Apart, MayReplace, Replaces, PairWithin, Laid}
+use Rattle.accepted.specs.Fields.{known-within}
 use Rattle.accepted.specs.Cells.{IsCell, cell-read}
 use Rattle.accepted.specs.Replacements.{Climb, climb-read, climb-each, climb-ascends, IsReplacement, replacement-read, IsPair, pair-read}
 
@@ -94,7 +95,7 @@ pub cell-takes : (d : Design) (i : ℕ) → Run 0 (d .cells) (total d) → i < t
 cell-takes d i run low = let zeroed : 0 + i ≡ i = omega arith in rw zeroed at (run-takes (d .cells) 0 (total d) i run (omega arith))
 
 -- ---- The cell replacements.
-not-void : (c : Cell) → eqb (standing c) 0 ≡ false → isVoid (role c) ≡ false
+pub not-void : (c : Cell) → eqb (standing c) 0 ≡ false → isVoid (role c) ≡ false
 not-void C.void e = absurd (true≢false e)
 not-void C.note e = refl
 not-void (C.input n) e = refl
@@ -179,6 +180,12 @@ module _ (d : Design) (w : List ℕ) where
         new = rw op at (may-replace w (is .op) (at + 1 + 1) (is .may));
       }
 
+  pair-within : {least at above next : ℕ} → IsPair w (total d) least at above next → PairWithin d (netPair w at)
+  pair-within {at = at} is = record {
+    from = known-within (total d) (numberIn w at) (is .from-is .known);
+    to = known-within (total d) (numberIn w (at + 1)) (is .to-is .known);
+  }
+
 -- ---- The whole list: the cells placed one after another, then the replacements, then the pairs, up to the last word.
 pub record Stages (w : List ℕ) (d : Design) (replacements pairs : ℕ) : Type 0 where
   pub walk : Walk w (d .base) (total d) 0 4 (d .cells) replacements
@@ -213,6 +220,6 @@ accepted-laid w {d} e =
       newCells = climb-each _ _ (CellLaid d) (λ least at above next is. placed-laid d w (is .record-is) (numberIn w at)) (all .reps);
       replaces = climb-each _ _ (Replaces d) (λ least at above next is. replacement-replaces d w run is) (all .reps);
       slots = climb-ascends _ _ (λ (q : Placed). q .slot) (λ least at above next is. (is .low, is .up)) (all .reps) .1;
-      nets = climb-each _ _ (PairWithin d) (λ least at above next is. record { from = is .from; to = is .to }) (all .nets);
+      nets = climb-each _ _ (PairWithin d) (λ least at above next is. pair-within d w is) (all .nets);
       froms = climb-ascends _ _ (λ (q : NetPair). payloadOfNet (q .from)) (λ least at above next is. (is .low, is .up)) (all .nets) .1;
     }

@@ -27,9 +27,8 @@ use Rattle.design_list.specs.declared.Step.{Step}
 use Rattle.design_list.specs.declared.Step.the-variants as T
 use Rattle.design_list.specs.Items.{Reading, push, onStep, ascending, listedNumberAt, listedNetAt, onSlot, onNewCell, replaces, replacementAt, onNet, pairAt}
 use Rattle.working_out.specs.Reading.{Each, each-map}
-use Rattle.working_out.specs.Laid.{Within, Ascending}
+use Rattle.working_out.specs.Laid.{Ascending}
 use Rattle.bound.specs.Costs.{sumBy}
-use Rattle.accepted.specs.Fields.{known-within}
 
 -- The items from a place on, up to the place `end`: R holds of what each asks, its place, what it asks of the next, and the place after it.
 module _ {A : Type 0} (R : ℕ → ℕ → ℕ → ℕ → Type 0) (item : ℕ → A) where
@@ -52,6 +51,21 @@ module _ {A : Type 0} (R : ℕ → ℕ → ℕ → ℕ → Type 0) (item : ℕ �
           Climb least at (onStep s (λ (above next : ℕ). push (item at) (ascending step item k above next)) .items) end
       go (T.Refused f) s e rest = let z : _≡_ {A = ℕ} 0 1 = cc in absurd (omega arith)
       go (T.Read above next) s e rest = taken (one least at above next s) (rest above next e)
+
+  -- As many items as were to be read.
+  pub ascending-length :
+      (step : ℕ → ℕ → Step) (k least at end : ℕ) → ascending step item k least at .scan ≡ S.Clean end →
+      length (ascending step item k least at .items) ≡ k
+  unfolding ascending
+  ascending-length step zero least at end read = refl
+  ascending-length step (suc k) least at end read = go (step least at) read (λ above next. ascending-length step k above next end)
+    where
+      go :
+          (s : Step) → onStep s (λ (above next : ℕ). push (item at) (ascending step item k above next)) .scan ≡ S.Clean end →
+          ((above next : ℕ) → ascending step item k above next .scan ≡ S.Clean end → length (ascending step item k above next .items) ≡ k) →
+          length (onStep s (λ (above next : ℕ). push (item at) (ascending step item k above next)) .items) ≡ suc k
+      go (T.Refused f) e rest = let z : _≡_ {A = ℕ} 0 1 = cc in absurd (omega arith)
+      go (T.Read above next) e rest = ap suc (rest above next e)
 
   pub climb-each :
       (P : A → Type 0) → ((least at above next : ℕ) → R least at above next → P (item at)) →
@@ -89,14 +103,14 @@ listed-number w at {n} {next} = go (ltb at (length w))
     go true e = number-read w _ _ at e
     go false e = let z : _≡_ {A = ℕ} 0 1 = cc in absurd (omega arith)
 
-listed-net : (w : List ℕ) (total at : ℕ) {next : ℕ} → listedNetAt w total at ≡ S.Clean next → (next ≡ at + 1) × Within total (netIn w at)
+listed-net : (w : List ℕ) (total at : ℕ) {next : ℕ} → listedNetAt w total at ≡ S.Clean next → (next ≡ at + 1) × IsNet w total 0 (length w) at
 unfolding listedNetAt
 listed-net w total at {next} = go (ltb at (length w))
   where
     go :
         (b : Bool) → cond b (netAt w total 0 (length w) at) (S.Refused (fault 1 (length w))) ≡ S.Clean next →
-        (next ≡ at + 1) × Within total (netIn w at)
-    go true e = let is = net-read w total 0 (length w) at e in (is .0, known-within total (numberIn w at) (is .1 .known))
+        (next ≡ at + 1) × IsNet w total 0 (length w) at
+    go true e = net-read w total 0 (length w) at e
     go false e = let z : _≡_ {A = ℕ} 0 1 = cc in absurd (omega arith)
 
 -- A cell replacement that was read.
@@ -161,8 +175,8 @@ replacement-read w total head least at above next read = slotted (listedNumberAt
 
 -- A net replacement that was read.
 pub record IsPair (w : List ℕ) (total least at above next : ℕ) : Type 0 where
-  pub from : Within total (netIn w at)
-  pub to : Within total (netIn w (at + 1))
+  pub from-is : IsNet w total 0 (length w) at
+  pub to-is : IsNet w total 0 (length w) (at + 1)
   pub low : least ≤ payloadOfNet (netIn w at)
   pub up : above ≡ payloadOfNet (netIn w at) + 1
   pub after : next ≡ at + 2
@@ -176,7 +190,7 @@ pair-read w total least at above next read = first (listedNetAt w total at) refl
     Goal = IsPair w total least at above next
 
     right :
-        Within total (netIn w at) → Within total (netIn w (at + 1)) → (after : ℕ) → after ≡ at + 1 + 1 → (b : Bool) → leb least (numberIn w at) ≡ b →
+        IsNet w total 0 (length w) at → IsNet w total 0 (length w) (at + 1) → (after : ℕ) → after ≡ at + 1 + 1 → (b : Bool) → leb least (numberIn w at) ≡ b →
         cond b (T.Read (numberIn w at + 1) after) (T.Refused (fault 13 at)) ≡ T.Read above next → Goal
     right from to after place false b e = let z : _≡_ {A = ℕ} 0 1 = cc in absurd (omega arith)
     right from to after place true b e =
@@ -184,10 +198,10 @@ pair-read w total least at above next read = first (listedNetAt w total at) refl
         let same : payloadOfNet (netIn w at) ≡ numberIn w at = payload-of-net (numberIn w at) in
         let top : above ≡ numberIn w at + 1 = cc in
         let last : next ≡ after = cc in
-        record { from = from; to = to; low = omega arith; up = omega arith; after = omega arith }
+        record { from-is = from; to-is = to; low = omega arith; up = omega arith; after = omega arith }
 
     second :
-        Within total (netIn w at) → (s : Scan) → listedNetAt w total (at + 1) ≡ s →
+        IsNet w total 0 (length w) at → (s : Scan) → listedNetAt w total (at + 1) ≡ s →
         onNet s (λ (after : ℕ). cond (leb least (numberIn w at)) (T.Read (numberIn w at + 1) after) (T.Refused (fault 13 at))) ≡ T.Read above next →
         Goal
     second from (S.Refused f) s e = let z : _≡_ {A = ℕ} 0 1 = cc in absurd (omega arith)
