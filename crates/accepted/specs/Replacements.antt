@@ -30,6 +30,22 @@ use Rattle.working_out.specs.Reading.{Each, each-map}
 use Rattle.working_out.specs.Laid.{Ascending}
 use Rattle.bound.specs.Costs.{sumBy}
 
+module _ {A : Type 0} (step : ℕ → ℕ → Step) (item : ℕ → A) where
+  -- As many items as were to be read.
+  pub ascending-length :
+      (k least at end : ℕ) → ascending step item k least at .scan ≡ S.Clean end →
+      length (ascending step item k least at .items) ≡ k
+  unfolding ascending
+  ascending-length zero least at end read = refl
+  ascending-length (suc k) least at end read = go (step least at) read (λ above next. ascending-length k above next end)
+    where
+      go :
+          (s : Step) → onStep s (λ (above next : ℕ). push (item at) (ascending step item k above next)) .scan ≡ S.Clean end →
+          ((above next : ℕ) → ascending step item k above next .scan ≡ S.Clean end → length (ascending step item k above next .items) ≡ k) →
+          length (onStep s (λ (above next : ℕ). push (item at) (ascending step item k above next)) .items) ≡ suc k
+      go (T.Refused f) e rest = let z : _≡_ {A = ℕ} 0 1 = cc in absurd (omega arith)
+      go (T.Read above next) e rest = ap suc (rest above next e)
+
 -- The items from a place on, up to the place `end`: R holds of what each asks, its place, what it asks of the next, and the place after it.
 module _ {A : Type 0} (R : ℕ → ℕ → ℕ → ℕ → Type 0) (item : ℕ → A) where
   pub data Climb : ℕ → ℕ → List A → ℕ → Type 0 where
@@ -51,21 +67,6 @@ module _ {A : Type 0} (R : ℕ → ℕ → ℕ → ℕ → Type 0) (item : ℕ �
           Climb least at (onStep s (λ (above next : ℕ). push (item at) (ascending step item k above next)) .items) end
       go (T.Refused f) s e rest = let z : _≡_ {A = ℕ} 0 1 = cc in absurd (omega arith)
       go (T.Read above next) s e rest = taken (one least at above next s) (rest above next e)
-
-  -- As many items as were to be read.
-  pub ascending-length :
-      (step : ℕ → ℕ → Step) (k least at end : ℕ) → ascending step item k least at .scan ≡ S.Clean end →
-      length (ascending step item k least at .items) ≡ k
-  unfolding ascending
-  ascending-length step zero least at end read = refl
-  ascending-length step (suc k) least at end read = go (step least at) read (λ above next. ascending-length step k above next end)
-    where
-      go :
-          (s : Step) → onStep s (λ (above next : ℕ). push (item at) (ascending step item k above next)) .scan ≡ S.Clean end →
-          ((above next : ℕ) → ascending step item k above next .scan ≡ S.Clean end → length (ascending step item k above next .items) ≡ k) →
-          length (onStep s (λ (above next : ℕ). push (item at) (ascending step item k above next)) .items) ≡ suc k
-      go (T.Refused f) e rest = let z : _≡_ {A = ℕ} 0 1 = cc in absurd (omega arith)
-      go (T.Read above next) e rest = ap suc (rest above next e)
 
   pub climb-each :
       (P : A → Type 0) → ((least at above next : ℕ) → R least at above next → P (item at)) →
