@@ -1,24 +1,18 @@
 -- The cell of a record that was read: its shape, its nets, its bounds and its words, layout by layout.
-use mathlib.Core.Path.{_≡_, refl, sym, ap, _∙_}
-use mathlib.Core.Bool.{Bool, true, false, cond, true≢false, false≢true}
+use mathlib.Core.Path.{_≡_, refl}
+use mathlib.Core.Bool.{true, false}
 use mathlib.Core.List.{List, [], _∷_, _++_}
-use Prim.Native.Nat.{ℕ, zero, suc, _+_, _-_, _*_, _^_, _≤_, _<_}
+use Prim.Native.Nat.{ℕ, _+_, _≤_}
 use native.Mathlib.Omega.{arith}
-use lib.ListN.{length, getD}
-use Rattle.logic.specs.Word.{payloadOf}
-use Rattle.logic.specs.Net.{Net}
-use Rattle.logic.specs.Table.{tab, length-tab}
-use Rattle.logic.specs.declared.Trit.{Trit}
-use Rattle.cell.specs.Cell.{Cell, Unary, Binary, Shift, Control}
+use lib.ListN.{length}
+use Rattle.logic.specs.Table.{length-tab}
+use Rattle.cell.specs.Cell.{Cell, Unary, Binary, Shift}
 use Rattle.cell.specs.Cell as C
 use Rattle.cell.specs.Operation.{lead, body, numbersOf, fieldsOf}
-use Rattle.cell.specs.declared.Numbers.{Numbers}
-use Rattle.cell.specs.declared.Fields.{Fields}
 use Rattle.cell.specs.declared.Operation.{Operation}
 use Rattle.cell.specs.declared.Operation.the-variants.{Void, Buf, Not, And, Or, Xor, Mux, Adc, Aig, Eq, ULt, SLt, Shl, UShr, SShr, XShr, Mul, Match, Assign, Dff, IoBuf, Input, Note}
-use Rattle.fields.specs.Accepted.{IsNumber}
 use Rattle.cell_reader.specs.Parse.{numberIn, netIn, controlIn, netsIn, tritsIn, patternsIn, cellIn, opAt, cellAt}
-use Rattle.cell_reader.specs.Accepted.{IsLeading, IsBody, IsRecord}
+use Rattle.cell_reader.specs.Accepted.{IsLeading, IsRecord}
 use Rattle.rules.specs.Shape.{Shaped, Wide, WideShift}
 use Rattle.working_out.specs.Reading.{Each, each-append}
 use Rattle.working_out.specs.Laid.{netsOf}
@@ -36,7 +30,8 @@ pub record IsCell (w : List ℕ) (total at start end : ℕ) (c : Cell) : Type 0 
 module _ (w : List ℕ) (total end at : ℕ) where
   -- #n n*
   unary-is :
-      (op : Unary) {n m start : ℕ} → IsLeading w (lead 1 0 0 false) end at n m start → Body w total (body 0 n 0 0 n) n end start →
+      (op : Unary) {n m start : ℕ} → IsLeading w (lead 1 0 0 false) end at n m start →
+      Body w total (body 0 n 0 0 n) n end start →
       IsCell w total at start end (C.unary op (netsIn w (numberIn w at) (at + 1)))
   unfolding patternsIn sumBy
   unary-is op {n} leading fields =
@@ -47,7 +42,8 @@ module _ (w : List ℕ) (total end at : ℕ) where
 
   -- #n n* n*
   binary-is :
-      (op : Binary) {least width n m start : ℕ} → (least ≤ n → Wide op n) → IsLeading w (lead 1 least 0 false) end at n m start →
+      (op : Binary) {least width n m start : ℕ} → (least ≤ n → Wide op n) →
+      IsLeading w (lead 1 least 0 false) end at n m start →
       Body w total (body 0 (n + n) 0 0 width) n end start →
       IsCell w total at start end (C.binary op (netsIn w (numberIn w at) (at + 1)) (netsIn w (numberIn w at) (at + 1 + numberIn w at)))
   unfolding patternsIn sumBy
@@ -65,7 +61,8 @@ module _ (w : List ℕ) (total end at : ℕ) where
 
   -- #n s n* n*
   mux-is :
-      {n m start : ℕ} → IsLeading w (lead 1 0 0 false) end at n m start → Body w total (body 0 (1 + n + n) 0 0 n) n end start →
+      {n m start : ℕ} → IsLeading w (lead 1 0 0 false) end at n m start →
+      Body w total (body 0 (1 + n + n) 0 0 n) n end start →
       IsCell w total at start end
       (C.mux (netIn w (at + 1)) (netsIn w (numberIn w at) (at + 2)) (netsIn w (numberIn w at) (at + 2 + numberIn w at)))
   unfolding patternsIn sumBy
@@ -84,7 +81,8 @@ module _ (w : List ℕ) (total end at : ℕ) where
 
   -- #n n* n* c
   adc-is :
-      {n m start : ℕ} → IsLeading w (lead 1 0 0 false) end at n m start → Body w total (body 0 (n + n + 1) 0 0 (n + 1)) n end start →
+      {n m start : ℕ} → IsLeading w (lead 1 0 0 false) end at n m start →
+      Body w total (body 0 (n + n + 1) 0 0 (n + 1)) n end start →
       IsCell w total at start end
       (C.adc (netsIn w (numberIn w at) (at + 1)) (netsIn w (numberIn w at) (at + 1 + numberIn w at))
       (netIn w (at + 1 + numberIn w at + numberIn w at)))
@@ -98,7 +96,7 @@ module _ (w : List ℕ) (total end at : ℕ) where
       rw (← first .value) record {
         shaped = omega arith;
         stands = each-append _ (netsIn w n (at + 1)) (netsIn w n (at + 1 + n) ++ (netIn w (at + 1 + n + n) ∷ [])) (a .each)
-        (each-append _ (netsIn w n (at + 1 + n)) (netIn w (at + 1 + n + n) ∷ []) (b .each) (c, tt));
+            (each-append _ (netsIn w n (at + 1 + n)) (netIn w (at + 1 + n + n) ∷ []) (b .each) (c, tt));
         bounded = omega arith;
         words = omega arith;
       }
@@ -116,7 +114,8 @@ module _ (w : List ℕ) (total end at : ℕ) where
 
   -- #n #m #stride n* m*
   shift-is :
-      (op : Shift) {least n m start : ℕ} → (least ≤ n → WideShift op n) → IsLeading w (lead 3 least 32 false) end at n m start →
+      (op : Shift) {least n m start : ℕ} → (least ≤ n → WideShift op n) →
+      IsLeading w (lead 3 least 32 false) end at n m start →
       Body w total (body 0 (n + m) 0 0 n) n end start →
       IsCell w total at start end
       (C.shift op (netsIn w (numberIn w at) (at + 3)) (netsIn w (numberIn w (at + 1)) (at + 3 + numberIn w at)) (numberIn w (at + 2)))
@@ -136,7 +135,8 @@ module _ (w : List ℕ) (total end at : ℕ) where
 
   -- #n #k enable n*, the patterns
   match-is :
-      {n m start : ℕ} → IsLeading w (lead 2 0 63 false) end at n m start → Body w total (body 0 (1 + n) 0 m m) n end start →
+      {n m start : ℕ} → IsLeading w (lead 2 0 63 false) end at n m start →
+      Body w total (body 0 (1 + n) 0 m m) n end start →
       IsCell w total at start end
       (C.match (netsIn w (numberIn w at) (at + 3)) (netIn w (at + 2))
       (patternsIn w (numberIn w at) (numberIn w (at + 1)) (at + 3 + numberIn w at)))
@@ -159,7 +159,8 @@ module _ (w : List ℕ) (total end at : ℕ) where
 
   -- #n #u #offset enable n* u*
   assign-is :
-      {n m start : ℕ} → IsLeading w (lead 3 0 63 true) end at n m start → Body w total (body 0 (1 + n + m) 0 0 n) n end start →
+      {n m start : ℕ} → IsLeading w (lead 3 0 63 true) end at n m start →
+      Body w total (body 0 (1 + n + m) 0 0 n) n end start →
       IsCell w total at start end
       (C.assign (netsIn w (numberIn w at) (at + 4)) (netIn w (at + 3)) (netsIn w (numberIn w (at + 1)) (at + 4 + numberIn w at))
       (numberIn w (at + 2)))
@@ -182,7 +183,8 @@ module _ (w : List ℕ) (total end at : ℕ) where
 
   -- #n #reset-over-enable clock clear reset enable, n* data, n* clear value, n* reset value
   dff-is :
-      {n m start : ℕ} → IsLeading w (lead 2 0 1 false) end at n m start → Body w total (body 4 n (n + n) 0 n) n end start →
+      {n m start : ℕ} → IsLeading w (lead 2 0 1 false) end at n m start →
+      Body w total (body 4 n (n + n) 0 n) n end start →
       IsCell w total at start end (cellIn w Dff at)
   unfolding patternsIn sumBy
   dff-is {n = n} leading fields =
@@ -216,7 +218,8 @@ module _ (w : List ℕ) (total end at : ℕ) where
       (omega arith, omega arith)
 
   empty-is :
-      {n m start : ℕ} → IsLeading w (lead 0 0 0 false) end at n m start → Body w total (body 0 0 0 0 0) n end start → end + 1 ≡ at + 1
+      {n m start : ℕ} → IsLeading w (lead 0 0 0 false) end at n m start → Body w total (body 0 0 0 0 0) n end start →
+      end + 1 ≡ at + 1
   unfolding patternsIn sumBy
   empty-is {n = n} {start = start} leading fields =
       let begins : start ≡ at + 0 = leading .after (omega arith) in
@@ -225,7 +228,8 @@ module _ (w : List ℕ) (total end at : ℕ) where
 
   -- The cell of each operation.
   cell-in :
-      (op : Operation) {n m start : ℕ} → IsLeading w (numbersOf op) end at n m start → Body w total (fieldsOf op n m) n end start →
+      (op : Operation) {n m start : ℕ} → IsLeading w (numbersOf op) end at n m start →
+      Body w total (fieldsOf op n m) n end start →
       IsCell w total at start end (cellIn w op at)
   cell-in Void l b = record { shaped = tt; stands = tt; bounded = tt; words = empty-is l b }
   cell-in Buf l b = unary-is C.buf l b
@@ -253,7 +257,8 @@ module _ (w : List ℕ) (total end at : ℕ) where
 
 -- The cell of a record that was read.
 pub cell-read :
-    {w : List ℕ} {total at : ℕ} {op : Operation} {width next : ℕ} (is : IsRecord w total at op width next) → IsCell w total (at + 1) (is .start) next (cellAt w at)
+    {w : List ℕ} {total at : ℕ} {op : Operation} {width next : ℕ} (is : IsRecord w total at op width next) →
+    IsCell w total (at + 1) (is .start) next (cellAt w at)
 unfolding cellAt
 cell-read {w} {total} {at} {op} {width} {next} is =
     let same : op ≡ opAt w at = is .same-op in

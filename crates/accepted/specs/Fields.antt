@@ -1,14 +1,14 @@
 -- What a clean scan of fields says of what is read there: nets within the total, constants and patterns of their sizes.
-use mathlib.Core.Path.{_≡_, refl, sym, ap, _∙_}
-use mathlib.Core.Bool.{Bool, true, false, cond, true≢false, false≢true}
-use mathlib.Core.List.{List, [], _∷_, _++_}
-use Prim.Native.Nat.{ℕ, zero, suc, _+_, _-_, _*_, _^_, _≤_, _<_}
+use mathlib.Core.Path.{_≡_, refl, ap, _∙_}
+use mathlib.Core.Bool.{Bool, true, false, cond}
+use mathlib.Core.List.{List}
+use Prim.Native.Nat.{ℕ, zero, suc, _+_, _-_, _*_, _≤_, _<_}
 use native.Mathlib.Omega.{arith}
 use native.Mathlib.Decide.{decLt}
 use lib.ListN.{length, getD}
-use lib.Dec.{ltb, leb, eqb}
-use borrow.Author.Tests.{ltb-true, ltb-false, eqb-true, eqb-false}
-use Rattle.logic.specs.Word.{kindOf, payloadOf}
+use lib.Dec.{ltb, eqb}
+use borrow.Author.Tests.{ltb-true, eqb-false}
+use Rattle.logic.specs.Word.{kindOf}
 use Rattle.logic.specs.Net.{Net, constant, slot, netOf}
 use Rattle.logic.specs.Table.{tab, length-tab}
 use Rattle.logic.specs.declared.Trit.{Trit}
@@ -16,11 +16,10 @@ use Rattle.logic.specs.declared.Trit.the-variants.{Zero, One, Undef}
 use Rattle.cell.specs.declared.Fields.{Fields}
 use Rattle.fields.specs.declared.Number.{Number}
 use Rattle.fields.specs.declared.Number.the-variants as N
-use Rattle.fields.specs.declared.Scan.{Scan}
 use Rattle.fields.specs.declared.Scan.the-variants as S
-use Rattle.fields.specs.Field.{onClean, isConstant, isKnown, numberAt, netAt, constantAt, netsAt, constantsAt, scanMany}
+use Rattle.fields.specs.Field.{isConstant, isKnown, numberAt, netAt, constantAt, netsAt, constantsAt, scanMany}
 use Rattle.fields.specs.Pattern.{onNumber, alternateAt, patternAt, patternsAt}
-use Rattle.fields.specs.Accepted.{IsNumber, number-read, IsNet, net-read, constant-read, many-read, Both, both-read}
+use Rattle.fields.specs.Accepted.{number-read, IsNet, net-read, constant-read, many-read, both-read}
 use Rattle.cell_reader.specs.Parse.{numberIn, netIn, netsIn, tritsIn, patternsIn}
 use Rattle.cell_reader.specs.Accepted.{IsBody}
 use Rattle.working_out.specs.Reading.{Each}
@@ -34,7 +33,8 @@ each-tab P zero f h = tt
 each-tab P (suc n) f h = (h zero (omega arith), each-tab P n (λ i. f (suc i)) (λ i l. h (suc i) (omega arith)))
 
 -- What holds of every constant, and of the slot of a payload that names no constant, holds of what a payload names.
-pub net-cases : (P : Net → Type 0) (p : ℕ) → ((t : Trit) → P (constant t)) → (isConstant p ≡ false → P (slot (p - 2))) → P (netOf p)
+pub net-cases :
+    (P : Net → Type 0) (p : ℕ) → ((t : Trit) → P (constant t)) → (isConstant p ≡ false → P (slot (p - 2))) → P (netOf p)
 net-cases P p constants slots = go (eqb p 0) (eqb p 1) (eqb p 536870911) (ltb p 2) refl refl refl slots
   where
     go :
@@ -73,7 +73,8 @@ module _ (w : List ℕ) (total : ℕ) where
   abbrev pub Named : ℕ → ℕ → ℕ → Type 0
   Named end from to = (at : ℕ) → from ≤ at → at < to → IsNet w total 1 end at
 
-  pub net : {end from to : ℕ} → Named end from to → (at : ℕ) → from ≤ at → at < to → Stands w total from end (netIn w at)
+  pub net :
+      {end from to : ℕ} → Named end from to → (at : ℕ) → from ≤ at → at < to → Stands w total from end (netIn w at)
   net named at low high =
       let is = named at low high in
       record {
@@ -91,11 +92,12 @@ module _ (w : List ℕ) (total : ℕ) where
   vector {end} {from} named n at low high = record {
     size = length-tab n _;
     each = each-tab (Stands w total from end) n (λ i. netIn w (at + i))
-    (λ i l. net named (at + i) (omega arith) (omega arith));
+        (λ i l. net named (at + i) (omega arith) (omega arith));
   }
 
   pub nets-read :
-      (most end n at : ℕ) {next : ℕ} → most ≤ 1 → netsAt w total most end n at ≡ S.Clean next → (next ≡ at + n) × Named end at (at + n)
+      (most end n at : ℕ) {next : ℕ} → most ≤ 1 → netsAt w total most end n at ≡ S.Clean next →
+      (next ≡ at + n) × Named end at (at + n)
   nets-read most end n at {next} few read = (all .0, at-place)
     where
       all : (next ≡ at + n) × ((i : ℕ) → i < n → IsNet w total most end (at + i))
@@ -142,7 +144,9 @@ module _ (w : List ℕ) (end : ℕ) where
       let both = both-read (patternAt w n end at) _ read in
       go (numberAt w 64 end at) refl (both .first) (patterns-read n k (both .place) (both .second))
     where
-      go : (v : Number) → numberAt w 64 end at ≡ v → {place : ℕ} → onNumber v (scanMany (alternateAt w n end)) ≡ S.Clean place →
+      go :
+          (v : Number) → numberAt w 64 end at ≡ v → {place : ℕ} →
+          onNumber v (scanMany (alternateAt w n end)) ≡ S.Clean place →
           (next ≡ place + sumBy patternWords (patternsIn w n k place)) ×
           Each (λ (alternates : List (List Trit)). length alternates ≤ 64) (patternsIn w n k place) →
           (next ≡ at + sumBy patternWords (patternsIn w n (suc k) at)) ×
@@ -181,7 +185,9 @@ pub record Body (w : List ℕ) (total : ℕ) (layout : Fields) (n end start : �
   pub few : Each (λ (alternates : List (List Trit)). length alternates ≤ 64)
       (patternsIn w n (layout .patterns) (start + layout .controls + layout .nets + layout .constants))
 
-pub body-of : {w : List ℕ} {total : ℕ} {layout : Fields} {n end start : ℕ} → IsBody w total layout n end start → Body w total layout n end start
+pub body-of :
+    {w : List ℕ} {total : ℕ} {layout : Fields} {n end start : ℕ} → IsBody w total layout n end start →
+    Body w total layout n end start
 body-of {w} {total} {layout} {n} {end} {start} is =
     let controls = nets-read w total 1 end (layout .controls) start (omega arith) (is .controls-read) in
     let nets = nets-read w total 0 end (layout .nets) (is .nets) (omega arith) (is .nets-read) in

@@ -1,16 +1,16 @@
--- Document 01, fault 10: in an accepted list no net word other than a Dff clock or a replacement's from names a Void of the base.
+-- Document 01, fault 10: in an accepted list no net word other than a Dff clock or a replacement's from names a Void of
+-- the base.
 use mathlib.Core.Path.{_≡_, refl, sym, ap, _∙_}
-use mathlib.Core.Bool.{Bool, true, false, cond, true≢false, false≢true}
-use mathlib.Core.List.{List, [], _∷_, _++_}
-use Prim.Native.Nat.{ℕ, zero, suc, _+_, _-_, _/_, _≤_, _<_}
+use mathlib.Core.Bool.{Bool, true, false, cond}
+use mathlib.Core.List.{List, _∷_}
+use Prim.Native.Nat.{ℕ, _+_, _-_, _/_, _≤_, _<_}
 use native.Mathlib.Omega.{arith}
 use lib.ListN.{length, getD}
-use lib.Dec.{ltb, leb, eqb}
+use lib.Dec.{eqb}
 use borrow.Author.Tests.{lt-ltb, le-leb, ne-eqb}
-use Rattle.logic.specs.Word.{kindOf, payloadOf}
-use Rattle.logic.specs.Net.{Net, constant, slot, netOf}
-use Rattle.logic.specs.declared.Trit.{Trit}
-use Rattle.cell.specs.Cell.{Cell, FlipFlop, standing}
+use Rattle.logic.specs.Word.{kindOf}
+use Rattle.logic.specs.Net.{Net, constant, slot}
+use Rattle.cell.specs.Cell.{Cell}
 use Rattle.cell.specs.Cell as C
 use Rattle.cell.specs.Operation.{numbersOf, fieldsOf, standingOf}
 use Rattle.cell.specs.Design.{Placed, NetPair, Design, total}
@@ -18,24 +18,24 @@ use Rattle.cell.specs.declared.Operation.{Operation}
 use Rattle.cell.specs.declared.Operation.the-variants.{Void, Buf, Not, And, Or, Xor, Mux, Adc, Aig, Eq, ULt, SLt, Shl, UShr, SShr, XShr, Mul, Match, Assign, Dff, IoBuf, Input, Note}
 use Rattle.fields.specs.declared.Scan.{Scan}
 use Rattle.fields.specs.declared.Scan.the-variants as S
-use Rattle.fields.specs.Field.{fault, onClean, isConstant, scanMany}
-use Rattle.fields.specs.Accepted.{IsNet, many-read, both-read}
-use Rattle.cell_reader.specs.Parse.{numberIn, netIn, netsIn, cellIn, opAt, endAt, cellAt}
-use Rattle.cell_reader.specs.Accepted.{IsLeading, IsBody, IsRecord}
-use Rattle.design_list.specs.Slots.{takes, heads}
+use Rattle.fields.specs.Field.{fault, scanMany}
+use Rattle.fields.specs.Accepted.{many-read, both-read}
+use Rattle.cell_reader.specs.Parse.{numberIn, netIn, cellIn, opAt, endAt, cellAt}
+use Rattle.cell_reader.specs.Accepted.{IsLeading, IsRecord}
+use Rattle.design_list.specs.Slots.{takes}
 use Rattle.design_list.specs.Slots as Slots
-use Rattle.design_list.specs.Items.{newCell, netPair, replacementAt, pairAt}
+use Rattle.design_list.specs.Items.{newCell}
 use Rattle.design_list.specs.Voids.{namesVoid, offends, voidAt, clockAt, recordVoidsAt, replacementVoidsAt, pairVoidsAt, itemVoidsAt, voidsAt}
 use Rattle.design_list.specs.declared.Item.the-variants as I
 use Rattle.design_list.specs.Cover as Cover
 use Rattle.design_list.specs.Cover.{Walk, placed}
 use Rattle.design_list.specs.Read.{read, accepted}
-use Rattle.design_list.specs.Accepted.{IsAccepted, accepted-read}
+use Rattle.design_list.specs.Accepted.{accepted-read}
 use Rattle.working_out.specs.Reading.{Each, each-map, cellOf, role, isVoid}
-use Rattle.working_out.specs.Laid.{Run, Within, netsOf}
+use Rattle.working_out.specs.Laid.{Run, netsOf}
 use Rattle.accepted.specs.Fields.{each-tab, net-cases, Stands, Body, body-of}
-use Rattle.accepted.specs.Cells.{IsCell, cell-read}
-use Rattle.accepted.specs.Replacements.{ascending-length, Climb, done, taken, IsReplacement, IsPair}
+use Rattle.accepted.specs.Cells.{cell-read}
+use Rattle.accepted.specs.Replacements.{Climb, done, taken, IsReplacement, IsPair}
 use Rattle.accepted.specs.Laid.{walk-run, cell-takes, not-void, Stages, stages}
 
 -- The nets that a cell names, but for a Dff's clock.
@@ -70,7 +70,8 @@ module _ (w : List ℕ) (d : Design) (run : Run 0 (d .cells) (total d)) where
 
   -- ---- One word of the second pass.
   word-avoids :
-      (clock at : ℕ) → offends w void clock at ≡ false → kindOf (getD w at 0) ≤ 1 → (at ≡ clock → ⊥) → NoVoid d (netIn w at)
+      (clock at : ℕ) → offends w void clock at ≡ false → kindOf (getD w at 0) ≤ 1 → (at ≡ clock → ⊥) →
+      NoVoid d (netIn w at)
   unfolding offends namesVoid void Slots.isVoid
   word-avoids clock at clean kind other =
       net-cases (NoVoid d) (numberIn w at) (λ t. tt) (λ free.
@@ -83,12 +84,14 @@ module _ (w : List ℕ) (d : Design) (run : Run 0 (d .cells) (total d)) where
   Clean : ℕ → ℕ → ℕ → Type 0
   Clean clock from to = (at : ℕ) → from ≤ at → at < to → offends w void clock at ≡ false
 
-  void-read : (clock at next : ℕ) → voidAt w void clock at ≡ S.Clean next → (next ≡ at + 1) × (offends w void clock at ≡ false)
+  void-read :
+      (clock at next : ℕ) → voidAt w void clock at ≡ S.Clean next → (next ≡ at + 1) × (offends w void clock at ≡ false)
   unfolding voidAt
   void-read clock at next = go (offends w void clock at) refl
     where
       go :
-          (b : Bool) → offends w void clock at ≡ b → cond b (S.Refused (fault 10 at)) (S.Clean (at + 1)) ≡ S.Clean next →
+          (b : Bool) → offends w void clock at ≡ b →
+          cond b (S.Refused (fault 10 at)) (S.Clean (at + 1)) ≡ S.Clean next →
           (next ≡ at + 1) × (offends w void clock at ≡ false)
       go true b e = let z : _≡_ {A = ℕ} 0 1 = cc in absurd (omega arith)
       go false b e = (cc, b)
@@ -99,15 +102,17 @@ module _ (w : List ℕ) (d : Design) (run : Run 0 (d .cells) (total d)) where
   unfolding recordVoidsAt Clean
   record-clean at {next} inside clean =
       let all =
-      many-read (voidAt w void (clockAt w at)) (λ (i : ℕ). offends w void (clockAt w at) i ≡ false) (void-read (clockAt w at))
+      many-read (voidAt w void (clockAt w at)) (λ i. offends w void (clockAt w at) i ≡ false) (void-read (clockAt w at))
       (numberIn w at / 32) (at + 1) next (rw (lt-ltb at (length w) inside) at clean) in
       (all .0, λ i low high. let same : at + 1 + (i - (at + 1)) ≡ i = omega arith in rw same at (all .1 (i - (at + 1)) (omega arith)))
 
   module _ (at end : ℕ) where
     -- A cell other than a Dff has no clock.
     plain :
-        (op : Operation) {n m start : ℕ} → numbersOf op .count ≤ 3 → IsLeading w (numbersOf op) end (at + 1) n m start → Clean 0 (at + 1) end →
-        Each (Stands w (total d) start end) (netsOf (cellIn w op (at + 1))) → Each (NoVoid d) (netsOf (cellIn w op (at + 1)))
+        (op : Operation) {n m start : ℕ} → numbersOf op .count ≤ 3 →
+        IsLeading w (numbersOf op) end (at + 1) n m start → Clean 0 (at + 1) end →
+        Each (Stands w (total d) start end) (netsOf (cellIn w op (at + 1))) →
+        Each (NoVoid d) (netsOf (cellIn w op (at + 1)))
     unfolding Clean
     plain op few leading clean =
         let begins = leading .after few in
@@ -118,19 +123,23 @@ module _ (w : List ℕ) (d : Design) (run : Run 0 (d .cells) (total d)) where
 
     -- A Dff's clock is its third field.
     flip-flop :
-        {n m start : ℕ} → IsLeading w (numbersOf Dff) end (at + 1) n m start → Body w (total d) (fieldsOf Dff n m) n end start → Clean (at + 3) (at + 1) end →
+        {n m start : ℕ} → IsLeading w (numbersOf Dff) end (at + 1) n m start →
+        Body w (total d) (fieldsOf Dff n m) n end start → Clean (at + 3) (at + 1) end →
         Each (NoVoid d) (netsBesideClock (cellIn w Dff (at + 1)))
     unfolding Clean
     flip-flop {n} leading fields clean =
         let first = leading .first (omega arith) in
         let begins = leading .after (omega arith) in
-        rw (← first .value)
-        (one (at + 1 + 3) (omega arith) (omega arith), (
-          one (at + 1 + 4) (omega arith) (omega arith), (
-            one (at + 1 + 5) (omega arith) (omega arith),
-            each-tab (NoVoid d) n (λ i. netIn w (at + 1 + 6 + i)) (λ i low. one (at + 1 + 6 + i) (omega arith) (omega arith)),
+        rw (← first .value) (
+          one (at + 1 + 3) (omega arith) (omega arith),
+          (
+            one (at + 1 + 4) (omega arith) (omega arith),
+            (
+              one (at + 1 + 5) (omega arith) (omega arith),
+              each-tab (NoVoid d) n (λ i. netIn w (at + 1 + 6 + i)) (λ i low. one (at + 1 + 6 + i) (omega arith) (omega arith)),
+            ),
           ),
-        ))
+        )
       where
         one : (i : ℕ) → at + 4 ≤ i → i < at + 7 + n → NoVoid d (netIn w i)
         one i low high =
@@ -139,8 +148,10 @@ module _ (w : List ℕ) (d : Design) (run : Run 0 (d .cells) (total d)) where
             word-avoids (at + 3) i (clean i (omega arith) (is .inside)) (is .kind) (λ same. omega arith)
 
     cell-avoids :
-        (op : Operation) {n m start : ℕ} → IsLeading w (numbersOf op) end (at + 1) n m start → Body w (total d) (fieldsOf op n m) n end start →
-        Clean (cond (eqb (standingOf op) 1) (at + 3) 0) (at + 1) end → Each (Stands w (total d) start end) (netsOf (cellIn w op (at + 1))) →
+        (op : Operation) {n m start : ℕ} → IsLeading w (numbersOf op) end (at + 1) n m start →
+        Body w (total d) (fieldsOf op n m) n end start →
+        Clean (cond (eqb (standingOf op) 1) (at + 3) 0) (at + 1) end →
+        Each (Stands w (total d) start end) (netsOf (cellIn w op (at + 1))) →
         Each (NoVoid d) (netsBesideClock (cellIn w op (at + 1)))
     cell-avoids Void l b c s = plain Void (omega arith) l c s
     cell-avoids Buf l b c s = plain Buf (omega arith) l c s
@@ -167,16 +178,18 @@ module _ (w : List ℕ) (d : Design) (run : Run 0 (d .cells) (total d)) where
     cell-avoids Note l b c s = plain Note (omega arith) l c s
 
   record-avoids :
-      {at : ℕ} {op : Operation} {width next after : ℕ} → IsRecord w (total d) at op width next → recordVoidsAt w void at ≡ S.Clean after →
+      {at : ℕ} {op : Operation} {width next after : ℕ} → IsRecord w (total d) at op width next →
+      recordVoidsAt w void at ≡ S.Clean after →
       (after ≡ next) × Each (NoVoid d) (netsBesideClock (cellAt w at))
   unfolding cellAt clockAt
   record-avoids {at} {op} {width} {next} is read =
       let clean = record-clean at (is .inside) read in
       let cell = cell-read is in
       let same : op ≡ opAt w at = is .same-op in
-      let ends : next ≡ endAt w at = is .ends in
-      (clean .0 ∙ sym ends,
-      rw same at (cell-avoids at next op (is .leading) (body-of (is .body)) (rw (same, ends) (clean .1)) (rw same (cell .stands))))
+      let ends : next ≡ endAt w at = is .ends in (
+        clean .0 ∙ sym ends,
+        rw same at (cell-avoids at next op (is .leading) (body-of (is .body)) (rw (same, ends) (clean .1)) (rw same (cell .stands))),
+      )
 
   -- ---- The second pass visits the same records.
   Avoiding : Placed → Type 0
@@ -215,7 +228,8 @@ module _ (w : List ℕ) (d : Design) (run : Run 0 (d .cells) (total d)) where
 climb-scan :
     {A : Type 0} (R : ℕ → ℕ → ℕ → ℕ → Type 0) (item : ℕ → A) (visit : ℕ → Scan) (Q : A → Type 0) →
     ((least at above next after : ℕ) → R least at above next → visit at ≡ S.Clean after → (after ≡ next) × Q (item at)) →
-    {least at : ℕ} {items : List A} {end next : ℕ} → Climb R item least at items end → scanMany visit (length items) at ≡ S.Clean next →
+    {least at : ℕ} {items : List A} {end next : ℕ} → Climb R item least at items end →
+    scanMany visit (length items) at ≡ S.Clean next →
     (next ≡ end) × Each Q items
 unfolding scanMany
 climb-scan R item visit Q one {at = at} {next = next} (done ended) read = let same : next ≡ at = cc in (omega arith, tt)
@@ -228,26 +242,18 @@ climb-scan R item visit Q one (taken {least = least} {at = at} {above = above} {
 -- ---- The whole list.
 pub accepted-voids : (w : List ℕ) {d : Design} {r p : ℕ} → read w ≡ accepted d r p → VoidsUnread d
 unfolding void voidsAt Avoiding
-accepted-voids w {d} {r} {p} e = go (accepted-read w e)
+accepted-voids w {d} {r} {p} e = pass (stages (accepted-read w e))
   where
-    void-slot : ℕ → Bool
-    void-slot = Slots.isVoid (d .cells) (d .base)
-
-    pass : {last : ℕ} → voidsAt w void-slot (length (d .cells)) (length (d .cellReps)) (length (d .netReps)) ≡ S.Clean last → VoidsUnread d
-    pass read =
-        let all = stages w e in
+    pass : {last : ℕ} → Stages w d r p last → VoidsUnread d
+    pass all =
         let run = walk-run (all .walk) in
-        let first = both-read (scanMany (itemVoidsAt w void-slot I.Cell) (length (d .cells)) 4) _ read in
+        let first = both-read (scanMany (itemVoidsAt w (void w d run) I.Cell) (length (d .cells)) 4) _ (all .voids) in
         let cells = walk-avoids w d run (all .walk) (first .first) in
         let second =
-        both-read (scanMany (itemVoidsAt w void-slot I.Replacement) (length (d .cellReps)) r) _ (rw (cells .0) at (first .second)) in
+        both-read (scanMany (itemVoidsAt w (void w d run) I.Replacement) (length (d .cellReps)) r) _
+        (rw (cells .0) at (first .second)) in
         let reps = climb-scan _ _ _ (Avoiding w d run) (replacement-avoids w d run) (all .reps) (second .first) in
-        let pairs = climb-scan _ _ _ (λ (q : NetPair). NoVoid d (q .to)) (pair-avoids w d run) (all .nets) (rw (reps .0) at (second .second)) in
+        let pairs =
+        climb-scan _ _ _ (λ (q : NetPair). NoVoid d (q .to)) (pair-avoids w d run) (all .nets)
+        (rw (reps .0) at (second .second)) in
         record { cells = cells .1; newCells = reps .1; tos = pairs .1 }
-
-    go : IsAccepted w d r p → VoidsUnread d
-    go is =
-        let reps : length (d .cellReps) ≡ is .header .cellreps = ap length (is .reps-are) ∙ ascending-length _ _ (is .header .cellreps) 0 r p (is .reps-read) in
-        let pairs : length (d .netReps) ≡ is .header .netreps =
-        ap length (is .pairs-are) ∙ ascending-length _ _ (is .header .netreps) 0 p (is .end) (is .pairs-read) in
-        pass (rw (sym reps, sym pairs) at (is .voids-read))
