@@ -1,7 +1,7 @@
 -- The design that an accepted list stands for keeps document 01's bounds, and its words are the list's.
-use mathlib.Core.Path.{_≡_, refl, sym, ap, _∙_}
-use mathlib.Core.List.{List, [], _∷_}
-use Prim.Native.Nat.{ℕ, zero, suc, _+_, _*_, _≤_, _<_}
+use mathlib.Core.Path.{_≡_}
+use mathlib.Core.List.{List}
+use Prim.Native.Nat.{ℕ, _+_}
 use native.Mathlib.Omega.{arith}
 use lib.ListN.{length}
 use Rattle.cell.specs.Design.{Placed, NetPair, Design, total}
@@ -10,23 +10,28 @@ use Rattle.cell_reader.specs.Parse.{cellAt}
 use Rattle.cell_reader.specs.Accepted.{IsRecord}
 use Rattle.design_list.specs.Cover.{Walk, done, placed}
 use Rattle.design_list.specs.Read.{read, accepted}
+use Rattle.design_list.specs.Accepted.{accepted-read}
 use Rattle.bound.specs.Costs.{sumBy, sum-each}
 use Rattle.bound.specs.Bounded.{Bounded, Bounds, recordWords, designWords}
-use Rattle.accepted.specs.Cells.{IsCell, cell-read}
-use Rattle.accepted.specs.Replacements.{Climb, climb-each, climb-words}
-use Rattle.accepted.specs.Laid.{walk-each, Stages, stages}
+use Rattle.accepted.specs.Cells.{cell-read}
+use Rattle.accepted.specs.Replacements.{climb-each, climb-words}
+use Rattle.accepted.specs.Laid.{walk-each, stages}
+
+abbrev BoundedAt : Placed → Type 0
+BoundedAt p = Bounded (p .cell)
 
 pub accepted-bounds : (w : List ℕ) {d : Design} {r p : ℕ} → read w ≡ accepted d r p → Bounds d
-accepted-bounds w {d} e =
-    let all = stages w e in
+accepted-bounds w e =
+    let all = stages (accepted-read w e) in
     record {
-      cells = walk-each (λ (q : Placed). Bounded (q .cell)) (λ slot at op width after next is. cell-read (is .record-is) .bounded) (all .walk);
-      newCells = climb-each _ _ (λ (q : Placed). Bounded (q .cell)) (λ least at above next is. cell-read (is .record-is) .bounded) (all .reps);
+      cells = walk-each BoundedAt (λ slot at op width after next is. cell-read (is .record-is) .bounded) (all .walk);
+      newCells = climb-each _ _ BoundedAt (λ least at above next is. cell-read (is .record-is) .bounded) (all .reps);
     }
 
 -- A record that was read ends after the words of its cell.
 record-words :
-    {w : List ℕ} {total at : ℕ} {op : Operation} {width next : ℕ} → IsRecord w total at op width next → next ≡ at + recordWords (cellAt w at)
+    {w : List ℕ} {total at : ℕ} {op : Operation} {width next : ℕ} → IsRecord w total at op width next →
+    next ≡ at + recordWords (cellAt w at)
 record-words is = let ends = cell-read is .words in omega arith
 
 walk-words :
@@ -34,16 +39,17 @@ walk-words :
     end ≡ at + sumBy (λ (q : Placed). recordWords (q .cell)) cells
 unfolding sumBy
 walk-words (done full ended) = omega arith
-walk-words (placed inside is rest) = let here = record-words (is .record-is) in let later = walk-words rest in omega arith
+walk-words (placed inside is rest) =
+    let here = record-words (is .record-is) in let later = walk-words rest in omega arith
 
 -- An accepted list has exactly the words of its design.
 pub accepted-words : (w : List ℕ) {d : Design} {r p : ℕ} → read w ≡ accepted d r p → length w ≡ designWords d
-accepted-words w {d} {r} {p} e =
-    let all = stages w e in
-    let cells : r ≡ 4 + sumBy (λ (q : Placed). recordWords (q .cell)) (d .cells) = walk-words (all .walk) in
-    let reps : p ≡ r + sumBy (λ (q : Placed). 1 + recordWords (q .cell)) (d .cellReps) =
+accepted-words w {d} e =
+    let all = stages (accepted-read w e) in
+    let cells = walk-words (all .walk) in
+    let reps =
     climb-words _ _ (λ (q : Placed). 1 + recordWords (q .cell))
     (λ least at above next is. let ends = record-words (is .record-is) in omega arith) (all .reps) in
-    let pairs : length w ≡ p + sumBy (λ (_ : NetPair). 2) (d .netReps) = climb-words _ _ (λ (_ : NetPair). 2) (λ least at above next is. is .after) (all .nets) in
+    let pairs = climb-words _ _ (λ (_ : NetPair). 2) (λ least at above next is. is .after) (all .nets) in
     let twice = sum-each 2 (d .netReps) in
     omega arith

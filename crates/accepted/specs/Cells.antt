@@ -1,271 +1,205 @@
 -- The cell of a record that was read: its shape, its nets, its bounds and its words, layout by layout.
-use mathlib.Core.Path.{_≡_, refl, sym, ap, _∙_}
-use mathlib.Core.Bool.{Bool, true, false, cond, true≢false, false≢true}
+use mathlib.Core.Path.{_≡_, refl}
+use mathlib.Core.Bool.{true, false}
 use mathlib.Core.List.{List, [], _∷_, _++_}
-use Prim.Native.Nat.{ℕ, zero, suc, _+_, _-_, _*_, _^_, _≤_, _<_}
+use Prim.Native.Nat.{ℕ, _+_, _≤_}
 use native.Mathlib.Omega.{arith}
-use lib.ListN.{length, getD}
-use Rattle.logic.specs.Word.{payloadOf}
-use Rattle.logic.specs.Net.{Net}
-use Rattle.logic.specs.Table.{tab, length-tab}
-use Rattle.logic.specs.declared.Trit.{Trit}
-use Rattle.cell.specs.Cell.{Cell, Unary, Binary, Shift, Control}
+use lib.ListN.{length}
+use Rattle.logic.specs.Table.{length-tab}
+use Rattle.cell.specs.Cell.{Cell, Unary, Binary, Shift}
 use Rattle.cell.specs.Cell as C
 use Rattle.cell.specs.Operation.{lead, body, numbersOf, fieldsOf}
-use Rattle.cell.specs.declared.Numbers.{Numbers}
-use Rattle.cell.specs.declared.Fields.{Fields}
 use Rattle.cell.specs.declared.Operation.{Operation}
 use Rattle.cell.specs.declared.Operation.the-variants.{Void, Buf, Not, And, Or, Xor, Mux, Adc, Aig, Eq, ULt, SLt, Shl, UShr, SShr, XShr, Mul, Match, Assign, Dff, IoBuf, Input, Note}
-use Rattle.fields.specs.Accepted.{IsNumber}
 use Rattle.cell_reader.specs.Parse.{numberIn, netIn, controlIn, netsIn, tritsIn, patternsIn, cellIn, opAt, cellAt}
-use Rattle.cell_reader.specs.Accepted.{IsLeading, IsBody, IsRecord}
+use Rattle.cell_reader.specs.Accepted.{IsLeading, IsRecord}
 use Rattle.rules.specs.Shape.{Shaped, Wide, WideShift}
 use Rattle.working_out.specs.Reading.{Each, each-append}
-use Rattle.working_out.specs.Laid.{Within, netsOf}
+use Rattle.working_out.specs.Laid.{netsOf}
 use Rattle.bound.specs.Costs.{sumBy}
 use Rattle.bound.specs.Bounded.{Bounded, recordWords, patternWords}
-use Rattle.accepted.specs.Fields.{Named, named-nets, Body, body-of, patterns-shaped, length-patterns}
+use Rattle.accepted.specs.Fields.{Stands, net, vector, Body, body-of, patterns-shaped, length-patterns}
 
--- A cell whose fields stand from a place up to `end`.
-pub record IsCell (total at end : ℕ) (c : Cell) : Type 0 where
+-- A cell whose numbers stand from a place on, its nets from `start` on, and whose record ends at `end`.
+pub record IsCell (w : List ℕ) (total at start end : ℕ) (c : Cell) : Type 0 where
   pub shaped : Shaped c
-  pub within : Each (Within total) (netsOf c)
+  pub stands : Each (Stands w total start end) (netsOf c)
   pub bounded : Bounded c
   pub words : end + 1 ≡ at + recordWords c
 
 module _ (w : List ℕ) (total end at : ℕ) where
   -- #n n*
   unary-is :
-      (op : Unary) {n m start : ℕ} → IsLeading w (lead 1 0 0 false) end at n m start → Body w total (body 0 n 0 0 n) n end start →
-      IsCell total at end (C.unary op (netsIn w (numberIn w at) (at + 1)))
+      (op : Unary) {n m start : ℕ} → IsLeading w (lead 1 0 0 false) end at n m start →
+      Body w total (body 0 n 0 0 n) n end start →
+      IsCell w total at start end (C.unary op (netsIn w (numberIn w at) (at + 1)))
   unfolding patternsIn sumBy
-  unary-is op {n} {m} {start} leading fields =
+  unary-is op {n} leading fields =
       let first = leading .first (omega arith) in
-      let value : n ≡ numberIn w at = first .value in
-      let low : n ≤ 63 = first .bounded in
-      let begins : start ≡ at + 1 = leading .after (omega arith) in
-      let ends : end ≡ start + 0 + n + 0 + 0 = fields .ends in
-      let size : length (netsIn w n (at + 1)) ≡ n = length-tab n _ in
-      rw (← value)
-      (let is : IsCell total at end (C.unary op (netsIn w n (at + 1))) = record {
-        shaped = tt;
-        within = named-nets w total (fields .named) n (at + 1) (omega arith) (omega arith);
-        bounded = omega arith;
-        words = omega arith;
-      } in is)
+      let begins = leading .after (omega arith) in
+      let a = vector w total (fields .named) n (at + 1) (omega arith) (omega arith) in
+      rw (← first .value) record { shaped = tt; stands = a .each; bounded = omega arith; words = omega arith }
 
   -- #n n* n*
   binary-is :
-      (op : Binary) {least width n m start : ℕ} → (least ≤ n → Wide op n) → IsLeading w (lead 1 least 0 false) end at n m start →
+      (op : Binary) {least width n m start : ℕ} → (least ≤ n → Wide op n) →
+      IsLeading w (lead 1 least 0 false) end at n m start →
       Body w total (body 0 (n + n) 0 0 width) n end start →
-      IsCell total at end (C.binary op (netsIn w (numberIn w at) (at + 1)) (netsIn w (numberIn w at) (at + 1 + numberIn w at)))
+      IsCell w total at start end (C.binary op (netsIn w (numberIn w at) (at + 1)) (netsIn w (numberIn w at) (at + 1 + numberIn w at)))
   unfolding patternsIn sumBy
   binary-is op {n = n} {start = start} wide leading fields =
       let first = leading .first (omega arith) in
-      let value : n ≡ numberIn w at = first .value in
-      let low : n ≤ 63 = first .bounded in
-      let begins : start ≡ at + 1 = leading .after (omega arith) in
-      let ends : end ≡ start + 0 + (n + n) + 0 + 0 = fields .ends in
-      let size : length (netsIn w n (at + 1)) ≡ n = length-tab n _ in
-      let size₁ : length (netsIn w n (at + 1 + n)) ≡ n = length-tab n _ in
-      let nets = named-nets w total (fields .named) n in
-      rw (← value)
-      (let is : IsCell total at end (C.binary op (netsIn w n (at + 1)) (netsIn w n (at + 1 + n))) = record {
-        shaped = (omega arith, rw size (wide (leading .least (omega arith))));
-        within = each-append (Within total) (netsIn w n (at + 1)) (netsIn w n (at + 1 + n)) (nets (at + 1) (omega arith) (omega arith))
-            (nets (at + 1 + n) (omega arith) (omega arith));
+      let begins = leading .after (omega arith) in
+      let a = vector w total (fields .named) n (at + 1) (omega arith) (omega arith) in
+      let b = vector w total (fields .named) n (at + 1 + n) (omega arith) (omega arith) in
+      rw (← first .value) record {
+        shaped = (omega arith, rw (a .size) (wide (leading .least (omega arith))));
+        stands = each-append _ (netsIn w n (at + 1)) (netsIn w n (at + 1 + n)) (a .each) (b .each);
         bounded = omega arith;
         words = omega arith;
-      } in is)
+      }
 
   -- #n s n* n*
   mux-is :
-      {n m start : ℕ} → IsLeading w (lead 1 0 0 false) end at n m start → Body w total (body 0 (1 + n + n) 0 0 n) n end start →
-      IsCell total at end
+      {n m start : ℕ} → IsLeading w (lead 1 0 0 false) end at n m start →
+      Body w total (body 0 (1 + n + n) 0 0 n) n end start →
+      IsCell w total at start end
       (C.mux (netIn w (at + 1)) (netsIn w (numberIn w at) (at + 2)) (netsIn w (numberIn w at) (at + 2 + numberIn w at)))
   unfolding patternsIn sumBy
-  mux-is {n = n} {start = start} leading fields =
+  mux-is {n = n} leading fields =
       let first = leading .first (omega arith) in
-      let value : n ≡ numberIn w at = first .value in
-      let low : n ≤ 63 = first .bounded in
-      let begins : start ≡ at + 1 = leading .after (omega arith) in
-      let ends : end ≡ start + 0 + (1 + n + n) + 0 + 0 = fields .ends in
-      let size : length (netsIn w n (at + 2)) ≡ n = length-tab n _ in
-      let size₁ : length (netsIn w n (at + 2 + n)) ≡ n = length-tab n _ in
-      let nets = named-nets w total (fields .named) n in
-      rw (← value)
-      (let is : IsCell total at end (C.mux (netIn w (at + 1)) (netsIn w n (at + 2)) (netsIn w n (at + 2 + n))) = record {
+      let begins = leading .after (omega arith) in
+      let s = net w total (fields .named) (at + 1) (omega arith) (omega arith) in
+      let a = vector w total (fields .named) n (at + 2) (omega arith) (omega arith) in
+      let b = vector w total (fields .named) n (at + 2 + n) (omega arith) (omega arith) in
+      rw (← first .value) record {
         shaped = omega arith;
-        within = (
-          fields .named (at + 1) (omega arith) (omega arith),
-          each-append (Within total) (netsIn w n (at + 2)) (netsIn w n (at + 2 + n)) (nets (at + 2) (omega arith) (omega arith))
-              (nets (at + 2 + n) (omega arith) (omega arith)),
-        );
+        stands = (s, each-append _ (netsIn w n (at + 2)) (netsIn w n (at + 2 + n)) (a .each) (b .each));
         bounded = omega arith;
         words = omega arith;
-      } in is)
+      }
 
   -- #n n* n* c
   adc-is :
-      {n m start : ℕ} → IsLeading w (lead 1 0 0 false) end at n m start → Body w total (body 0 (n + n + 1) 0 0 (n + 1)) n end start →
-      IsCell total at end
+      {n m start : ℕ} → IsLeading w (lead 1 0 0 false) end at n m start →
+      Body w total (body 0 (n + n + 1) 0 0 (n + 1)) n end start →
+      IsCell w total at start end
       (C.adc (netsIn w (numberIn w at) (at + 1)) (netsIn w (numberIn w at) (at + 1 + numberIn w at))
       (netIn w (at + 1 + numberIn w at + numberIn w at)))
   unfolding patternsIn sumBy
-  adc-is {n = n} {start = start} leading fields =
+  adc-is {n = n} leading fields =
       let first = leading .first (omega arith) in
-      let value : n ≡ numberIn w at = first .value in
-      let low : n ≤ 63 = first .bounded in
-      let begins : start ≡ at + 1 = leading .after (omega arith) in
-      let ends : end ≡ start + 0 + (n + n + 1) + 0 + 0 = fields .ends in
-      let size : length (netsIn w n (at + 1)) ≡ n = length-tab n _ in
-      let size₁ : length (netsIn w n (at + 1 + n)) ≡ n = length-tab n _ in
-      let nets = named-nets w total (fields .named) n in
-      rw (← value)
-      (let is : IsCell total at end (C.adc (netsIn w n (at + 1)) (netsIn w n (at + 1 + n)) (netIn w (at + 1 + n + n))) = record {
+      let begins = leading .after (omega arith) in
+      let a = vector w total (fields .named) n (at + 1) (omega arith) (omega arith) in
+      let b = vector w total (fields .named) n (at + 1 + n) (omega arith) (omega arith) in
+      let c = net w total (fields .named) (at + 1 + n + n) (omega arith) (omega arith) in
+      rw (← first .value) record {
         shaped = omega arith;
-        within = each-append (Within total) (netsIn w n (at + 1)) (netsIn w n (at + 1 + n) ++ (netIn w (at + 1 + n + n) ∷ []))
-            (nets (at + 1) (omega arith) (omega arith))
-            (each-append (Within total) (netsIn w n (at + 1 + n)) (netIn w (at + 1 + n + n) ∷ []) (nets (at + 1 + n) (omega arith) (omega arith))
-            (fields .named (at + 1 + n + n) (omega arith) (omega arith), tt));
+        stands = each-append _ (netsIn w n (at + 1)) (netsIn w n (at + 1 + n) ++ (netIn w (at + 1 + n + n) ∷ [])) (a .each)
+            (each-append _ (netsIn w n (at + 1 + n)) (netIn w (at + 1 + n + n) ∷ []) (b .each) (c, tt));
         bounded = omega arith;
         words = omega arith;
-      } in is)
+      }
 
   -- two controls
   aig-is :
       {n m start : ℕ} → IsLeading w (lead 0 0 0 false) end at n m start → Body w total (body 2 0 0 0 1) n end start →
-      IsCell total at end (C.aig (controlIn w at) (controlIn w (at + 1)))
+      IsCell w total at start end (C.aig (controlIn w at) (controlIn w (at + 1)))
   unfolding patternsIn sumBy
-  aig-is {n = n} {start = start} leading fields =
-      let begins : start ≡ at + 0 = leading .after (omega arith) in
-      let ends : end ≡ start + 2 + 0 + 0 + 0 = fields .ends in
-      record {
-        shaped = tt;
-        within = (fields .named at (omega arith) (omega arith), (fields .named (at + 1) (omega arith) (omega arith), tt));
-        bounded = tt;
-        words = omega arith;
-      }
+  aig-is leading fields =
+      let begins = leading .after (omega arith) in
+      let a = net w total (fields .named) at (omega arith) (omega arith) in
+      let b = net w total (fields .named) (at + 1) (omega arith) (omega arith) in
+      record { shaped = tt; stands = (a, (b, tt)); bounded = tt; words = omega arith }
 
   -- #n #m #stride n* m*
   shift-is :
-      (op : Shift) {least n m start : ℕ} → (least ≤ n → WideShift op n) → IsLeading w (lead 3 least 32 false) end at n m start →
+      (op : Shift) {least n m start : ℕ} → (least ≤ n → WideShift op n) →
+      IsLeading w (lead 3 least 32 false) end at n m start →
       Body w total (body 0 (n + m) 0 0 n) n end start →
-      IsCell total at end
+      IsCell w total at start end
       (C.shift op (netsIn w (numberIn w at) (at + 3)) (netsIn w (numberIn w (at + 1)) (at + 3 + numberIn w at)) (numberIn w (at + 2)))
   unfolding patternsIn sumBy
-  shift-is op {n = n} {m = m} {start = start} wide leading fields =
+  shift-is op {n = n} {m = m} wide leading fields =
       let first = leading .first (omega arith) in
       let second = leading .second (omega arith) in
-      let value : n ≡ numberIn w at = first .value in
-      let value₁ : m ≡ numberIn w (at + 1) = second .value in
-      let low : n ≤ 63 = first .bounded in
-      let low₁ : m ≤ 32 = second .bounded in
-      let begins : start ≡ at + 3 = leading .after (omega arith) in
-      let ends : end ≡ start + 0 + (n + m) + 0 + 0 = fields .ends in
-      let size : length (netsIn w n (at + 3)) ≡ n = length-tab n _ in
-      let size₁ : length (netsIn w m (at + 3 + n)) ≡ m = length-tab m _ in
-      let nets = named-nets w total (fields .named) in
-      rw (← value, ← value₁)
-      (let is : IsCell total at end (C.shift op (netsIn w n (at + 3)) (netsIn w m (at + 3 + n)) (numberIn w (at + 2))) = record {
-        shaped = rw size (wide (leading .least (omega arith)));
-        within = each-append (Within total) (netsIn w n (at + 3)) (netsIn w m (at + 3 + n)) (nets n (at + 3) (omega arith) (omega arith))
-            (nets m (at + 3 + n) (omega arith) (omega arith));
+      let begins = leading .after (omega arith) in
+      let a = vector w total (fields .named) n (at + 3) (omega arith) (omega arith) in
+      let b = vector w total (fields .named) m (at + 3 + n) (omega arith) (omega arith) in
+      rw (← first .value, ← second .value) record {
+        shaped = rw (a .size) (wide (leading .least (omega arith)));
+        stands = each-append _ (netsIn w n (at + 3)) (netsIn w m (at + 3 + n)) (a .each) (b .each);
         bounded = (omega arith, omega arith, omega arith);
         words = omega arith;
-      } in is)
+      }
 
   -- #n #k enable n*, the patterns
   match-is :
-      {n m start : ℕ} → IsLeading w (lead 2 0 63 false) end at n m start → Body w total (body 0 (1 + n) 0 m m) n end start →
-      IsCell total at end
+      {n m start : ℕ} → IsLeading w (lead 2 0 63 false) end at n m start →
+      Body w total (body 0 (1 + n) 0 m m) n end start →
+      IsCell w total at start end
       (C.match (netsIn w (numberIn w at) (at + 3)) (netIn w (at + 2))
       (patternsIn w (numberIn w at) (numberIn w (at + 1)) (at + 3 + numberIn w at)))
   match-is {n = n} {m = m} {start = start} leading fields =
       let first = leading .first (omega arith) in
       let second = leading .second (omega arith) in
-      let value : n ≡ numberIn w at = first .value in
-      let value₁ : m ≡ numberIn w (at + 1) = second .value in
-      let low : n ≤ 63 = first .bounded in
-      let low₁ : m ≤ 63 = second .bounded in
       let begins : start ≡ at + 2 = leading .after (omega arith) in
       let patterns-at : start + 0 + (1 + n) + 0 ≡ at + 3 + n = omega arith in
       let ends : end ≡ at + 3 + n + sumBy patternWords (patternsIn w n m (at + 3 + n)) = rw patterns-at at (fields .ends) in
       let few = rw patterns-at at (fields .few) in
-      let size : length (netsIn w n (at + 3)) ≡ n = length-tab n _ in
-      let size₁ : length (patternsIn w n m (at + 3 + n)) ≡ m = length-patterns w end n m (at + 3 + n) in
-      let nets = named-nets w total (fields .named) in
-      rw (← value, ← value₁)
-      (let is : IsCell total at end (C.match (netsIn w n (at + 3)) (netIn w (at + 2)) (patternsIn w n m (at + 3 + n))) = record {
-        shaped = rw size (patterns-shaped w end n m (at + 3 + n));
-        within = (fields .named (at + 2) (omega arith) (omega arith), nets n (at + 3) (omega arith) (omega arith));
+      let count = length-patterns w end n m (at + 3 + n) in
+      let enable = net w total (fields .named) (at + 2) (omega arith) (omega arith) in
+      let a = vector w total (fields .named) n (at + 3) (omega arith) (omega arith) in
+      rw (← first .value, ← second .value) record {
+        shaped = rw (a .size) (patterns-shaped w end n m (at + 3 + n));
+        stands = (enable, a .each);
         bounded = (omega arith, omega arith, few);
         words = omega arith;
-      } in is)
+      }
 
   -- #n #u #offset enable n* u*
   assign-is :
-      {n m start : ℕ} → IsLeading w (lead 3 0 63 true) end at n m start → Body w total (body 0 (1 + n + m) 0 0 n) n end start →
-      IsCell total at end
+      {n m start : ℕ} → IsLeading w (lead 3 0 63 true) end at n m start →
+      Body w total (body 0 (1 + n + m) 0 0 n) n end start →
+      IsCell w total at start end
       (C.assign (netsIn w (numberIn w at) (at + 4)) (netIn w (at + 3)) (netsIn w (numberIn w (at + 1)) (at + 4 + numberIn w at))
       (numberIn w (at + 2)))
   unfolding patternsIn sumBy
-  assign-is {n = n} {m = m} {start = start} leading fields =
+  assign-is {n = n} {m = m} leading fields =
       let first = leading .first (omega arith) in
       let second = leading .second (omega arith) in
-      let value : n ≡ numberIn w at = first .value in
-      let value₁ : m ≡ numberIn w (at + 1) = second .value in
-      let low : n ≤ 63 = first .bounded in
-      let low₁ : m ≤ 63 = second .bounded in
       let two : at + 1 + 1 ≡ at + 2 = omega arith in
       let room : numberIn w (at + 2) + m ≤ n = rw two at (leading .within (omega arith) refl) in
-      let begins : start ≡ at + 3 = leading .after (omega arith) in
-      let ends : end ≡ start + 0 + (1 + n + m) + 0 + 0 = fields .ends in
-      let size : length (netsIn w n (at + 4)) ≡ n = length-tab n _ in
-      let size₁ : length (netsIn w m (at + 4 + n)) ≡ m = length-tab m _ in
-      let nets = named-nets w total (fields .named) in
-      rw (← value, ← value₁)
-      (let is : IsCell total at end (C.assign (netsIn w n (at + 4)) (netIn w (at + 3)) (netsIn w m (at + 4 + n)) (numberIn w (at + 2))) = record {
+      let begins = leading .after (omega arith) in
+      let enable = net w total (fields .named) (at + 3) (omega arith) (omega arith) in
+      let a = vector w total (fields .named) n (at + 4) (omega arith) (omega arith) in
+      let b = vector w total (fields .named) m (at + 4 + n) (omega arith) (omega arith) in
+      rw (← first .value, ← second .value) record {
         shaped = omega arith;
-        within = (
-          fields .named (at + 3) (omega arith) (omega arith),
-          each-append (Within total) (netsIn w n (at + 4)) (netsIn w m (at + 4 + n)) (nets n (at + 4) (omega arith) (omega arith))
-              (nets m (at + 4 + n) (omega arith) (omega arith)),
-        );
+        stands = (enable, each-append _ (netsIn w n (at + 4)) (netsIn w m (at + 4 + n)) (a .each) (b .each));
         bounded = (omega arith, omega arith);
         words = omega arith;
-      } in is)
+      }
 
   -- #n #reset-over-enable clock clear reset enable, n* data, n* clear value, n* reset value
   dff-is :
-      {n m start : ℕ} → IsLeading w (lead 2 0 1 false) end at n m start → Body w total (body 4 n (n + n) 0 n) n end start →
-      IsCell total at end (cellIn w Dff at)
+      {n m start : ℕ} → IsLeading w (lead 2 0 1 false) end at n m start →
+      Body w total (body 4 n (n + n) 0 n) n end start →
+      IsCell w total at start end (cellIn w Dff at)
   unfolding patternsIn sumBy
-  dff-is {n = n} {start = start} leading fields =
+  dff-is {n = n} leading fields =
       let first = leading .first (omega arith) in
-      let value : n ≡ numberIn w at = first .value in
-      let low : n ≤ 63 = first .bounded in
-      let begins : start ≡ at + 2 = leading .after (omega arith) in
-      let ends : end ≡ start + 4 + n + (n + n) + 0 = fields .ends in
-      let size : length (netsIn w (numberIn w at) (at + 6)) ≡ numberIn w at = length-tab (numberIn w at) _ in
-      let size₁ : length (tritsIn w (numberIn w at) (at + 6 + numberIn w at)) ≡ numberIn w at = length-tab (numberIn w at) _ in
-      let size₂ : length (tritsIn w (numberIn w at) (at + 6 + numberIn w at + numberIn w at)) ≡ numberIn w at = length-tab (numberIn w at) _ in
-      let named = fields .named in
-      record {
+      let begins = leading .after (omega arith) in
+      let clock = net w total (fields .named) (at + 2) (omega arith) (omega arith) in
+      let clear = net w total (fields .named) (at + 3) (omega arith) (omega arith) in
+      let reset = net w total (fields .named) (at + 4) (omega arith) (omega arith) in
+      let enable = net w total (fields .named) (at + 5) (omega arith) (omega arith) in
+      let a = vector w total (fields .named) n (at + 6) (omega arith) (omega arith) in
+      let size : length (tritsIn w n (at + 6 + n)) ≡ n = length-tab n _ in
+      let size₁ : length (tritsIn w n (at + 6 + n + n)) ≡ n = length-tab n _ in
+      rw (← first .value) record {
         shaped = (omega arith, omega arith);
-        within = (
-          named (at + 2) (omega arith) (omega arith),
-          (
-            named (at + 3) (omega arith) (omega arith),
-            (
-              named (at + 4) (omega arith) (omega arith),
-              (
-                named (at + 5) (omega arith) (omega arith),
-                named-nets w total named (numberIn w at) (at + 6) (omega arith) (omega arith),
-              ),
-            ),
-          ),
-        );
+        stands = (clock, (clear, (reset, (enable, a .each))));
         bounded = omega arith;
         words = omega arith;
       }
@@ -284,7 +218,8 @@ module _ (w : List ℕ) (total end at : ℕ) where
       (omega arith, omega arith)
 
   empty-is :
-      {n m start : ℕ} → IsLeading w (lead 0 0 0 false) end at n m start → Body w total (body 0 0 0 0 0) n end start → end + 1 ≡ at + 1
+      {n m start : ℕ} → IsLeading w (lead 0 0 0 false) end at n m start → Body w total (body 0 0 0 0 0) n end start →
+      end + 1 ≡ at + 1
   unfolding patternsIn sumBy
   empty-is {n = n} {start = start} leading fields =
       let begins : start ≡ at + 0 = leading .after (omega arith) in
@@ -293,9 +228,10 @@ module _ (w : List ℕ) (total end at : ℕ) where
 
   -- The cell of each operation.
   cell-in :
-      (op : Operation) {n m start : ℕ} → IsLeading w (numbersOf op) end at n m start → Body w total (fieldsOf op n m) n end start →
-      IsCell total at end (cellIn w op at)
-  cell-in Void l b = record { shaped = tt; within = tt; bounded = tt; words = empty-is l b }
+      (op : Operation) {n m start : ℕ} → IsLeading w (numbersOf op) end at n m start →
+      Body w total (fieldsOf op n m) n end start →
+      IsCell w total at start end (cellIn w op at)
+  cell-in Void l b = record { shaped = tt; stands = tt; bounded = tt; words = empty-is l b }
   cell-in Buf l b = unary-is C.buf l b
   cell-in Not l b = unary-is C.not l b
   cell-in And l b = binary-is C.and (λ _. tt) l b
@@ -315,13 +251,14 @@ module _ (w : List ℕ) (total end at : ℕ) where
   cell-in Match l b = match-is l b
   cell-in Assign l b = assign-is l b
   cell-in Dff l b = dff-is l b
-  cell-in IoBuf l b = let is = number-is l b in record { shaped = tt; within = tt; bounded = is .0; words = is .1 }
-  cell-in Input l b = let is = number-is l b in record { shaped = tt; within = tt; bounded = is .0; words = is .1 }
-  cell-in Note l b = record { shaped = tt; within = tt; bounded = tt; words = empty-is l b }
+  cell-in IoBuf l b = let is = number-is l b in record { shaped = tt; stands = tt; bounded = is .0; words = is .1 }
+  cell-in Input l b = let is = number-is l b in record { shaped = tt; stands = tt; bounded = is .0; words = is .1 }
+  cell-in Note l b = record { shaped = tt; stands = tt; bounded = tt; words = empty-is l b }
 
 -- The cell of a record that was read.
 pub cell-read :
-    {w : List ℕ} {total at : ℕ} {op : Operation} {width next : ℕ} → IsRecord w total at op width next → IsCell total (at + 1) next (cellAt w at)
+    {w : List ℕ} {total at : ℕ} {op : Operation} {width next : ℕ} (is : IsRecord w total at op width next) →
+    IsCell w total (at + 1) (is .start) next (cellAt w at)
 unfolding cellAt
 cell-read {w} {total} {at} {op} {width} {next} is =
     let same : op ≡ opAt w at = is .same-op in

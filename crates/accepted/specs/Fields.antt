@@ -1,14 +1,14 @@
 -- What a clean scan of fields says of what is read there: nets within the total, constants and patterns of their sizes.
-use mathlib.Core.Path.{_≡_, refl, sym, ap, _∙_}
-use mathlib.Core.Bool.{Bool, true, false, cond, true≢false, false≢true}
-use mathlib.Core.List.{List, [], _∷_, _++_}
-use Prim.Native.Nat.{ℕ, zero, suc, _+_, _-_, _*_, _^_, _≤_, _<_}
+use mathlib.Core.Path.{_≡_, refl, ap, _∙_}
+use mathlib.Core.Bool.{Bool, true, false, cond}
+use mathlib.Core.List.{List}
+use Prim.Native.Nat.{ℕ, zero, suc, _+_, _-_, _*_, _≤_, _<_}
 use native.Mathlib.Omega.{arith}
 use native.Mathlib.Decide.{decLt}
 use lib.ListN.{length, getD}
-use lib.Dec.{ltb, leb, eqb}
-use borrow.Author.Tests.{ltb-true, ltb-false, eqb-true, eqb-false}
-use Rattle.logic.specs.Word.{kindOf, payloadOf}
+use lib.Dec.{ltb, eqb}
+use borrow.Author.Tests.{ltb-true, eqb-false}
+use Rattle.logic.specs.Word.{kindOf}
 use Rattle.logic.specs.Net.{Net, constant, slot, netOf}
 use Rattle.logic.specs.Table.{tab, length-tab}
 use Rattle.logic.specs.declared.Trit.{Trit}
@@ -16,11 +16,10 @@ use Rattle.logic.specs.declared.Trit.the-variants.{Zero, One, Undef}
 use Rattle.cell.specs.declared.Fields.{Fields}
 use Rattle.fields.specs.declared.Number.{Number}
 use Rattle.fields.specs.declared.Number.the-variants as N
-use Rattle.fields.specs.declared.Scan.{Scan}
 use Rattle.fields.specs.declared.Scan.the-variants as S
-use Rattle.fields.specs.Field.{onClean, isConstant, isKnown, numberAt, netAt, constantAt, netsAt, constantsAt, scanMany}
+use Rattle.fields.specs.Field.{isConstant, isKnown, numberAt, netAt, constantAt, netsAt, constantsAt, scanMany}
 use Rattle.fields.specs.Pattern.{onNumber, alternateAt, patternAt, patternsAt}
-use Rattle.fields.specs.Accepted.{IsNumber, number-read, IsNet, net-read, constant-read, many-read, Both, both-read}
+use Rattle.fields.specs.Accepted.{number-read, IsNet, net-read, constant-read, many-read, both-read}
 use Rattle.cell_reader.specs.Parse.{numberIn, netIn, netsIn, tritsIn, patternsIn}
 use Rattle.cell_reader.specs.Accepted.{IsBody}
 use Rattle.working_out.specs.Reading.{Each}
@@ -33,43 +32,83 @@ unfolding tab
 each-tab P zero f h = tt
 each-tab P (suc n) f h = (h zero (omega arith), each-tab P n (λ i. f (suc i)) (λ i l. h (suc i) (omega arith)))
 
--- A known payload names a net within the total.
-pub known-within : (total p : ℕ) → isKnown total p ≡ true → Within total (netOf p)
-known-within total p known =
-    go (eqb p 0) (eqb p 1) (eqb p 536870911) (ltb p 2) (ltb (p - 2) total) refl refl refl refl known
+-- What holds of every constant, and of the slot of a payload that names no constant, holds of what a payload names.
+pub net-cases :
+    (P : Net → Type 0) (p : ℕ) → ((t : Trit) → P (constant t)) → (isConstant p ≡ false → P (slot (p - 2))) → P (netOf p)
+net-cases P p constants slots = go (eqb p 0) (eqb p 1) (eqb p 536870911) (ltb p 2) refl refl refl slots
   where
     go :
-        (a b c d e : Bool) → eqb p 0 ≡ a → eqb p 1 ≡ b → ltb p 2 ≡ d → ltb (p - 2) total ≡ e → cond (cond d true c) true e ≡ true →
-        Within total (cond a (constant Zero) (cond b (constant One) (cond c (constant Undef) (slot (p - 2)))))
-    go true b c d e a-is b-is d-is e-is k = tt
-    go false true c d e a-is b-is d-is e-is k = tt
-    go false false true d e a-is b-is d-is e-is k = tt
-    go false false false true e a-is b-is d-is e-is k =
+        (a b c d : Bool) → eqb p 0 ≡ a → eqb p 1 ≡ b → ltb p 2 ≡ d → (cond d true c ≡ false → P (slot (p - 2))) →
+        P (cond a (constant Zero) (cond b (constant One) (cond c (constant Undef) (slot (p - 2)))))
+    go true b c d a-is b-is d-is slots = constants Zero
+    go false true c d a-is b-is d-is slots = constants One
+    go false false true d a-is b-is d-is slots = constants Undef
+    go false false false true a-is b-is d-is slots =
         let low : p < 2 = ltb-true _ _ d-is in
         let some : p ≡ 0 → ⊥ = eqb-false _ _ a-is in
         let more : p ≡ 1 → ⊥ = eqb-false _ _ b-is in
         absurd (omega arith)
-    go false false false false true a-is b-is d-is e-is k = ltb-true _ _ e-is
-    go false false false false false a-is b-is d-is e-is k = absurd (false≢true k)
+    go false false false false a-is b-is d-is slots = slots refl
+
+-- A known payload names a net within the total.
+pub known-within : (total p : ℕ) → isKnown total p ≡ true → Within total (netOf p)
+known-within total p known = net-cases (Within total) p (λ t. tt) (λ other. ltb-true _ _ (rw other at known))
+
+-- A net of a net or control word between two places, within the total.
+pub record Stands (w : List ℕ) (total from to : ℕ) (net : Net) : Type 0 where
+  pub place : ℕ
+  pub low : from ≤ place
+  pub high : place < to
+  pub kind : kindOf (getD w place 0) ≤ 1
+  pub same : net ≡ netIn w place
+  pub within : Within total net
+
+-- n nets of which P holds.
+pub record Vector (P : Net → Type 0) (n : ℕ) (nets : List Net) : Type 0 where
+  pub size : length nets ≡ n
+  pub each : Each P nets
 
 module _ (w : List ℕ) (total : ℕ) where
-  -- The words from one place up to another name nets within the total.
-  abbrev pub Named : ℕ → ℕ → Type 0
-  Named from to = (at : ℕ) → from ≤ at → at < to → Within total (netIn w at)
+  -- The words from a place on are net or control words.
+  abbrev pub Named : ℕ → ℕ → ℕ → Type 0
+  Named end from to = (at : ℕ) → from ≤ at → at < to → IsNet w total 1 end at
 
-  pub named-nets : {from to : ℕ} → Named from to → (n at : ℕ) → from ≤ at → at + n ≤ to → Each (Within total) (netsIn w n at)
-  named-nets named n at low high = each-tab (Within total) n (λ i. netIn w (at + i)) (λ i l. named (at + i) (omega arith) (omega arith))
+  pub net :
+      {end from to : ℕ} → Named end from to → (at : ℕ) → from ≤ at → at < to → Stands w total from end (netIn w at)
+  net named at low high =
+      let is = named at low high in
+      record {
+        place = at;
+        low = low;
+        high = is .inside;
+        kind = is .kind;
+        same = refl;
+        within = known-within total (numberIn w at) (is .known);
+      }
+
+  pub vector :
+      {end from to : ℕ} → Named end from to → (n at : ℕ) → from ≤ at → at + n ≤ to →
+      Vector (Stands w total from end) n (netsIn w n at)
+  vector {end} {from} named n at low high = record {
+    size = length-tab n _;
+    each = each-tab (Stands w total from end) n (λ i. netIn w (at + i))
+        (λ i l. net named (at + i) (omega arith) (omega arith));
+  }
 
   pub nets-read :
-      (most end n at : ℕ) {next : ℕ} → netsAt w total most end n at ≡ S.Clean next → (next ≡ at + n) × Named at (at + n)
-  nets-read most end n at {next} read =
-      let all =
-      many-read (netAt w total most end) (IsNet w total most end) (λ i next e. net-read w total most end i e) n at next read in (
-        all .0,
-        λ i low high.
-            let same : at + (i - at) ≡ i = omega arith in
-            known-within total (payloadOf (getD w i 0)) (rw same at (all .1 (i - at) (omega arith) .known)),
-      )
+      (most end n at : ℕ) {next : ℕ} → most ≤ 1 → netsAt w total most end n at ≡ S.Clean next →
+      (next ≡ at + n) × Named end at (at + n)
+  nets-read most end n at {next} few read = (all .0, at-place)
+    where
+      all : (next ≡ at + n) × ((i : ℕ) → i < n → IsNet w total most end (at + i))
+      all = many-read (netAt w total most end) (IsNet w total most end) (λ i next e. net-read w total most end i e) n at next read
+
+      at-place : Named end at (at + n)
+      at-place i low high =
+          let same : at + (i - at) ≡ i = omega arith in
+          let is : IsNet w total most end i = rw same at (all .1 (i - at) (omega arith)) in
+          let right : kindOf (getD w i 0) ≤ most = is .kind in
+          record { inside = is .inside; kind = omega arith; known = is .known }
 
 module _ (w : List ℕ) (end : ℕ) where
   pub constants-read : (n at : ℕ) {next : ℕ} → constantsAt w end n at ≡ S.Clean next → next ≡ at + n
@@ -105,7 +144,9 @@ module _ (w : List ℕ) (end : ℕ) where
       let both = both-read (patternAt w n end at) _ read in
       go (numberAt w 64 end at) refl (both .first) (patterns-read n k (both .place) (both .second))
     where
-      go : (v : Number) → numberAt w 64 end at ≡ v → {place : ℕ} → onNumber v (scanMany (alternateAt w n end)) ≡ S.Clean place →
+      go :
+          (v : Number) → numberAt w 64 end at ≡ v → {place : ℕ} →
+          onNumber v (scanMany (alternateAt w n end)) ≡ S.Clean place →
           (next ≡ place + sumBy patternWords (patternsIn w n k place)) ×
           Each (λ (alternates : List (List Trit)). length alternates ≤ 64) (patternsIn w n k place) →
           (next ≡ at + sumBy patternWords (patternsIn w n (suc k) at)) ×
@@ -138,16 +179,18 @@ module _ (w : List ℕ) (end : ℕ) where
 
 -- What a body that was read says of its words: the controls and nets name nets within the total, and the record ends after the patterns.
 pub record Body (w : List ℕ) (total : ℕ) (layout : Fields) (n end start : ℕ) : Type 0 where
-  pub named : Named w total start (start + layout .controls + layout .nets)
+  pub named : Named w total end start (start + layout .controls + layout .nets)
   pub ends : end ≡ start + layout .controls + layout .nets + layout .constants +
       sumBy patternWords (patternsIn w n (layout .patterns) (start + layout .controls + layout .nets + layout .constants))
   pub few : Each (λ (alternates : List (List Trit)). length alternates ≤ 64)
       (patternsIn w n (layout .patterns) (start + layout .controls + layout .nets + layout .constants))
 
-pub body-of : {w : List ℕ} {total : ℕ} {layout : Fields} {n end start : ℕ} → IsBody w total layout n end start → Body w total layout n end start
+pub body-of :
+    {w : List ℕ} {total : ℕ} {layout : Fields} {n end start : ℕ} → IsBody w total layout n end start →
+    Body w total layout n end start
 body-of {w} {total} {layout} {n} {end} {start} is =
-    let controls = nets-read w total 1 end (layout .controls) start (is .controls-read) in
-    let nets = nets-read w total 0 end (layout .nets) (is .nets) (is .nets-read) in
+    let controls = nets-read w total 1 end (layout .controls) start (omega arith) (is .controls-read) in
+    let nets = nets-read w total 0 end (layout .nets) (is .nets) (omega arith) (is .nets-read) in
     let nets-at : is .nets ≡ start + layout .controls = controls .0 in
     let constants-at : is .constants ≡ start + layout .controls + layout .nets = nets .0 ∙ rw nets-at in
     let patterns-at : is .patterns ≡ start + layout .controls + layout .nets + layout .constants =
@@ -160,7 +203,7 @@ body-of {w} {total} {layout} {n} {end} {start} is =
     }
   where
     go : (at : ℕ) → start ≤ at → at < start + layout .controls + layout .nets → Dec (at < start + layout .controls) →
-        Named w total start (start + layout .controls) →
-        Named w total (start + layout .controls) (start + layout .controls + layout .nets) → Within total (netIn w at)
+        Named w total end start (start + layout .controls) →
+        Named w total end (start + layout .controls) (start + layout .controls + layout .nets) → IsNet w total 1 end at
     go at low high (yes y) controls nets = controls at low y
     go at low high (no n) controls nets = nets at (omega arith) high

@@ -1,15 +1,14 @@
 -- The design that an accepted list stands for is laid out as reading nets and working out need it.
 use mathlib.Core.Path.{_≡_, refl, sym, ap, _∙_}
-use mathlib.Core.Bool.{Bool, true, false, cond, _&&_, true≢false, false≢true}
+use mathlib.Core.Bool.{Bool, true, false, cond, true≢false, false≢true}
 use mathlib.Core.List.{List, [], _∷_, _++_}
-use Prim.Native.Nat.{ℕ, zero, suc, _+_, _-_, _*_, _^_, _≤_, _<_, max}
+use Prim.Native.Nat.{ℕ, zero, suc, _+_, _-_, _≤_, _<_, max}
 use native.Mathlib.Omega.{arith}
 use native.Mathlib.Decide.{decLt}
-use native.Mathlib.Nat.{add-zero}
 use lib.ListN.{length, getD, replicate}
-use lib.Dec.{ltb, leb, eqb}
+use lib.Dec.{ltb, eqb}
 use borrow.Author.Tests.{ltb-true, eqb-true, lt-ltb, le-ltb, le-leb}
-use Rattle.logic.specs.Net.{Net, payloadOfNet}
+use Rattle.logic.specs.Net.{payloadOfNet}
 use Rattle.cell.specs.Cell.{Cell, outputLen, slotsOf, standing}
 use Rattle.cell.specs.Cell as C
 use Rattle.cell.specs.Operation.{mayReplace}
@@ -19,19 +18,25 @@ use Rattle.cell.specs.declared.Operation.the-variants.{Void, Buf, Not, And, Or,
 use Rattle.cell_reader.specs.Parse as Parse
 use Rattle.cell_reader.specs.Parse.{numberIn, opAt, cellAt}
 use Rattle.cell_reader.specs.Accepted.{IsRecord}
+use Rattle.fields.specs.declared.Scan.the-variants as S
+use Rattle.design_list.specs.Voids.{voidsAt}
+use Rattle.design_list.specs.Slots as Slots
 use Rattle.design_list.specs.Slots.{covering, nowhere, takes, heads}
-use Rattle.design_list.specs.Items.{limitOf, newCell, netPair, replacementAt, pairAt}
+use Rattle.design_list.specs.Items.{newCell, netPair, replacementAt, pairAt}
 use Rattle.design_list.specs.Laws.{IsPlaced}
 use Rattle.design_list.specs.Cover.{Walk, done, placed, walk-cells}
 use Rattle.design_list.specs.Read.{read, accepted}
 use Rattle.design_list.specs.Accepted.{IsAccepted, accepted-read}
-use Rattle.working_out.specs.Reading.{Each, isIn, cellIn, cellOf, role, isVoid}
-use Rattle.working_out.specs.Laid.{Run, Ascending, Within, netsOf, CellLaid, Apart, MayReplace, Replaces, PairWithin, Laid}
-use Rattle.accepted.specs.Cells.{IsCell, cell-read}
+use Rattle.working_out.specs.Reading.{Each, each-map, isIn, cellIn, cellOf, role, isVoid}
+use Rattle.working_out.specs.Laid.{Run, netsOf, CellLaid, Apart, MayReplace, Replaces, PairWithin, Laid}
+use Rattle.accepted.specs.Fields.{known-within}
+use Rattle.accepted.specs.Cells.{cell-read}
 use Rattle.accepted.specs.Replacements.{Climb, climb-read, climb-each, climb-ascends, IsReplacement, replacement-read, IsPair, pair-read}
 
 -- ---- The cells.
-pub walk-run : {w : List ℕ} {base total slot at end : ℕ} {cells : List Placed} → Walk w base total slot at cells end → Run slot cells total
+pub walk-run :
+    {w : List ℕ} {base total slot at end : ℕ} {cells : List Placed} → Walk w base total slot at cells end →
+    Run slot cells total
 walk-run (done full ended) = full
 walk-run {w = w} {total = total} {slot = slot} (placed {at = at} {width = width} {after = after} {cells = cells} inside is rest) =
     let ends : after ≡ slot + max 1 width = is .ends in
@@ -50,7 +55,8 @@ walk-each P one {slot = slot} (placed {at = at} {op = op} {width = width} {after
     (one slot at op width after next is, walk-each P one rest)
 
 placed-apart :
-    {w : List ℕ} {base total slot at : ℕ} {op : Operation} {width after next : ℕ} → IsPlaced w base total slot at op width after next →
+    {w : List ℕ} {base total slot at : ℕ} {op : Operation} {width after next : ℕ} →
+    IsPlaced w base total slot at op width after next →
     slot < base → slot + slotsOf (cellAt w at) ≤ base
 placed-apart {w} {base} {total} {slot} {at} {width = width} {after = after} is low =
     let ends : after ≡ slot + max 1 width = is .ends in
@@ -60,10 +66,12 @@ placed-apart {w} {base} {total} {slot} {at} {width = width} {after = after} is l
 
 -- ---- The cell that a slot belongs to.
 run-takes :
-    (cells : List Placed) (s e i : ℕ) → Run s cells e → s + i < e → cellIn cells (s + i) ≡ getD (covering cells) i nowhere
+    (cells : List Placed) (s e i : ℕ) → Run s cells e → s + i < e →
+    cellIn cells (s + i) ≡ getD (covering cells) i nowhere
 unfolding cellIn covering
 run-takes [] s e i run low = absurd (omega arith)
-run-takes (p ∷ cells) s e i run low = go (decLt i (slotsOf (p .cell))) (run-takes cells (s + slotsOf (p .cell)) e (i - slotsOf (p .cell)) (run .1))
+run-takes (p ∷ cells) s e i run low =
+    go (decLt i (slotsOf (p .cell))) (run-takes cells (s + slotsOf (p .cell)) e (i - slotsOf (p .cell)) (run .1))
   where
     inside : (n i : ℕ) (l : List Placed) → i < n → getD (replicate n p ++ l) i nowhere ≡ p
     inside zero i l low = absurd (omega arith)
@@ -91,10 +99,11 @@ run-takes (p ∷ cells) s e i run low = go (decLt i (slotsOf (p .cell))) (run-ta
         (rw same at (rest (omega arith)) ∙ sym (beyond (slotsOf (p .cell)) i (covering cells) (omega arith)))
 
 pub cell-takes : (d : Design) (i : ℕ) → Run 0 (d .cells) (total d) → i < total d → cellOf d i ≡ takes (d .cells) i
-cell-takes d i run low = let zeroed : 0 + i ≡ i = omega arith in rw zeroed at (run-takes (d .cells) 0 (total d) i run (omega arith))
+cell-takes d i run low =
+    let zeroed : 0 + i ≡ i = omega arith in rw zeroed at (run-takes (d .cells) 0 (total d) i run (omega arith))
 
 -- ---- The cell replacements.
-not-void : (c : Cell) → eqb (standing c) 0 ≡ false → isVoid (role c) ≡ false
+pub not-void : (c : Cell) → eqb (standing c) 0 ≡ false → isVoid (role c) ≡ false
 not-void C.void e = absurd (true≢false e)
 not-void C.note e = refl
 not-void (C.input n) e = refl
@@ -141,16 +150,20 @@ record Heads (cells : List Placed) (base slot width : ℕ) : Type 0 where
   old : eqb (standing (takes cells slot .cell)) 0 ≡ false
   wide : outputLen (takes cells slot .cell) ≡ width
 
-heads-read : (cells : List Placed) (base slot width : ℕ) → heads cells base slot width ≡ true → Heads cells base slot width
+heads-read :
+    (cells : List Placed) (base slot width : ℕ) → heads cells base slot width ≡ true → Heads cells base slot width
 unfolding heads
 heads-read cells base slot width =
-    go (ltb slot base) (eqb (takes cells slot .slot) slot) (eqb (standing (takes cells slot .cell)) 0) (eqb (outputLen (takes cells slot .cell)) width)
-    refl refl refl refl
+    go (ltb slot base) (eqb (takes cells slot .slot) slot) (eqb (standing (takes cells slot .cell)) 0)
+    (eqb (outputLen (takes cells slot .cell)) width) refl refl refl refl
   where
     go :
-        (a b c d : Bool) → ltb slot base ≡ a → eqb (takes cells slot .slot) slot ≡ b → eqb (standing (takes cells slot .cell)) 0 ≡ c →
-        eqb (outputLen (takes cells slot .cell)) width ≡ d → cond a (cond b (cond c false d) false) false ≡ true → Heads cells base slot width
-    go true true false true a b c d e = record { low = ltb-true _ _ a; first = eqb-true _ _ b; old = c; wide = eqb-true _ _ d }
+        (a b c d : Bool) → ltb slot base ≡ a → eqb (takes cells slot .slot) slot ≡ b →
+        eqb (standing (takes cells slot .cell)) 0 ≡ c →
+        eqb (outputLen (takes cells slot .cell)) width ≡ d → cond a (cond b (cond c false d) false) false ≡ true →
+        Heads cells base slot width
+    go true true false true a b c d e =
+        record { low = ltb-true _ _ a; first = eqb-true _ _ b; old = c; wide = eqb-true _ _ d }
     go true true false false a b c d e = absurd (false≢true e)
     go true true true y a b c d e = absurd (false≢true e)
     go true false x y a b c d e = absurd (false≢true e)
@@ -160,16 +173,19 @@ module _ (d : Design) (w : List ℕ) where
   placed-laid :
       {at : ℕ} {op : Operation} {width next : ℕ} → IsRecord w (total d) at op width next → (slot : ℕ) →
       CellLaid d (record { slot = slot; cell = cellAt w at })
-  placed-laid is slot = let cell = cell-read is in record { shaped = cell .shaped; within = cell .within }
+  placed-laid {at = at} is slot =
+      let cell = cell-read is in
+      record { shaped = cell .shaped; within = each-map (netsOf (cellAt w at)) (λ net stands. stands .within) (cell .stands) }
 
   replacement-replaces :
-      Run 0 (d .cells) (total d) → {least at above next : ℕ} → IsReplacement w (total d) (heads (d .cells) (d .base)) least at above next →
+      Run 0 (d .cells) (total d) → {least at above next : ℕ} →
+      IsReplacement w (total d) (heads (d .cells) (d .base)) least at above next →
       Replaces d (newCell w at)
   unfolding cellAt
   replacement-replaces run {at = at} is =
       let head = heads-read (d .cells) (d .base) (numberIn w at) (is .width) (is .heads) in
       let low : numberIn w at < d .base = head .low in
-      let same : cellOf d (numberIn w at) ≡ takes (d .cells) (numberIn w at) = cell-takes d (numberIn w at) run (omega arith) in
+      let same = cell-takes d (numberIn w at) run (omega arith) in
       let op : is .op ≡ opAt w (at + 1) = is .record-is .same-op in
       record {
         base = head .low;
@@ -179,40 +195,54 @@ module _ (d : Design) (w : List ℕ) where
         new = rw op at (may-replace w (is .op) (at + 1 + 1) (is .may));
       }
 
--- ---- The whole list: the cells placed one after another, then the replacements, then the pairs, up to the last word.
-pub record Stages (w : List ℕ) (d : Design) (replacements pairs : ℕ) : Type 0 where
-  pub walk : Walk w (d .base) (total d) 0 4 (d .cells) replacements
-  pub reps : Climb (IsReplacement w (total d) (heads (d .cells) (d .base))) (newCell w) 0 replacements (d .cellReps) pairs
-  pub nets : Climb (IsPair w (total d)) (netPair w) 0 pairs (d .netReps) (length w)
+  pair-within : {least at above next : ℕ} → IsPair w (total d) least at above next → PairWithin d (netPair w at)
+  pair-within {at = at} is = record {
+    from = known-within (total d) (numberIn w at) (is .from-is .known);
+    to = known-within (total d) (numberIn w (at + 1)) (is .to-is .known);
+  }
 
-pub stages : (w : List ℕ) {d : Design} {r p : ℕ} → read w ≡ accepted d r p → Stages w d r p
-stages w {d} {r} {p} e = go (accepted-read w e)
+-- ---- The whole list: the cells placed one after another, then the replacements, then the pairs, up to the last word; and
+-- then a second pass over as many of each.
+pub record Stages (w : List ℕ) (d : Design) (replacements pairs last : ℕ) : Type 0 where
+  pub walk : Walk w (d .base) (total d) 0 4 (d .cells) replacements
+  pub reps :
+      Climb (IsReplacement w (total d) (heads (d .cells) (d .base))) (newCell w) 0 replacements (d .cellReps) pairs
+  pub nets : Climb (IsPair w (total d)) (netPair w) 0 pairs (d .netReps) (length w)
+  pub voids :
+      voidsAt w (Slots.isVoid (d .cells) (d .base)) (length (d .cells)) (length (d .cellReps)) (length (d .netReps)) ≡ S.Clean last
+
+pub stages : {w : List ℕ} {d : Design} {r p : ℕ} (is : IsAccepted w d r p) → Stages w d r p (is .last)
+stages {w} {d} {r} {p} is =
+    let reps =
+    climb-read (IsReplacement w (total d) head) (newCell w) (replacementAt w (total d) head) (replacement-read w (total d) head)
+    (is .header .cellreps) 0 r p (is .reps-read) in
+    let nets =
+    climb-read (IsPair w (total d)) (netPair w) (pairAt w (total d)) (pair-read w (total d)) (is .header .netreps) 0 p (is .end)
+    (is .pairs-read) in
+    record {
+      walk = rw (is .cells-are) (walk-cells w (d .base) (d .added) r (is .cells-read));
+      reps = rw (is .reps-are) (reps .climb);
+      nets = rw (is .pairs-are, ← is .ended) (nets .climb);
+      voids = rw (ap length (is .reps-are) ∙ reps .many, ap length (is .pairs-are) ∙ nets .many) (is .voids-read);
+    }
   where
     head : ℕ → ℕ → Bool
     head = heads (d .cells) (d .base)
 
-    go : IsAccepted w d r p → Stages w d r p
-    go is = record {
-      walk = rw (is .cells-are) (walk-cells w (d .base) (d .added) r (is .cells-read));
-      reps = rw (is .reps-are)
-          (climb-read (IsReplacement w (total d) head) (newCell w) (replacementAt w (total d) head) (replacement-read w (total d) head)
-          (is .header .cellreps) 0 r p (is .reps-read));
-      nets = rw (is .pairs-are, ← is .ended)
-          (climb-read (IsPair w (total d)) (netPair w) (pairAt w (total d)) (pair-read w (total d)) (is .header .netreps) 0 p (is .end)
-          (is .pairs-read));
-    }
-
 pub accepted-laid : (w : List ℕ) {d : Design} {r p : ℕ} → read w ≡ accepted d r p → Laid d
 accepted-laid w {d} e =
-    let all = stages w e in
+    let all = stages (accepted-read w e) in
     let run = walk-run (all .walk) in
     record {
       run = run;
       apart = walk-each (Apart d) (λ slot at op width after next is. placed-apart is) (all .walk);
       cells = walk-each (CellLaid d) (λ slot at op width after next is. placed-laid d w (is .record-is) slot) (all .walk);
-      newCells = climb-each _ _ (CellLaid d) (λ least at above next is. placed-laid d w (is .record-is) (numberIn w at)) (all .reps);
+      newCells =
+          climb-each _ _ (CellLaid d) (λ least at above next is. placed-laid d w (is .record-is) (numberIn w at)) (all .reps);
       replaces = climb-each _ _ (Replaces d) (λ least at above next is. replacement-replaces d w run is) (all .reps);
       slots = climb-ascends _ _ (λ (q : Placed). q .slot) (λ least at above next is. (is .low, is .up)) (all .reps) .1;
-      nets = climb-each _ _ (PairWithin d) (λ least at above next is. record { from = is .from; to = is .to }) (all .nets);
-      froms = climb-ascends _ _ (λ (q : NetPair). payloadOfNet (q .from)) (λ least at above next is. (is .low, is .up)) (all .nets) .1;
+      nets = climb-each _ _ (PairWithin d) (λ least at above next is. pair-within d w is) (all .nets);
+      froms =
+          climb-ascends _ _ (λ (q : NetPair). payloadOfNet (q .from)) (λ least at above next is. (is .low, is .up)) (all .nets)
+          .1;
     }

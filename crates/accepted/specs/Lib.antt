@@ -3,3 +3,4 @@ pub mod Cells
 pub mod Replacements
 pub mod Laid
 pub mod Bounds
+pub mod Voids

@@ -1,17 +1,15 @@
 -- What a clean run of cell replacements or net replacements says of each, and of their order.
-use mathlib.Core.Path.{_≡_, refl, sym, ap, _∙_}
-use mathlib.Core.Bool.{Bool, true, false, cond, true≢false, false≢true}
-use mathlib.Core.List.{List, [], _∷_, _++_}
-use Prim.Native.Nat.{ℕ, zero, suc, _+_, _-_, _*_, _^_, _≤_, _<_}
+use mathlib.Core.Path.{_≡_, refl, ap}
+use mathlib.Core.Bool.{Bool, true, false, cond}
+use mathlib.Core.List.{List, [], _∷_}
+use Prim.Native.Nat.{ℕ, zero, suc, _+_, _-_, _^_, _≤_}
 use native.Mathlib.Omega.{arith}
-use lib.ListN.{length, getD}
-use lib.Dec.{ltb, leb, eqb}
+use lib.ListN.{length}
+use lib.Dec.{ltb, leb}
 use borrow.Author.Tests.{leb-true}
-use Rattle.logic.specs.Word.{payloadOf}
-use Rattle.logic.specs.Net.{Net, netOf, payloadOfNet, payload-of-net}
+use Rattle.logic.specs.Net.{payloadOfNet, payload-of-net}
 use Rattle.cell.specs.Operation.{mayReplace}
 use Rattle.cell.specs.declared.Operation.{Operation}
-use Rattle.cell.specs.Design.{Placed, NetPair}
 use Rattle.fields.specs.declared.Number.{Number}
 use Rattle.fields.specs.declared.Number.the-variants as N
 use Rattle.fields.specs.declared.Scan.{Scan}
@@ -21,17 +19,17 @@ use Rattle.fields.specs.Accepted.{IsNumber, number-read, IsNet, net-read}
 use Rattle.cell_reader.specs.declared.Record.{Record}
 use Rattle.cell_reader.specs.declared.Record.the-variants as R
 use Rattle.cell_reader.specs.Record.{recordAt}
-use Rattle.cell_reader.specs.Parse.{numberIn, netIn, cellAt}
+use Rattle.cell_reader.specs.Parse.{numberIn, netIn}
 use Rattle.cell_reader.specs.Accepted.{IsRecord, record-read}
 use Rattle.design_list.specs.declared.Step.{Step}
 use Rattle.design_list.specs.declared.Step.the-variants as T
-use Rattle.design_list.specs.Items.{Reading, push, onStep, ascending, listedNumberAt, listedNetAt, onSlot, onNewCell, replaces, replacementAt, onNet, pairAt}
+use Rattle.design_list.specs.Items.{push, onStep, ascending, listedNumberAt, listedNetAt, onSlot, onNewCell, replaces, replacementAt, onNet, pairAt}
 use Rattle.working_out.specs.Reading.{Each, each-map}
-use Rattle.working_out.specs.Laid.{Within, Ascending}
+use Rattle.working_out.specs.Laid.{Ascending}
 use Rattle.bound.specs.Costs.{sumBy}
-use Rattle.accepted.specs.Fields.{known-within}
 
--- The items from a place on, up to the place `end`: R holds of what each asks, its place, what it asks of the next, and the place after it.
+-- The items from a place on, up to the place `end`. R holds of what each is asked, its place, what it asks of the next, and
+-- the place after it.
 module _ {A : Type 0} (R : ℕ → ℕ → ℕ → ℕ → Type 0) (item : ℕ → A) where
   pub data Climb : ℕ → ℕ → List A → ℕ → Type 0 where
     done : {least at end : ℕ} → at ≡ end → Climb least at [] end
@@ -39,25 +37,38 @@ module _ {A : Type 0} (R : ℕ → ℕ → ℕ → ℕ → Type 0) (item : ℕ �
         {least at above next : ℕ} {items : List A} {end : ℕ} → R least at above next → Climb above next items end →
         Climb least at (item at ∷ items) end
 
-  pub climb-read :
-      (step : ℕ → ℕ → Step) → ((least at above next : ℕ) → step least at ≡ T.Read above next → R least at above next) →
-      (k least at end : ℕ) → ascending step item k least at .scan ≡ S.Clean end → Climb least at (ascending step item k least at .items) end
-  unfolding ascending
-  climb-read step one zero least at end read = let ended : at ≡ end = cc in done ended
-  climb-read step one (suc k) least at end read = go (step least at) refl read (λ above next. climb-read step one k above next end)
-    where
-      go :
-          (s : Step) → step least at ≡ s → onStep s (λ (above next : ℕ). push (item at) (ascending step item k above next)) .scan ≡ S.Clean end →
-          ((above next : ℕ) → ascending step item k above next .scan ≡ S.Clean end → Climb above next (ascending step item k above next .items) end) →
-          Climb least at (onStep s (λ (above next : ℕ). push (item at) (ascending step item k above next)) .items) end
-      go (T.Refused f) s e rest = let z : _≡_ {A = ℕ} 0 1 = cc in absurd (omega arith)
-      go (T.Read above next) s e rest = taken (one least at above next s) (rest above next e)
+  -- A clean run of k items.
+  pub record IsRun (k least at end : ℕ) (items : List A) : Type 0 where
+    pub many : length items ≡ k
+    pub climb : Climb least at items end
+
+  module _
+      (step : ℕ → ℕ → Step) (one : (least at above next : ℕ) → step least at ≡ T.Read above next → R least at above next) where
+    pub climb-read :
+        (k least at end : ℕ) → ascending step item k least at .scan ≡ S.Clean end →
+        IsRun k least at end (ascending step item k least at .items)
+    unfolding ascending
+    climb-read zero least at end read = let ended : at ≡ end = cc in record { many = refl; climb = done ended }
+    climb-read (suc k) least at end read = go (step least at) refl read (λ above next. climb-read k above next end)
+      where
+        go :
+            (s : Step) → step least at ≡ s →
+            onStep s (λ (above next : ℕ). push (item at) (ascending step item k above next)) .scan ≡ S.Clean end →
+            ((above next : ℕ) → ascending step item k above next .scan ≡ S.Clean end →
+            IsRun k above next end (ascending step item k above next .items)) →
+            IsRun (suc k) least at end
+            (onStep s (λ (above next : ℕ). push (item at) (ascending step item k above next)) .items)
+        go (T.Refused f) s e rest = let z : _≡_ {A = ℕ} 0 1 = cc in absurd (omega arith)
+        go (T.Read above next) s e rest =
+            let later = rest above next e in
+            record { many = ap suc (later .many); climb = taken (one least at above next s) (later .climb) }
 
   pub climb-each :
       (P : A → Type 0) → ((least at above next : ℕ) → R least at above next → P (item at)) →
       {least at : ℕ} {items : List A} {end : ℕ} → Climb least at items end → Each P items
   climb-each P one (done ended) = tt
-  climb-each P one (taken {least = least} {at = at} {above = above} {next = next} is rest) = (one least at above next is, climb-each P one rest)
+  climb-each P one (taken {least = least} {at = at} {above = above} {next = next} is rest) =
+      (one least at above next is, climb-each P one rest)
 
   pub climb-words :
       (size : A → ℕ) → ((least at above next : ℕ) → R least at above next → next ≡ at + size (item at)) →
@@ -69,8 +80,10 @@ module _ {A : Type 0} (R : ℕ → ℕ → ℕ → ℕ → Type 0) (item : ℕ �
 
   -- Each asks that the next be above it.
   pub climb-ascends :
-      (key : A → ℕ) → ((least at above next : ℕ) → R least at above next → (least ≤ key (item at)) × (above ≡ key (item at) + 1)) →
-      {least at : ℕ} {items : List A} {end : ℕ} → Climb least at items end → Each (λ (y : A). least ≤ key y) items × Ascending key items
+      (key : A → ℕ) →
+      ((least at above next : ℕ) → R least at above next → (least ≤ key (item at)) × (above ≡ key (item at) + 1)) →
+      {least at : ℕ} {items : List A} {end : ℕ} → Climb least at items end →
+      Each (λ (y : A). least ≤ key y) items × Ascending key items
   climb-ascends key one (done ended) = (tt, tt)
   climb-ascends key one (taken {least = least} {at = at} {above = above} {next = next} {items = items} is rest) =
       let here = one least at above next is in
@@ -79,7 +92,9 @@ module _ {A : Type 0} (R : ℕ → ℕ → ℕ → ℕ → Type 0) (item : ℕ �
         (each-map items (λ y high. let up = here .1 in omega arith) (later .0), later .1),
       )
 
-listed-number : (w : List ℕ) (at : ℕ) {n next : ℕ} → listedNumberAt w at ≡ N.Value n next → IsNumber w (2 ^ 29 - 1) (length w) at n next
+listed-number :
+    (w : List ℕ) (at : ℕ) {n next : ℕ} → listedNumberAt w at ≡ N.Value n next →
+    IsNumber w (2 ^ 29 - 1) (length w) at n next
 unfolding listedNumberAt
 listed-number w at {n} {next} = go (ltb at (length w))
   where
@@ -89,14 +104,16 @@ listed-number w at {n} {next} = go (ltb at (length w))
     go true e = number-read w _ _ at e
     go false e = let z : _≡_ {A = ℕ} 0 1 = cc in absurd (omega arith)
 
-listed-net : (w : List ℕ) (total at : ℕ) {next : ℕ} → listedNetAt w total at ≡ S.Clean next → (next ≡ at + 1) × Within total (netIn w at)
+listed-net :
+    (w : List ℕ) (total at : ℕ) {next : ℕ} → listedNetAt w total at ≡ S.Clean next →
+    (next ≡ at + 1) × IsNet w total 0 (length w) at
 unfolding listedNetAt
 listed-net w total at {next} = go (ltb at (length w))
   where
     go :
         (b : Bool) → cond b (netAt w total 0 (length w) at) (S.Refused (fault 1 (length w))) ≡ S.Clean next →
-        (next ≡ at + 1) × Within total (netIn w at)
-    go true e = let is = net-read w total 0 (length w) at e in (is .0, known-within total (numberIn w at) (is .1 .known))
+        (next ≡ at + 1) × IsNet w total 0 (length w) at
+    go true e = net-read w total 0 (length w) at e
     go false e = let z : _≡_ {A = ℕ} 0 1 = cc in absurd (omega arith)
 
 -- A cell replacement that was read.
@@ -120,8 +137,10 @@ replacement-read w total head least at above next read = slotted (listedNumberAt
 
     right :
         (slot start : ℕ) → IsNumber w (2 ^ 29 - 1) (length w) at slot start → (op : Operation) (width after : ℕ) →
-        IsRecord w total start op width after → (a b c : Bool) → leb least slot ≡ a → head slot width ≡ b → mayReplace op ≡ c →
-        cond (cond a (cond b c false) false) (T.Read (slot + 1) after) (T.Refused (fault 12 at)) ≡ T.Read above next → Goal
+        IsRecord w total start op width after → (a b c : Bool) → leb least slot ≡ a → head slot width ≡ b →
+        mayReplace op ≡ c →
+        cond (cond a (cond b c false) false) (T.Read (slot + 1) after) (T.Refused (fault 12 at)) ≡ T.Read above next →
+        Goal
     right slot start is op width after new true true true a b c e =
         let value : slot ≡ numberIn w at = is .value in
         let begins : start ≡ at + 1 = is .after in
@@ -142,33 +161,38 @@ replacement-read w total head least at above next read = slotted (listedNumberAt
     right slot start is op width after new false x y a b c e = let z : _≡_ {A = ℕ} 0 1 = cc in absurd (omega arith)
 
     recorded :
-        (slot start : ℕ) → IsNumber w (2 ^ 29 - 1) (length w) at slot start → (r : Record) → recordAt w total start ≡ r →
+        (slot start : ℕ) → IsNumber w (2 ^ 29 - 1) (length w) at slot start → (r : Record) →
+        recordAt w total start ≡ r →
         onNewCell r (λ (op : Operation) (width after : ℕ).
-        cond (cond (leb least slot) (cond (head slot width) (mayReplace op) false) false) (T.Read (slot + 1) after) (T.Refused (fault 12 at)))
+        cond (cond (leb least slot) (cond (head slot width) (mayReplace op) false) false) (T.Read (slot + 1) after)
+        (T.Refused (fault 12 at)))
         ≡ T.Read above next → Goal
     recorded slot start is (R.Refused f) r e = let z : _≡_ {A = ℕ} 0 1 = cc in absurd (omega arith)
     recorded slot start is (R.Read op width after) r e =
-        right slot start is op width after (record-read w total start r) (leb least slot) (head slot width) (mayReplace op) refl refl refl e
+        right slot start is op width after (record-read w total start r) (leb least slot) (head slot width) (mayReplace op)
+        refl refl refl e
 
     slotted :
         (v : Number) → listedNumberAt w at ≡ v →
         onSlot v (λ (slot start : ℕ).
         onNewCell (recordAt w total start) (λ (op : Operation) (width after : ℕ).
-        cond (cond (leb least slot) (cond (head slot width) (mayReplace op) false) false) (T.Read (slot + 1) after) (T.Refused (fault 12 at))))
+        cond (cond (leb least slot) (cond (head slot width) (mayReplace op) false) false) (T.Read (slot + 1) after)
+        (T.Refused (fault 12 at))))
         ≡ T.Read above next → Goal
     slotted (N.Refused f) v e = let z : _≡_ {A = ℕ} 0 1 = cc in absurd (omega arith)
     slotted (N.Value slot start) v e = recorded slot start (listed-number w at v) (recordAt w total start) refl e
 
 -- A net replacement that was read.
 pub record IsPair (w : List ℕ) (total least at above next : ℕ) : Type 0 where
-  pub from : Within total (netIn w at)
-  pub to : Within total (netIn w (at + 1))
+  pub from-is : IsNet w total 0 (length w) at
+  pub to-is : IsNet w total 0 (length w) (at + 1)
   pub low : least ≤ payloadOfNet (netIn w at)
   pub up : above ≡ payloadOfNet (netIn w at) + 1
   pub after : next ≡ at + 2
 
 pub pair-read :
-    (w : List ℕ) (total least at above next : ℕ) → pairAt w total least at ≡ T.Read above next → IsPair w total least at above next
+    (w : List ℕ) (total least at above next : ℕ) → pairAt w total least at ≡ T.Read above next →
+    IsPair w total least at above next
 unfolding pairAt
 pair-read w total least at above next read = first (listedNetAt w total at) refl read
   where
@@ -176,7 +200,8 @@ pair-read w total least at above next read = first (listedNetAt w total at) refl
     Goal = IsPair w total least at above next
 
     right :
-        Within total (netIn w at) → Within total (netIn w (at + 1)) → (after : ℕ) → after ≡ at + 1 + 1 → (b : Bool) → leb least (numberIn w at) ≡ b →
+        IsNet w total 0 (length w) at → IsNet w total 0 (length w) (at + 1) → (after : ℕ) → after ≡ at + 1 + 1 →
+        (b : Bool) → leb least (numberIn w at) ≡ b →
         cond b (T.Read (numberIn w at + 1) after) (T.Refused (fault 13 at)) ≡ T.Read above next → Goal
     right from to after place false b e = let z : _≡_ {A = ℕ} 0 1 = cc in absurd (omega arith)
     right from to after place true b e =
@@ -184,11 +209,12 @@ pair-read w total least at above next read = first (listedNetAt w total at) refl
         let same : payloadOfNet (netIn w at) ≡ numberIn w at = payload-of-net (numberIn w at) in
         let top : above ≡ numberIn w at + 1 = cc in
         let last : next ≡ after = cc in
-        record { from = from; to = to; low = omega arith; up = omega arith; after = omega arith }
+        record { from-is = from; to-is = to; low = omega arith; up = omega arith; after = omega arith }
 
     second :
-        Within total (netIn w at) → (s : Scan) → listedNetAt w total (at + 1) ≡ s →
-        onNet s (λ (after : ℕ). cond (leb least (numberIn w at)) (T.Read (numberIn w at + 1) after) (T.Refused (fault 13 at))) ≡ T.Read above next →
+        IsNet w total 0 (length w) at → (s : Scan) → listedNetAt w total (at + 1) ≡ s →
+        onNet s (λ (after : ℕ).
+        cond (leb least (numberIn w at)) (T.Read (numberIn w at + 1) after) (T.Refused (fault 13 at))) ≡ T.Read above next →
         Goal
     second from (S.Refused f) s e = let z : _≡_ {A = ℕ} 0 1 = cc in absurd (omega arith)
     second from (S.Clean after) s e =
@@ -198,7 +224,8 @@ pair-read w total least at above next read = first (listedNetAt w total at) refl
         (s : Scan) → listedNetAt w total at ≡ s →
         onNet s (λ (to : ℕ).
         onNet (listedNetAt w total to) (λ (after : ℕ).
-        cond (leb least (numberIn w at)) (T.Read (numberIn w at + 1) after) (T.Refused (fault 13 at)))) ≡ T.Read above next → Goal
+        cond (leb least (numberIn w at)) (T.Read (numberIn w at + 1) after) (T.Refused (fault 13 at)))) ≡ T.Read above next →
+        Goal
     first (S.Refused f) s e = let z : _≡_ {A = ℕ} 0 1 = cc in absurd (omega arith)
     first (S.Clean to) s e =
         let is = listed-net w total at s in
