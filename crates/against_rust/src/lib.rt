@@ -1,0 +1,1 @@
+// The order of work held against the Rust's answers.
