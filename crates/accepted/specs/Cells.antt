@@ -12,13 +12,13 @@ use Rattle.cell.specs.Operation.{lead, body, numbersOf, fieldsOf}
 use Rattle.cell.specs.declared.Operation.{Operation}
 use Rattle.cell.specs.declared.Operation.the-variants.{Void, Buf, Not, And, Or, Xor, Mux, Adc, Aig, Eq, ULt, SLt, Shl, UShr, SShr, XShr, Mul, Match, Assign, Dff, IoBuf, Input, Note}
 use Rattle.cell_reader.specs.Parse.{numberIn, netIn, controlIn, netsIn, tritsIn, patternsIn, cellIn, opAt, cellAt}
-use Rattle.cell_reader.specs.Accepted.{IsLeading, IsRecord}
+use Rattle.cell_reader.specs.Accepted.{length-patterns, IsLeading, IsRecord}
 use Rattle.rules.specs.Shape.{Shaped, Wide, WideShift}
 use Rattle.working_out.specs.Reading.{Each, each-append}
 use Rattle.working_out.specs.Laid.{netsOf}
 use Rattle.bound.specs.Costs.{sumBy}
 use Rattle.bound.specs.Bounded.{Bounded, recordWords, patternWords}
-use Rattle.accepted.specs.Fields.{Stands, net, vector, Body, body-of, patterns-shaped, length-patterns}
+use Rattle.accepted.specs.Fields.{Stands, net, vector, Body, body-of, patterns-shaped}
 
 -- A cell whose numbers stand from a place on, its nets from `start` on, and whose record ends at `end`.
 pub record IsCell (w : List ℕ) (total at start end : ℕ) (c : Cell) : Type 0 where
@@ -147,7 +147,7 @@ module _ (w : List ℕ) (total end at : ℕ) where
       let patterns-at : start + 0 + (1 + n) + 0 ≡ at + 3 + n = omega arith in
       let ends : end ≡ at + 3 + n + sumBy patternWords (patternsIn w n m (at + 3 + n)) = rw patterns-at at (fields .ends) in
       let few = rw patterns-at at (fields .few) in
-      let count = length-patterns w end n m (at + 3 + n) in
+      let count = length-patterns w n m (at + 3 + n) in
       let enable = net w total (fields .named) (at + 2) (omega arith) (omega arith) in
       let a = vector w total (fields .named) n (at + 3) (omega arith) (omega arith) in
       rw (← first .value, ← second .value) record {

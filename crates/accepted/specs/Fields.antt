@@ -1,5 +1,5 @@
 -- What a clean scan of fields says of what is read there: nets within the total, constants and patterns of their sizes.
-use mathlib.Core.Path.{_≡_, refl, ap, _∙_}
+use mathlib.Core.Path.{_≡_, refl, _∙_}
 use mathlib.Core.Bool.{Bool, true, false, cond}
 use mathlib.Core.List.{List}
 use Prim.Native.Nat.{ℕ, zero, suc, _+_, _-_, _*_, _≤_, _<_}
@@ -172,12 +172,8 @@ module _ (w : List ℕ) (end : ℕ) where
   patterns-shaped n (suc k) at =
       (each-tab _ (numberIn w at) _ (λ i l. length-tab n _), patterns-shaped n k (at + 1 + numberIn w at * n))
 
-  pub length-patterns : (n k at : ℕ) → length (patternsIn w n k at) ≡ k
-  unfolding patternsIn
-  length-patterns n zero at = refl
-  length-patterns n (suc k) at = ap suc (length-patterns n k (at + 1 + numberIn w at * n))
-
--- What a body that was read says of its words: the controls and nets name nets within the total, and the record ends after the patterns.
+-- What a body that was read says of its words: the controls and nets name nets within the total, and the record ends after
+-- the patterns.
 pub record Body (w : List ℕ) (total : ℕ) (layout : Fields) (n end start : ℕ) : Type 0 where
   pub named : Named w total end start (start + layout .controls + layout .nets)
   pub ends : end ≡ start + layout .controls + layout .nets + layout .constants +
