@@ -22,4 +22,5 @@ pub mod Theorem
 pub mod Bound
 pub mod WellFormed
 pub mod Required
+pub mod Tidy
 pub mod Marks
