@@ -3,7 +3,7 @@ use mathlib.Core.Path.{_≡_, refl, sym, ap, ap₂, _∙_, subst}
 use mathlib.Core.Logic.{_⊎_, inl, inr, ⊎-elim}
 use mathlib.Core.Bool.{Bool, true, false, not, cond, _&&_, true≢false, false≢true}
 use mathlib.Core.Option.{Option, none, some}
-use mathlib.Core.List.{List, [], _∷_, _++_, map, append-assoc, List·Memᴰ, List·Memᴰ·head, List·Memᴰ·tail, Memᴰ·append-left, Memᴰ·append-right}
+use mathlib.Core.List.{List, [], _∷_, _++_, map, append-assoc, List·Memᴰ, List·Memᴰ·head, List·Memᴰ·tail, List·Memᴰ·append-cases, Memᴰ·append-left, Memᴰ·append-right}
 use Prim.Native.Nat.{ℕ, zero, suc, _+_, _*_, _-_, _≤_, _<_, max}
 use native.Mathlib.Omega.{arith}
 use lib.Dec.{eqb, leb, ltb}
@@ -52,14 +52,14 @@ abbrev pub KnownIn : List ℕ → ℕ → Type 0
 KnownIn names p = (k : ℕ) × (getD names p 0 ≡ suc k)
 
 -- A store of a term keeps known names known, and makes its own known.
-keeps : (names : List ℕ) (q n p : ℕ) → KnownIn names p → KnownIn (set names q (suc n)) p
+pub keeps : (names : List ℕ) (q n p : ℕ) → KnownIn names p → KnownIn (set names q (suc n)) p
 keeps [] q n p h = h
 keeps (x ∷ names) zero n zero h = (n, refl)
 keeps (x ∷ names) zero n (suc p) h = h
 keeps (x ∷ names) (suc q) n zero h = h
 keeps (x ∷ names) (suc q) n (suc p) h = keeps names q n p h
 
-makes-known : (names : List ℕ) (p n : ℕ) → p < length names → KnownIn (set names p (suc n)) p
+pub makes-known : (names : List ℕ) (p n : ℕ) → p < length names → KnownIn (set names p (suc n)) p
 makes-known [] p n l = absurd (omega arith)
 makes-known (x ∷ names) zero n l = (n, refl)
 makes-known (x ∷ names) (suc p) n l = makes-known names p n (omega arith)
@@ -202,6 +202,9 @@ declared-left cs ds name m = rw (names-append cs ds) (Memᴰ·append-left (decla
 
 declared-right : (cs ds : List Call) (name : Name) → IsDeclared ds name → IsDeclared (cs ++ ds) name
 declared-right cs ds name m = rw (names-append cs ds) (Memᴰ·append-right (declaredNames cs) m)
+
+pub declared-cases : (cs ds : List Call) (name : Name) → IsDeclared (cs ++ ds) name → IsDeclared cs name ⊎ IsDeclared ds name
+declared-cases cs ds name m = List·Memᴰ·append-cases (declaredNames cs) (rw (names-append cs ds) at m)
 
 -- Every known name is among the declared names of some calls.
 abbrev pub Listed : List ℕ → List Call → Type 0
