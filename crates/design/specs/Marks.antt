@@ -1,5 +1,5 @@
--- The recorded marks: one for each slot, none, n or p. Both names of a marked slot are declared (the writer never gives fault 2 at a
--- mark), and no net of a slot that is marked none is.
+-- The recorded marks: one for each slot, none, n or p. Both names of a marked slot are declared (the writer never gives
+-- fault 2 at a mark), and no net of a slot that is marked none is.
 use mathlib.Core.Path.{_≡_, refl, sym, ap, _∙_}
 use mathlib.Core.Logic.{⊎-elim}
 use mathlib.Core.Bool.{Bool, true, false, cond}
@@ -47,7 +47,17 @@ use Rattle.design.specs.Verify.{
 use Rattle.design.specs.Exists.{zeros-none}
 use Rattle.design.specs.Declares.{KnownIn, keeps, makes-known, declared-left, declared-cases, listed-work}
 use Rattle.design.specs.Requirement3.{declaredNames, IsDeclared, Declared}
-use Rattle.design.specs.Tidy.{Recorded, Tidy, tidy-seq, tidy-netOf, tidy-net, tidy-tvEq, tidy-tvRefines, tidy-output, tidy-cell}
+use Rattle.design.specs.Tidy.{
+  Recorded,
+  Tidy,
+  tidy-seq,
+  tidy-netOf,
+  tidy-net,
+  tidy-tvEq,
+  tidy-tvRefines,
+  tidy-output,
+  tidy-cell,
+}
 
 -- ---- steps
 
@@ -146,7 +156,8 @@ module _ (slots : ℕ) where
 
 -- ---- a declared net's slot is marked
 
--- What calls from a state to another leave of the marks: as many, a marked slot marked, and the slot of each declared net marked.
+-- What calls from a state to another leave of the marks: as many, a marked slot marked, and the slot of each declared
+-- net marked.
 record Marking (s t : St) (cs : List Call) : Type 0 where
   many : length (t .marks) ≡ length (s .marks)
   still : (i : ℕ) → KnownIn (s .marks) i → KnownIn (t .marks) i
@@ -165,7 +176,11 @@ marking-then cs ds f g = record {
 temporaries-alone : (s t : St) (cs : List Call) → t .marks ≡ s .marks → ((n : Name) → IsDeclared cs n → n .letter ≡ c.t)
     → Marking s t cs
 temporaries-alone s t cs e alone =
-    record { many = ap length e; still = λ i k. rw e k; read = λ a i h m l. absurd (no-net a (alone (netName a i h) m)) }
+    record {
+      many = ap length e;
+      still = λ i k. rw e k;
+      read = λ a i h m l. absurd (no-net a (alone (netName a i h) m));
+    }
   where
     no-net : (a : Age) → letterOf a ≡ c.t → ⊥
     no-net curr q = let z : _≡_ {A = ℕ} 0 1 = cc in omega arith
@@ -243,18 +258,18 @@ work-marking (obliged m ∷ rest) s =
 
 none-recorded : (slots : ℕ) → Recorded slots ((start slots) .names) ((start slots) .marks)
 none-recorded slots = record {
-  places = length-replicate {A = ℕ} (4 * slots) 0;
-  many = length-replicate {A = ℕ} slots 0;
-  low = λ i. low i (getD (replicate slots 0) i 0) refl;
+  places = length-replicate {A = ℕ} (4 * slots) _;
+  many = length-replicate {A = ℕ} slots _;
+  low = λ i. low i (getD ((start slots) .marks) i 0) refl;
   named = named;
 }
   where
-    low : (i m : ℕ) → getD (replicate slots 0) i 0 ≡ m → m ≤ 2
+    low : (i m : ℕ) → getD ((start slots) .marks) i 0 ≡ m → m ≤ 2
     low i zero e = omega arith
     low i (suc k) e = absurd (zeros-none slots i k e)
 
-    named : (a : Age) (i : ℕ) → getD (replicate slots 0) i 0 ≡ mark a → (h : Half)
-        → KnownIn (replicate (4 * slots) 0) (place a i h)
+    named : (a : Age) (i : ℕ) → getD ((start slots) .marks) i 0 ≡ mark a → (h : Half)
+        → KnownIn ((start slots) .names) (place a i h)
     named curr i e h = absurd (zeros-none slots i 0 e)
     named past i e h = absurd (zeros-none slots i 1 e)
 
@@ -281,8 +296,8 @@ verify-only d name m =
     ⊎-elim (λ m. m) (λ m. absurd (asked-none ((built d) .res) ((built d) .st) name m))
     (declared-cases ((built d) .calls) _ name m)
 
--- The marks that the builder leaves: one for each slot, 0 (none), 1 (n) or 2 (p). Both names of a marked slot are declared, and a slot
--- marked none has no net declared.
+-- The marks that the builder leaves: one for each slot, 0 (none), 1 (n) or 2 (p). A slot marked none has no net
+-- declared, and both names of a marked slot are.
 pub record Marked (d : Design) : Type 0 where
   pub many : length ((built d) .st .marks) ≡ total d
   pub low : (i : ℕ) → getD ((built d) .st .marks) i 0 ≤ 2

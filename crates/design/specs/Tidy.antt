@@ -1,5 +1,5 @@
--- Runs of the builder leave both names of a marked slot known: a net is read by its two names together, so that no run leaves a slot
--- marked with one of them alone.
+-- Runs of the builder leave both names of a marked slot known: a net is read by its two names together, so that no run
+-- leaves a slot marked with one of them alone.
 use mathlib.Core.Path.{_≡_, refl, ap, _∙_}
 use mathlib.Core.Bool.{Bool, true, false, cond}
 use mathlib.Core.Option.{none}
@@ -85,7 +85,7 @@ use Rattle.design.specs.Declares.{KnownIn, kept, makes-net}
 
 -- ---- marks and names
 
--- A mark below the end is no default.
+-- Past the end there is no mark.
 below : (l : List ℕ) (i k : ℕ) → getD l i 0 ≡ suc k → i < length l
 below [] i k e = absurd (omega arith)
 below (x ∷ l) zero k e = omega arith
@@ -127,9 +127,10 @@ pub record Recorded (slots : ℕ) (names marks : List ℕ) : Type 0 where
   pub named : (a : Age) (i : ℕ) → getD marks i 0 ≡ mark a → (h : Half) → KnownIn names (place a i h)
 
 module _ (slots : ℕ) where
-  -- A run from a state that is recorded so to another.
+  -- A run that leads from such names and marks to such again.
   abbrev pub Tidy : {A : Type 0} → Prog A → Type 0
-  Tidy m = (s : St) → Recorded slots (s .names) (s .marks) → Recorded slots ((emit m s) .st .names) ((emit m s) .st .marks)
+  Tidy m =
+      (s : St) → Recorded slots (s .names) (s .marks) → Recorded slots ((emit m s) .st .names) ((emit m s) .st .marks)
 
   pub tidy-seq : {A B : Type 0} (m : Prog A) (g : A → Prog B) → Tidy m → ((x : A) → Tidy (g x)) → Tidy (m >>= g)
   tidy-seq m g h i s r = rw (emit-seq m g s) (i ((emit m s) .res) ((emit m s) .st) (h s r))
@@ -148,13 +149,16 @@ module _ (slots : ℕ) where
   unfolding emit
   const-marks a i h s = go (getD (s .names) (place a i h) 0) refl
     where
-      go : (o : ℕ) → getD (s .names) (place a i h) 0 ≡ o → (emit (bvConst a i h) s) .st .marks ≡ set (s .marks) i (mark a)
+      go : (o : ℕ) → getD (s .names) (place a i h) 0 ≡ o
+          → (emit (bvConst a i h) s) .st .marks ≡ set (s .marks) i (mark a)
       go zero e = rw e
       go (suc k) e = rw e
 
   slot-marks : (a : Age) (i : ℕ) (s : St) → (emit (netOf a (slot i)) s) .st .marks ≡ set (s .marks) i (mark a)
   unfolding netOf tvConst emit
-  slot-marks a i s = rw (emit-seq (bvConst a i isUndef), emit-seq (bvConst a i isOne), const-marks a i isOne, const-marks a i isUndef, set-again)
+  slot-marks a i s =
+      rw (emit-seq (bvConst a i isUndef), emit-seq (bvConst a i isOne), const-marks a i isOne, const-marks a i isUndef)
+      (set-again (s .marks) i (mark a))
 
   -- The slot gets the mark of the read, and the read makes both names known; the others are as before.
   tidy-slot : (a : Age) (i : ℕ) → Tidy (netOf a (slot i))
@@ -168,15 +172,18 @@ module _ (slots : ℕ) where
       own : (b : Age) (j k : ℕ) (h : Half) → getD (set (s .marks) i (mark a)) j 0 ≡ suc k → i ≡ j → mark a ≡ mark b
           → KnownIn ((emit (netOf a (slot i)) s) .st .names) (place b j h)
       own b j k h e p q =
-          let l : j < length (s .marks) = rw (length-set (s .marks) i (mark a)) at (below (set (s .marks) i (mark a)) j k e) in
+          let l : j < length (s .marks) =
+          rw (length-set (s .marks) i (mark a)) at (below (set (s .marks) i (mark a)) j k e) in
           let m = r .many in
           let low : place a i h < 4 * slots = place-low slots a i h (omega arith) in
           rw (← p, ← (mark-inj a b q)) (makes-net a i h s (rw (r .places) low))
 
-      before : (b : Age) (j : ℕ) → getD (s .marks) j 0 ≡ mark b → (h : Half) → KnownIn ((emit (netOf a (slot i)) s) .st .names) (place b j h)
+      before : (b : Age) (j : ℕ) → getD (s .marks) j 0 ≡ mark b → (h : Half)
+          → KnownIn ((emit (netOf a (slot i)) s) .st .names) (place b j h)
       before b j e h = (kept (netOf a (slot i)) s) .still (place b j h) (r .named b j e h)
 
-      named : (b : Age) (j : ℕ) → getD (set (s .marks) i (mark a)) j 0 ≡ mark b → (h : Half) → KnownIn ((emit (netOf a (slot i)) s) .st .names) (place b j h)
+      named : (b : Age) (j : ℕ) → getD (set (s .marks) i (mark a)) j 0 ≡ mark b → (h : Half)
+          → KnownIn ((emit (netOf a (slot i)) s) .st .names) (place b j h)
       named curr j e h = stored (s .marks) i (mark a) j 0 e (own curr j 0 h e) (λ e. before curr j e h)
       named past j e h = stored (s .marks) i (mark a) j 1 e (own past j 1 h e) (λ e. before past j e h)
 
@@ -385,7 +392,8 @@ module _ (slots : ℕ) where
     tidy-product (v ∷ nets) (One ∷ pattern) prd =
         tidy-seq _ _ (tidy-compared v One prd) λ prd. tidy-product nets pattern prd
 
-    tidy-sum : (nets : List Net) (alternates : List (List Trit)) (total : TritVec) → Tidy (sum readsPast nets alternates total)
+    tidy-sum : (nets : List Net) (alternates : List (List Trit)) (total : TritVec)
+        → Tidy (sum readsPast nets alternates total)
     unfolding sum
     tidy-sum nets [] total = tidy-ret total
     tidy-sum nets (pattern ∷ alternates) total =
@@ -397,7 +405,8 @@ module _ (slots : ℕ) where
     unfolding matchOf
     tidy-matchOf nets alternates = tidy-seq _ _ (tidy-tvLit (Zero ∷ [])) λ total. tidy-sum nets alternates total
 
-    tidy-matchCell : (nets : List Net) (enable : Net) (patterns : List (List (List Trit))) (k : ℕ) → Tidy (matchCell readsPast nets enable patterns k)
+    tidy-matchCell : (nets : List Net) (enable : Net) (patterns : List (List (List Trit))) (k : ℕ)
+        → Tidy (matchCell readsPast nets enable patterns k)
     unfolding matchCell
     tidy-matchCell nets enable patterns k =
         tidy-seq _ _ (tidy-collect (matchOf readsPast nets) (tidy-matchOf nets) patterns) λ matches.
@@ -415,14 +424,16 @@ module _ (slots : ℕ) where
     unfolding resetTo
     tidy-resetTo f w reset dat = tidy-seq _ _ (tidy-tvLit (f .resetValue)) λ to. tidy-tvMux reset to dat w
 
-    tidy-loaded : (over : Bool) (f : FlipFlop) (s w : ℕ) (reset enable dat : TritVec) → Tidy (loaded readsPast over f s w reset enable dat)
+    tidy-loaded : (over : Bool) (f : FlipFlop) (s w : ℕ) (reset enable dat : TritVec)
+        → Tidy (loaded readsPast over f s w reset enable dat)
     unfolding loaded
     tidy-loaded true f s w reset enable dat =
         tidy-seq _ _ (tidy-enabled f s w enable dat) λ dat. tidy-resetTo f w reset dat
     tidy-loaded false f s w reset enable dat =
         tidy-seq _ _ (tidy-resetTo f w reset dat) λ dat. tidy-enabled f s w enable dat
 
-    tidy-cleared : (has : Bool) (f : FlipFlop) (w : ℕ) (clear dat : TritVec) → Tidy (cleared readsPast has f w clear dat)
+    tidy-cleared : (has : Bool) (f : FlipFlop) (w : ℕ) (clear dat : TritVec)
+        → Tidy (cleared readsPast has f w clear dat)
     unfolding cleared
     tidy-cleared true f w clear dat = tidy-seq _ _ (tidy-tvLit (f .clearValue)) λ to. tidy-tvMux clear to dat w
     tidy-cleared false f w clear dat = tidy-ret dat
