@@ -1,6 +1,6 @@
 -- The recorded marks: one for each slot, none, n or p. Both names of a marked slot are declared (the writer never gives
 -- fault 2 at a mark), and no net of a slot that is marked none is.
-use mathlib.Core.Path.{_≡_, refl, sym, ap, _∙_}
+use mathlib.Core.Path.{_≡_, refl, sym, ap, _∙_, subst₂}
 use mathlib.Core.Logic.{⊎-elim}
 use mathlib.Core.Bool.{Bool, true, false, cond}
 use mathlib.Core.Option.{Option, none, some}
@@ -8,15 +8,17 @@ use mathlib.Core.List.{List, [], _∷_, _++_, List·Memᴰ·not-nil, List·Mem�
 use Prim.Native.Nat.{ℕ, zero, suc, _*_, _≤_, _<_}
 use native.Mathlib.Omega.{arith}
 use lib.Dec.{eqb}
-use lib.ListN.{length, getD, set, length-set, length-replicate, replicate}
-use Rattle.logic.specs.Net.{Net, slot}
+use lib.ListN.{length, getD, set, length-set, length-replicate}
+use Rattle.logic.specs.Net.{Net}
 use Rattle.cell.specs.Cell.{Cell, outputLen}
 use Rattle.cell.specs.Design.{Design, Placed, NetPair, total}
 use Rattle.engine.specs.Call.{Name, Call}
 use Rattle.engine.specs.Call as c
+use Rattle.engine.specs.Encode.{decode}
+use Rattle.design_list.specs.Read.{accepted, read}
 use Rattle.working_out.specs.Reading.{Each, each-append, readsPast, Pair, equal, ofVoid, ofDffs, ordinary, pairOf}
 use Rattle.smt.specs.Prog.{Prog, ret, op, declare, bind, bind2, _>>=_, Age, curr, past, Half}
-use Rattle.smt.specs.Builder.{currValue, outputNets, cell}
+use Rattle.smt.specs.Builder.{currValue, outputNets}
 use Rattle.smt.specs.Emit.{St, Out, emit, place, netName, letterOf, mark, learn, reread, bound, bound2, after, known}
 use Rattle.design.specs.Verify.{
   Step,
@@ -47,6 +49,8 @@ use Rattle.design.specs.Verify.{
 use Rattle.design.specs.Exists.{zeros-none}
 use Rattle.design.specs.Declares.{KnownIn, keeps, makes-known, declared-left, declared-cases, listed-work}
 use Rattle.design.specs.Requirement3.{declaredNames, IsDeclared, Declared}
+use Rattle.design.specs.Verified.{writtenMarks, callWords, marks}
+use Rattle.design.specs.Required.{calls-are}
 use Rattle.design.specs.Tidy.{
   Recorded,
   Tidy,
@@ -296,17 +300,16 @@ verify-only d name m =
     ⊎-elim (λ m. m) (λ m. absurd (asked-none ((built d) .res) ((built d) .st) name m))
     (declared-cases ((built d) .calls) _ name m)
 
--- The marks that the builder leaves: one for each slot, 0 (none), 1 (n) or 2 (p). A slot marked none has no net
--- declared, and both names of a marked slot are.
-pub record Marked (d : Design) : Type 0 where
-  pub many : length ((built d) .st .marks) ≡ total d
-  pub low : (i : ℕ) → getD ((built d) .st .marks) i 0 ≤ 2
-  pub unread : (i : ℕ) → i < total d → getD ((built d) .st .marks) i 0 ≡ 0 → (a : Age) (h : Half)
-      → IsDeclared (verify d) (netName a i h) → ⊥
-  pub current : (i : ℕ) → getD ((built d) .st .marks) i 0 ≡ 1 → Declared (verify d) curr i
-  pub past : (i : ℕ) → getD ((built d) .st .marks) i 0 ≡ 2 → Declared (verify d) past i
+-- Marks and calls: a mark for each slot, 0 (none), 1 (n) or 2 (p). A slot marked none has no net declared, and both names
+-- of a marked slot are.
+pub record Marked (slots : ℕ) (marks : List ℕ) (calls : List Call) : Type 0 where
+  pub many : length marks ≡ slots
+  pub low : (i : ℕ) → getD marks i 0 ≤ 2
+  pub unread : (i : ℕ) → i < slots → getD marks i 0 ≡ 0 → (a : Age) (h : Half) → IsDeclared calls (netName a i h) → ⊥
+  pub current : (i : ℕ) → getD marks i 0 ≡ 1 → Declared calls curr i
+  pub past : (i : ℕ) → getD marks i 0 ≡ 2 → Declared calls past i
 
-pub marked : (d : Design) → Marked d
+pub marked : (d : Design) → Marked (total d) ((built d) .st .marks) (verify d)
 marked d = record {
   many = done .many;
   low = done .low;
@@ -330,3 +333,9 @@ marked d = record {
         let k = (work-marking (steps d) (start (total d))) .read a i h (verify-only d (netName a i h) m) (rw slots l) in
         let z = sym e ∙ k .1 in
         omega arith
+
+-- Of an accepted list: the marks and the call words that it is answered with.
+pub list-marked : (w : List ℕ) {d : Design} {reps pairs : ℕ} → read w ≡ accepted d reps pairs
+    → Marked (total d) (marks w) (decode (callWords w))
+unfolding marks
+list-marked w {d} is = subst₂ (Marked (total d)) (sym (ap writtenMarks is)) (sym (calls-are w is)) (marked d)
