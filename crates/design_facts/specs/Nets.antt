@@ -1,0 +1,128 @@
+-- The nets of the cells of an accepted design: known, and no Voids of the base but for clocks.
+use Prim.Native.Nat.{ℕ, zero, suc, _+_, _-_, _*_, _/_, _%_, _<_, _≤_, suc-le-suc}
+use mathlib.Core.Path.{_≡_, refl, sym, ap, _∙_}
+use mathlib.Core.Bool.{Bool, true, false, cond}
+use mathlib.Core.List.{List, [], _∷_, _++_}
+use native.Mathlib.Omega.{arith}
+use lib.ListN.{length, getD}
+use Rattle.logic.specs.Net.{Net, netOf}
+use Rattle.logic.specs.Table.{tab}
+use Rattle.cell.specs.Cell as C
+use Rattle.cell.specs.Cell.{Cell}
+use Rattle.cell.specs.Operation.{numbersOf, fieldsOf, standingOf}
+use Rattle.cell.specs.declared.Operation.{Operation}
+use Rattle.cell.specs.declared.Operation.the-variants.{Void, Buf, Not, And, Or, Xor, Mux, Adc, Aig, Eq, ULt, SLt, Shl, UShr, SShr, XShr, Mul, Match, Assign, Dff, IoBuf, Input, Note}
+use Rattle.cell_reader.specs.Parse.{numberIn, netIn, netsIn, cellIn, opAt, cellAt}
+
+-- The nets of a cell, inverted ones too, but for a Dff's clock.
+abbrev pub netsOf : Cell → List Net
+netsOf C.void = []
+netsOf C.note = []
+netsOf (C.input n) = []
+netsOf (C.ioBuf n) = []
+netsOf (C.unary op a) = a
+netsOf (C.binary op a b) = a ++ b
+netsOf (C.mux s a b) = s ∷ a ++ b
+netsOf (C.adc a b c) = (a ++ b) ++ c ∷ []
+netsOf (C.aig a b) = a .net ∷ b .net ∷ []
+netsOf (C.shift op value amount stride) = value ++ amount
+netsOf (C.match value enable patterns) = enable ∷ value
+netsOf (C.assign value enable update offset) = enable ∷ value ++ update
+netsOf (C.dff ff) = ff .clear .net ∷ ff .reset .net ∷ ff .enable .net ∷ ff .dat
+
+abbrev pub AllNets : (Net → Type 0) → List Net → Type 0
+AllNets Q [] = Unit {0}
+AllNets Q (x ∷ xs) = Q x × AllNets Q xs
+
+both : (Q : Net → Type 0) (a b : List Net) → AllNets Q a → AllNets Q b → AllNets Q (a ++ b)
+both Q [] b p q = q
+both Q (x ∷ a) b p q = (p .0, both Q a b (p .1) q)
+
+tab-all : (Q : Net → Type 0) (n : ℕ) (f : ℕ → Net) → ((i : ℕ) → i < n → Q (f i)) → AllNets Q (tab n f)
+unfolding tab
+tab-all Q zero f all = tt
+tab-all Q (suc n) f all = (all zero (omega arith), tab-all Q n (λ i. f (suc i)) (λ i low. all (suc i) (omega arith)))
+
+run : (w : List ℕ) (Q : Net → Type 0) (n base : ℕ) → ((p : ℕ) → base ≤ p → p < base + n → Q (netIn w p)) → AllNets Q (netsIn w n base)
+run w Q n base all = tab-all Q n _ (λ i low. all (base + i) (omega arith) (omega arith))
+
+-- Two runs of nets, one after the other.
+two : (w : List ℕ) (Q : Net → Type 0) (n a m b : ℕ) →
+    ((p : ℕ) → a ≤ p → p < a + n → Q (netIn w p)) → ((p : ℕ) → b ≤ p → p < b + m → Q (netIn w p)) → AllNets Q (netsIn w n a ++ netsIn w m b)
+two w Q n a m b first second = both Q (netsIn w n a) (netsIn w m b) (run w Q n a first) (run w Q m b second)
+
+-- Where the controls and the nets of an operation's fields stand, by the numbers that lead them.
+abbrev pub controlsFrom : Operation → ℕ → ℕ
+controlsFrom op first = first + numbersOf op .count
+
+abbrev pub netsFrom : List ℕ → Operation → ℕ → ℕ
+netsFrom w op first = first + numbersOf op .count + fieldsOf op (numberIn w first) (numberIn w (first + 1)) .controls
+
+-- What holds of the net of every control but a clock and of every net word holds of every net of the cell.
+pub cell-nets :
+    (w : List ℕ) (Q : Net → Type 0) (op : Operation) (first : ℕ) →
+    ((p : ℕ) → controlsFrom op first ≤ p → p < netsFrom w op first → (standingOf op ≡ 1 → controlsFrom op first < p) → Q (netIn w p)) →
+    ((p : ℕ) → netsFrom w op first ≤ p → p < netsFrom w op first + fieldsOf op (numberIn w first) (numberIn w (first + 1)) .nets → Q (netIn w p)) →
+    AllNets Q (netsOf (cellIn w op first))
+cell-nets w Q Void first controls nets = tt
+cell-nets w Q Buf first controls nets = run w Q (numberIn w first) (first + 1) (λ p lo hi. nets p (omega arith) (omega arith))
+cell-nets w Q Not first controls nets = run w Q (numberIn w first) (first + 1) (λ p lo hi. nets p (omega arith) (omega arith))
+cell-nets w Q And first controls nets =
+    two w Q (numberIn w first) (first + 1) (numberIn w first) (first + 1 + numberIn w first) (λ p lo hi. nets p (omega arith) (omega arith))
+    (λ p lo hi. nets p (omega arith) (omega arith))
+cell-nets w Q Or first controls nets =
+    two w Q (numberIn w first) (first + 1) (numberIn w first) (first + 1 + numberIn w first) (λ p lo hi. nets p (omega arith) (omega arith))
+    (λ p lo hi. nets p (omega arith) (omega arith))
+cell-nets w Q Xor first controls nets =
+    two w Q (numberIn w first) (first + 1) (numberIn w first) (first + 1 + numberIn w first) (λ p lo hi. nets p (omega arith) (omega arith))
+    (λ p lo hi. nets p (omega arith) (omega arith))
+cell-nets w Q Mux first controls nets =
+    (nets (first + 1) (omega arith) (omega arith),
+    two w Q (numberIn w first) (first + 2) (numberIn w first) (first + 2 + numberIn w first) (λ p lo hi. nets p (omega arith) (omega arith))
+    (λ p lo hi. nets p (omega arith) (omega arith)))
+cell-nets w Q Adc first controls nets =
+    let carry = netIn w (first + 1 + numberIn w first + numberIn w first) ∷ [] in
+    both Q (netsIn w (numberIn w first) (first + 1) ++ netsIn w (numberIn w first) (first + 1 + numberIn w first)) carry
+    (two w Q (numberIn w first) (first + 1) (numberIn w first) (first + 1 + numberIn w first) (λ p lo hi. nets p (omega arith) (omega arith))
+    (λ p lo hi. nets p (omega arith) (omega arith)))
+    (nets (first + 1 + numberIn w first + numberIn w first) (omega arith) (omega arith), tt)
+cell-nets w Q Aig first controls nets =
+    (controls first (omega arith) (omega arith) (λ other. absurd (omega arith)),
+    (controls (first + 1) (omega arith) (omega arith) (λ other. absurd (omega arith)), tt))
+cell-nets w Q Eq first controls nets =
+    two w Q (numberIn w first) (first + 1) (numberIn w first) (first + 1 + numberIn w first) (λ p lo hi. nets p (omega arith) (omega arith))
+    (λ p lo hi. nets p (omega arith) (omega arith))
+cell-nets w Q ULt first controls nets =
+    two w Q (numberIn w first) (first + 1) (numberIn w first) (first + 1 + numberIn w first) (λ p lo hi. nets p (omega arith) (omega arith))
+    (λ p lo hi. nets p (omega arith) (omega arith))
+cell-nets w Q SLt first controls nets =
+    two w Q (numberIn w first) (first + 1) (numberIn w first) (first + 1 + numberIn w first) (λ p lo hi. nets p (omega arith) (omega arith))
+    (λ p lo hi. nets p (omega arith) (omega arith))
+cell-nets w Q Shl first controls nets =
+    two w Q (numberIn w first) (first + 3) (numberIn w (first + 1)) (first + 3 + numberIn w first) (λ p lo hi. nets p (omega arith) (omega arith))
+    (λ p lo hi. nets p (omega arith) (omega arith))
+cell-nets w Q UShr first controls nets =
+    two w Q (numberIn w first) (first + 3) (numberIn w (first + 1)) (first + 3 + numberIn w first) (λ p lo hi. nets p (omega arith) (omega arith))
+    (λ p lo hi. nets p (omega arith) (omega arith))
+cell-nets w Q SShr first controls nets =
+    two w Q (numberIn w first) (first + 3) (numberIn w (first + 1)) (first + 3 + numberIn w first) (λ p lo hi. nets p (omega arith) (omega arith))
+    (λ p lo hi. nets p (omega arith) (omega arith))
+cell-nets w Q XShr first controls nets =
+    two w Q (numberIn w first) (first + 3) (numberIn w (first + 1)) (first + 3 + numberIn w first) (λ p lo hi. nets p (omega arith) (omega arith))
+    (λ p lo hi. nets p (omega arith) (omega arith))
+cell-nets w Q Mul first controls nets =
+    two w Q (numberIn w first) (first + 1) (numberIn w first) (first + 1 + numberIn w first) (λ p lo hi. nets p (omega arith) (omega arith))
+    (λ p lo hi. nets p (omega arith) (omega arith))
+cell-nets w Q Match first controls nets = (nets (first + 2) (omega arith) (omega arith), run w Q (numberIn w first) (first + 3) (λ p lo hi. nets p (omega arith) (omega arith)))
+cell-nets w Q Assign first controls nets =
+    (nets (first + 3) (omega arith) (omega arith),
+    two w Q (numberIn w first) (first + 4) (numberIn w (first + 1)) (first + 4 + numberIn w first) (λ p lo hi. nets p (omega arith) (omega arith))
+    (λ p lo hi. nets p (omega arith) (omega arith)))
+cell-nets w Q Dff first controls nets =
+    (controls (first + 3) (omega arith) (omega arith) (λ _. omega arith),
+    (controls (first + 4) (omega arith) (omega arith) (λ _. omega arith),
+    (controls (first + 5) (omega arith) (omega arith) (λ _. omega arith),
+    run w Q (numberIn w first) (first + 6) (λ p lo hi. nets p (omega arith) (omega arith)))))
+cell-nets w Q IoBuf first controls nets = tt
+cell-nets w Q Input first controls nets = tt
+cell-nets w Q Note first controls nets = tt
