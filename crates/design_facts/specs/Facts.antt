@@ -229,7 +229,7 @@ abbrev pub Known : ℕ → Net → Type 0
 Known tot (W.constant t) = Unit {0}
 Known tot (W.slot i) = i < tot
 
-known-net : (tot p : ℕ) → isKnown tot p ≡ true → Known tot (netOf p)
+pub known-net : (tot p : ℕ) → isKnown tot p ≡ true → Known tot (netOf p)
 known-net tot p e = go (eqb p 0) (eqb p 1) (eqb p 536870911) refl refl refl
   where
     low : (eqb p 0 ≡ false) → (eqb p 1 ≡ false) → (eqb p 536870911 ≡ false) → p - 2 < tot

@@ -12,6 +12,12 @@ use Rattle.cell.specs.Cell.{Cell}
 use Rattle.cell.specs.Operation.{numbersOf, fieldsOf, standingOf}
 use Rattle.cell.specs.declared.Operation.{Operation}
 use Rattle.cell.specs.declared.Operation.the-variants.{Void, Buf, Not, And, Or, Xor, Mux, Adc, Aig, Eq, ULt, SLt, Shl, UShr, SShr, XShr, Mul, Match, Assign, Dff, IoBuf, Input, Note}
+use Rattle.cell.specs.Design.{Placed}
+use Rattle.fields.specs.Field.{netAt}
+use Rattle.fields.specs.Accepted.{IsNet, net-read, many-read}
+use Rattle.cell_reader.specs.Accepted.{IsLeading, IsBody, IsRecord}
+use Rattle.design_list.specs.Cover.{Walk, done, placed, All}
+use Rattle.design_facts.specs.Facts.{Known, known-net}
 use Rattle.cell_reader.specs.Parse.{numberIn, netIn, netsIn, cellIn, opAt, cellAt}
 
 -- The nets of a cell, inverted ones too, but for a Dff's clock.
@@ -126,3 +132,117 @@ cell-nets w Q Dff first controls nets =
 cell-nets w Q IoBuf first controls nets = tt
 cell-nets w Q Input first controls nets = tt
 cell-nets w Q Note first controls nets = tt
+
+low-count : (op : Operation) → numbersOf op .count ≤ 3
+low-count Void = omega arith
+low-count Buf = omega arith
+low-count Not = omega arith
+low-count And = omega arith
+low-count Or = omega arith
+low-count Xor = omega arith
+low-count Mux = omega arith
+low-count Adc = omega arith
+low-count Aig = omega arith
+low-count Eq = omega arith
+low-count ULt = omega arith
+low-count SLt = omega arith
+low-count Shl = omega arith
+low-count UShr = omega arith
+low-count SShr = omega arith
+low-count XShr = omega arith
+low-count Mul = omega arith
+low-count Match = omega arith
+low-count Assign = omega arith
+low-count Dff = omega arith
+low-count IoBuf = omega arith
+low-count Input = omega arith
+low-count Note = omega arith
+
+-- The counts of fields are those of the numbers as they stand in the words.
+same-fields :
+    (w : List ℕ) (op : Operation) (end first : ℕ) {n m next : ℕ} → IsLeading w (numbersOf op) end first n m next →
+    (fieldsOf op n m .controls ≡ fieldsOf op (numberIn w first) (numberIn w (first + 1)) .controls)
+    × (fieldsOf op n m .nets ≡ fieldsOf op (numberIn w first) (numberIn w (first + 1)) .nets)
+same-fields w Void end first {n} {m} is = (refl, refl)
+same-fields w Buf end first {n} {m} is = let n-is : n ≡ numberIn w first = is .first (omega arith) .value in (refl, omega arith)
+same-fields w Not end first {n} {m} is = let n-is : n ≡ numberIn w first = is .first (omega arith) .value in (refl, omega arith)
+same-fields w And end first {n} {m} is = let n-is : n ≡ numberIn w first = is .first (omega arith) .value in (refl, omega arith)
+same-fields w Or end first {n} {m} is = let n-is : n ≡ numberIn w first = is .first (omega arith) .value in (refl, omega arith)
+same-fields w Xor end first {n} {m} is = let n-is : n ≡ numberIn w first = is .first (omega arith) .value in (refl, omega arith)
+same-fields w Mux end first {n} {m} is = let n-is : n ≡ numberIn w first = is .first (omega arith) .value in (refl, omega arith)
+same-fields w Adc end first {n} {m} is = let n-is : n ≡ numberIn w first = is .first (omega arith) .value in (refl, omega arith)
+same-fields w Aig end first {n} {m} is = (refl, refl)
+same-fields w Eq end first {n} {m} is = let n-is : n ≡ numberIn w first = is .first (omega arith) .value in (refl, omega arith)
+same-fields w ULt end first {n} {m} is = let n-is : n ≡ numberIn w first = is .first (omega arith) .value in (refl, omega arith)
+same-fields w SLt end first {n} {m} is = let n-is : n ≡ numberIn w first = is .first (omega arith) .value in (refl, omega arith)
+same-fields w Shl end first {n} {m} is =
+    let n-is : n ≡ numberIn w first = is .first (omega arith) .value in
+    let m-is : m ≡ numberIn w (first + 1) = is .second (omega arith) .value in
+    (refl, omega arith)
+same-fields w UShr end first {n} {m} is =
+    let n-is : n ≡ numberIn w first = is .first (omega arith) .value in
+    let m-is : m ≡ numberIn w (first + 1) = is .second (omega arith) .value in
+    (refl, omega arith)
+same-fields w SShr end first {n} {m} is =
+    let n-is : n ≡ numberIn w first = is .first (omega arith) .value in
+    let m-is : m ≡ numberIn w (first + 1) = is .second (omega arith) .value in
+    (refl, omega arith)
+same-fields w XShr end first {n} {m} is =
+    let n-is : n ≡ numberIn w first = is .first (omega arith) .value in
+    let m-is : m ≡ numberIn w (first + 1) = is .second (omega arith) .value in
+    (refl, omega arith)
+same-fields w Mul end first {n} {m} is = let n-is : n ≡ numberIn w first = is .first (omega arith) .value in (refl, omega arith)
+same-fields w Match end first {n} {m} is = let n-is : n ≡ numberIn w first = is .first (omega arith) .value in (refl, omega arith)
+same-fields w Assign end first {n} {m} is =
+    let n-is : n ≡ numberIn w first = is .first (omega arith) .value in
+    let m-is : m ≡ numberIn w (first + 1) = is .second (omega arith) .value in
+    (refl, omega arith)
+same-fields w Dff end first {n} {m} is = let n-is : n ≡ numberIn w first = is .first (omega arith) .value in (refl, omega arith)
+same-fields w IoBuf end first {n} {m} is = (refl, refl)
+same-fields w Input end first {n} {m} is = (refl, refl)
+same-fields w Note end first {n} {m} is = (refl, refl)
+
+-- The places of a record that was read: every control and every net is known there.
+pub record Places (w : List ℕ) (tot : ℕ) (op : Operation) (first next : ℕ) : Type 0 where
+  pub controls : (p : ℕ) → controlsFrom op first ≤ p → p < netsFrom w op first → IsNet w tot 1 next p
+  pub nets :
+      (p : ℕ) → netsFrom w op first ≤ p → p < netsFrom w op first + fieldsOf op (numberIn w first) (numberIn w (first + 1)) .nets →
+      IsNet w tot 0 next p
+
+pub record-places :
+    (w : List ℕ) (tot at : ℕ) {op : Operation} {width next : ℕ} → IsRecord w tot at op width next → Places w tot op (at + 1) next
+record-places w tot at {op} {width} {next} is =
+    let begun : is .start ≡ at + 1 + numbersOf op .count = is .leading .after (low-count op) in
+    let same = same-fields w op next (at + 1) (is .leading) in
+    let controls =
+          many-read (netAt w tot 1 next) (IsNet w tot 1 next) (λ a b e. net-read w tot 1 next a e) (fieldsOf op (is .n) (is .m) .controls) (is .start)
+          (is .body .nets) (is .body .controls-read) in
+    let nets =
+          many-read (netAt w tot 0 next) (IsNet w tot 0 next) (λ a b e. net-read w tot 0 next a e) (fieldsOf op (is .n) (is .m) .nets) (is .body .nets)
+          (is .body .constants) (is .body .nets-read) in
+    record {
+      controls = λ p lo hi. at-place (IsNet w tot 1 next) (is .start) p (omega (arith, begun)) (controls .1 (p - is .start) (omega (arith, begun, same .0)));
+      nets = λ p lo hi.
+          at-place (IsNet w tot 0 next) (is .body .nets) p (omega (arith, begun, same .0, controls .0))
+          (nets .1 (p - is .body .nets) (omega (arith, begun, same .0, same .1, controls .0)))
+    }
+  where
+    at-place : (P : ℕ → Type 0) (base p : ℕ) → base ≤ p → P (base + (p - base)) → P p
+    at-place P base p low q = let same : base + (p - base) ≡ p = omega arith in rw same at q
+
+-- Every net of a cell that was read is known.
+pub record-known :
+    (w : List ℕ) (tot at : ℕ) {op : Operation} {width next : ℕ} → IsRecord w tot at op width next → AllNets (Known tot) (netsOf (cellAt w at))
+unfolding cellAt
+record-known w tot at {op} is =
+    let place = record-places w tot at is in
+    let all = cell-nets w (Known tot) op (at + 1)
+          (λ p lo hi _. known-net tot (numberIn w p) (place .controls p lo hi .known))
+          (λ p lo hi. known-net tot (numberIn w p) (place .nets p lo hi .known)) in
+    rw (is .same-op) at all
+
+pub walk-known :
+    {w : List ℕ} {base tot slot at end : ℕ} {cells : List Placed} → Walk w base tot slot at cells end →
+    All (λ c. AllNets (Known tot) (netsOf (c .cell))) cells
+walk-known (done full ended) = tt
+walk-known {w = w} {tot = tot} (placed {at = at} inside is rest) = (record-known w tot at (is .record-is), walk-known rest)
