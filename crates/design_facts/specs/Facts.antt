@@ -11,7 +11,7 @@ use lib.Dec.{ltb, leb, eqb}
 use borrow.Author.Tests.{ltb-true, ltb-false, leb-true, eqb-true, eqb-false, ne-eqb}
 use Rattle.logic.specs.Net as W
 use Rattle.logic.specs.Net.{Net, netOf, payloadOfNet}
-use Rattle.logic.specs.Word.{payloadOf}
+use Rattle.logic.specs.Word.{kindOf, payloadOf}
 use Rattle.logic.specs.declared.Trit.the-variants.{Zero, One, Undef}
 use Rattle.cell.specs.Cell.{Cell, outputLen, slotsOf, standing, replacing}
 use Rattle.cell.specs.Design as D
@@ -270,13 +270,16 @@ pub record IsPair (w : List ℕ) (tot least at above next : ℕ) : Type 0 where
   pub rises : above ≡ numberIn w at + 1
   pub from : Known tot (netIn w at)
   pub to : Known tot (netIn w (at + 1))
+  pub inside : at < length w
+  pub plain : kindOf (getD w (at + 1) 0) ≤ 0
+  pub after : next ≡ at + 1 + 1
 
-listed-net-read : (w : List ℕ) (tot at : ℕ) {next : ℕ} → listedNetAt w tot at ≡ S.Clean next → (next ≡ at + 1) × Known tot (netIn w at)
+listed-net-read : (w : List ℕ) (tot at : ℕ) {next : ℕ} → listedNetAt w tot at ≡ S.Clean next → (next ≡ at + 1) × IsNet w tot 0 (length w) at
 unfolding listedNetAt
 listed-net-read w tot at {next} e = go (ltb at (length w)) e
   where
-    go : (b : Bool) → cond b (netAt w tot 0 (length w) at) (S.Refused (fault 1 (length w))) ≡ S.Clean next → (next ≡ at + 1) × Known tot (netIn w at)
-    go true e = let is = net-read w tot 0 (length w) at e in (is .0, known-net tot (numberIn w at) (is .1 .known))
+    go : (b : Bool) → cond b (netAt w tot 0 (length w) at) (S.Refused (fault 1 (length w))) ≡ S.Clean next → (next ≡ at + 1) × IsNet w tot 0 (length w) at
+    go true e = net-read w tot 0 (length w) at e
     go false e = let z : _≡_ {A = ℕ} 0 1 = cc in absurd (omega arith)
 
 pub pair-read : (w : List ℕ) (tot least at : ℕ) {above next : ℕ} → pairAt w tot least at ≡ T.Read above next → IsPair w tot least at above next
@@ -284,18 +287,26 @@ unfolding pairAt
 pair-read w tot least at {above} {next} e = first (listedNetAt w tot at) refl e
   where
     last :
-        Known tot (netIn w at) → Known tot (netIn w (at + 1)) → (next₁ : ℕ) → (b : Bool) → leb least (numberIn w at) ≡ b →
+        IsNet w tot 0 (length w) at → IsNet w tot 0 (length w) (at + 1) → (next₁ : ℕ) → next₁ ≡ at + 1 + 1 → (b : Bool) → leb least (numberIn w at) ≡ b →
         cond b (T.Read (numberIn w at + 1) next₁) (T.Refused (fault 13 at)) ≡ T.Read above next → IsPair w tot least at above next
-    last f t next₁ true b e = record { risen = leb-true _ _ b; rises = cc; from = f; to = t }
-    last f t next₁ false b e = let z : _≡_ {A = ℕ} 0 1 = cc in absurd (omega arith)
+    last f t next₁ place true b e = record {
+      risen = leb-true _ _ b;
+      rises = cc;
+      from = known-net tot (numberIn w at) (f .known);
+      to = known-net tot (numberIn w (at + 1)) (t .known);
+      inside = f .inside;
+      plain = t .kind;
+      after = let same : next ≡ next₁ = cc in omega arith
+    }
+    last f t next₁ place false b e = let z : _≡_ {A = ℕ} 0 1 = cc in absurd (omega arith)
     second :
-        Known tot (netIn w at) → (s : Scan) → listedNetAt w tot (at + 1) ≡ s →
+        IsNet w tot 0 (length w) at → (s : Scan) → listedNetAt w tot (at + 1) ≡ s →
         onNet s (λ (next₁ : ℕ). cond (leb least (numberIn w at)) (T.Read (numberIn w at + 1) next₁) (T.Refused (fault 13 at))) ≡ T.Read above next →
         IsPair w tot least at above next
     second f (S.Refused g) s e = let z : _≡_ {A = ℕ} 0 1 = cc in absurd (omega arith)
     second f (S.Clean next₁) s e =
         let is = listed-net-read w tot (at + 1) s in
-        last f (is .1) next₁ (leb least (numberIn w at)) refl e
+        last f (is .1) next₁ (is .0) (leb least (numberIn w at)) refl e
     first :
         (s : Scan) → listedNetAt w tot at ≡ s →
         onNet s (λ (to : ℕ). onNet (listedNetAt w tot to) (λ (next₁ : ℕ).
