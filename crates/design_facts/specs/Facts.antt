@@ -64,6 +64,7 @@ walk-sides {w = w} {base = base} {total = total} {slot = slot} (placed {at = at}
     limit : (b : Bool) → ltb slot base ≡ b → after ≤ cond b base total → slot < base → after ≤ base
     limit true b low under = low
     limit false b low under = let past : base ≤ slot = ltb-false _ _ b in absurd (omega arith)
+
     here : OneSide base (record { slot = slot; cell = cellAt w at })
     here under =
         let same : width ≡ outputLen (cellAt w at) = is .record-is .same-width in
@@ -112,6 +113,7 @@ module _ {A : Type 0} (step : ℕ → ℕ → Step) (item : ℕ → A) where
     where
       rest : ℕ → ℕ → Reading A
       rest above next = push (item at) (ascending step item k above next)
+
       go :
           (s : Step) → step least at ≡ s → onStep s rest .scan ≡ S.Clean end →
           ((above next : ℕ) → ascending step item k above next .scan ≡ S.Clean end → Run above next (ascending step item k above next .items) end) →
@@ -146,6 +148,7 @@ replacement-read w tot head least at {above} {next} e = inside (ltb at (length w
     chosen op width next₁ is true true false a b c e = let z : _≡_ {A = ℕ} 0 1 = cc in absurd (omega arith)
     chosen op width next₁ is true false c a b _ e = let z : _≡_ {A = ℕ} 0 1 = cc in absurd (omega arith)
     chosen op width next₁ is false b c a _ _ e = let z : _≡_ {A = ℕ} 0 1 = cc in absurd (omega arith)
+
     made :
         (r : Record) → recordAt w tot (at + 1) ≡ r →
         onNewCell r (λ (op : Operation) (width next₁ : ℕ).
@@ -155,10 +158,12 @@ replacement-read w tot head least at {above} {next} e = inside (ltb at (length w
     made (R.Refused f) r e = let z : _≡_ {A = ℕ} 0 1 = cc in absurd (omega arith)
     made (R.Read op width next₁) r e =
         chosen op width next₁ (record-read w tot (at + 1) r) (leb least (numberIn w at)) (head (numberIn w at) width) (mayReplace op) refl refl refl e
+
     Rest : ℕ → ℕ → Step
     Rest slot start =
         onNewCell (recordAt w tot start) (λ (op : Operation) (width next₁ : ℕ).
         cond (cond (leb least slot) (cond (head slot width) (mayReplace op) false) false) (T.Read (slot + 1) next₁) (T.Refused (fault 12 at)))
+
     numbered : (n : Number) → numberAt w (2 ^ 29 - 1) (length w) at ≡ n → onSlot n Rest ≡ T.Read above next → IsReplacement w tot head least at above next
     numbered (N.Refused f) n e = let z : _≡_ {A = ℕ} 0 1 = cc in absurd (omega arith)
     numbered (N.Value slot start) n e =
@@ -166,6 +171,7 @@ replacement-read w tot head least at {above} {next} e = inside (ltb at (length w
         let value : slot ≡ numberIn w at = is .value in
         let place : start ≡ at + 1 = is .after in
         made (recordAt w tot (at + 1)) refl (rw place at (rw value at e))
+
     inside : (b : Bool) → onSlot (cond b (numberAt w (2 ^ 29 - 1) (length w) at) (N.Refused (fault 1 (length w)))) Rest ≡ T.Read above next →
         IsReplacement w tot head least at above next
     inside true e = numbered (numberAt w (2 ^ 29 - 1) (length w) at) refl e
@@ -211,18 +217,20 @@ run-replaces w tot base cells {least} (then {at = at} {above = above} e rest) =
     let is = replacement-read w tot (heads cells base) least at e in
     let head = heads-read cells base (numberIn w at) (is .width) (is .headed) in
     let same : is .width ≡ outputLen (cellAt w (at + 1)) = is .record-is .same-width in
-    let more = run-replaces w tot base cells rest in
-    
-    ((record {
-      below = head .0;
-      headed = head .1;
-      real = head .2;
-      same-width = head .3 ∙ same;
-      narrow = rw same at (is .record-is .low-width);
-      new = replacing-at w (at + 1) ∙ rw (← is .record-is .same-op) (is .may)
-    },
-    more .0),
-    (is .risen, rw (is .rises) at (more .1)))
+    let more = run-replaces w tot base cells rest in (
+      (
+        record {
+          below = head .0;
+          headed = head .1;
+          real = head .2;
+          same-width = head .3 ∙ same;
+          narrow = rw same at (is .record-is .low-width);
+          new = replacing-at w (at + 1) ∙ rw (← is .record-is .same-op) (is .may);
+        },
+        more .0,
+      ),
+      (is .risen, rw (is .rises) at (more .1)),
+    )
 
 -- A net of a design is a constant, or a slot below the total.
 abbrev pub Known : ℕ → Net → Type 0
@@ -243,7 +251,8 @@ known-net tot p e = go (eqb p 0) (eqb p 1) (eqb p 536870911) refl refl refl
             absurd (omega arith)
         inside false true x y e₁ = ltb-true _ _ y
         inside false false x y e₁ = let z : _≡_ {A = ℕ} 0 1 = cc in absurd (omega arith)
-    go : (a b c : Bool) → eqb p 0 ≡ a → eqb p 1 ≡ b → eqb p 536870911 ≡ c → 
+
+    go : (a b c : Bool) → eqb p 0 ≡ a → eqb p 1 ≡ b → eqb p 536870911 ≡ c →
         Known tot (cond a (W.constant Zero) (cond b (W.constant One) (cond c (W.constant Undef) (W.slot (p - 2)))))
     go true b c x y z = tt
     go false true c x y z = tt
@@ -296,9 +305,10 @@ pair-read w tot least at {above} {next} e = first (listedNetAt w tot at) refl e
       to = known-net tot (numberIn w (at + 1)) (t .known);
       inside = f .inside;
       plain = t .kind;
-      after = let same : next ≡ next₁ = cc in omega arith
+      after = let same : next ≡ next₁ = cc in omega arith;
     }
     last f t next₁ place false b e = let z : _≡_ {A = ℕ} 0 1 = cc in absurd (omega arith)
+
     second :
         IsNet w tot 0 (length w) at → (s : Scan) → listedNetAt w tot (at + 1) ≡ s →
         onNet s (λ (next₁ : ℕ). cond (leb least (numberIn w at)) (T.Read (numberIn w at + 1) next₁) (T.Refused (fault 13 at))) ≡ T.Read above next →
@@ -307,6 +317,7 @@ pair-read w tot least at {above} {next} e = first (listedNetAt w tot at) refl e
     second f (S.Clean next₁) s e =
         let is = listed-net-read w tot (at + 1) s in
         last f (is .1) next₁ (is .0) (leb least (numberIn w at)) refl e
+
     first :
         (s : Scan) → listedNetAt w tot at ≡ s →
         onNet s (λ (to : ℕ). onNet (listedNetAt w tot to) (λ (next₁ : ℕ).
@@ -355,5 +366,5 @@ accepted-facts w {d} {replacements} {pairs} e =
       narrow = rw (is .cells-are) (walk-narrow walk);
       replaced = rw (is .reps-are) (reps .0);
       ascend = rw (is .reps-are) (reps .1);
-      pairs = rw (is .pairs-are) (run-pairs w (D.total d) (run-read _ _ (is .header .netreps) 0 pairs (is .end) (is .pairs-read)))
+      pairs = rw (is .pairs-are) (run-pairs w (D.total d) (run-read _ _ (is .header .netreps) 0 pairs (is .end) (is .pairs-read)));
     }

@@ -36,6 +36,22 @@ netsOf (C.match value enable patterns) = enable ∷ value
 netsOf (C.assign value enable update offset) = enable ∷ value ++ update
 netsOf (C.dff ff) = ff .clear .net ∷ ff .reset .net ∷ ff .enable .net ∷ ff .dat
 
+-- The clock of a Dff; other cells have none.
+abbrev pub clocksOf : Cell → List Net
+clocksOf C.void = []
+clocksOf C.note = []
+clocksOf (C.input n) = []
+clocksOf (C.ioBuf n) = []
+clocksOf (C.unary op a) = []
+clocksOf (C.binary op a b) = []
+clocksOf (C.mux s a b) = []
+clocksOf (C.adc a b c) = []
+clocksOf (C.aig a b) = []
+clocksOf (C.shift op value amount stride) = []
+clocksOf (C.match value enable patterns) = []
+clocksOf (C.assign value enable update offset) = []
+clocksOf (C.dff ff) = ff .clock .net ∷ []
+
 abbrev pub AllNets : (Net → Type 0) → List Net → Type 0
 AllNets Q [] = Unit {0}
 AllNets Q (x ∷ xs) = Q x × AllNets Q xs
@@ -82,19 +98,21 @@ cell-nets w Q Or first controls nets =
 cell-nets w Q Xor first controls nets =
     two w Q (numberIn w first) (first + 1) (numberIn w first) (first + 1 + numberIn w first) (λ p lo hi. nets p (omega arith) (omega arith))
     (λ p lo hi. nets p (omega arith) (omega arith))
-cell-nets w Q Mux first controls nets =
-    (nets (first + 1) (omega arith) (omega arith),
-    two w Q (numberIn w first) (first + 2) (numberIn w first) (first + 2 + numberIn w first) (λ p lo hi. nets p (omega arith) (omega arith))
-    (λ p lo hi. nets p (omega arith) (omega arith)))
+cell-nets w Q Mux first controls nets = (
+  nets (first + 1) (omega arith) (omega arith),
+  two w Q (numberIn w first) (first + 2) (numberIn w first) (first + 2 + numberIn w first) (λ p lo hi. nets p (omega arith) (omega arith))
+      (λ p lo hi. nets p (omega arith) (omega arith)),
+)
 cell-nets w Q Adc first controls nets =
     let carry = netIn w (first + 1 + numberIn w first + numberIn w first) ∷ [] in
     both Q (netsIn w (numberIn w first) (first + 1) ++ netsIn w (numberIn w first) (first + 1 + numberIn w first)) carry
     (two w Q (numberIn w first) (first + 1) (numberIn w first) (first + 1 + numberIn w first) (λ p lo hi. nets p (omega arith) (omega arith))
     (λ p lo hi. nets p (omega arith) (omega arith)))
     (nets (first + 1 + numberIn w first + numberIn w first) (omega arith) (omega arith), tt)
-cell-nets w Q Aig first controls nets =
-    (controls first (omega arith) (omega arith) (λ other. absurd (omega arith)),
-    (controls (first + 1) (omega arith) (omega arith) (λ other. absurd (omega arith)), tt))
+cell-nets w Q Aig first controls nets = (
+  controls first (omega arith) (omega arith) (λ other. absurd (omega arith)),
+  (controls (first + 1) (omega arith) (omega arith) (λ other. absurd (omega arith)), tt),
+)
 cell-nets w Q Eq first controls nets =
     two w Q (numberIn w first) (first + 1) (numberIn w first) (first + 1 + numberIn w first) (λ p lo hi. nets p (omega arith) (omega arith))
     (λ p lo hi. nets p (omega arith) (omega arith))
@@ -120,15 +138,21 @@ cell-nets w Q Mul first controls nets =
     two w Q (numberIn w first) (first + 1) (numberIn w first) (first + 1 + numberIn w first) (λ p lo hi. nets p (omega arith) (omega arith))
     (λ p lo hi. nets p (omega arith) (omega arith))
 cell-nets w Q Match first controls nets = (nets (first + 2) (omega arith) (omega arith), run w Q (numberIn w first) (first + 3) (λ p lo hi. nets p (omega arith) (omega arith)))
-cell-nets w Q Assign first controls nets =
-    (nets (first + 3) (omega arith) (omega arith),
-    two w Q (numberIn w first) (first + 4) (numberIn w (first + 1)) (first + 4 + numberIn w first) (λ p lo hi. nets p (omega arith) (omega arith))
-    (λ p lo hi. nets p (omega arith) (omega arith)))
-cell-nets w Q Dff first controls nets =
-    (controls (first + 3) (omega arith) (omega arith) (λ _. omega arith),
-    (controls (first + 4) (omega arith) (omega arith) (λ _. omega arith),
-    (controls (first + 5) (omega arith) (omega arith) (λ _. omega arith),
-    run w Q (numberIn w first) (first + 6) (λ p lo hi. nets p (omega arith) (omega arith)))))
+cell-nets w Q Assign first controls nets = (
+  nets (first + 3) (omega arith) (omega arith),
+  two w Q (numberIn w first) (first + 4) (numberIn w (first + 1)) (first + 4 + numberIn w first) (λ p lo hi. nets p (omega arith) (omega arith))
+      (λ p lo hi. nets p (omega arith) (omega arith)),
+)
+cell-nets w Q Dff first controls nets = (
+  controls (first + 3) (omega arith) (omega arith) (λ _. omega arith),
+  (
+    controls (first + 4) (omega arith) (omega arith) (λ _. omega arith),
+    (
+      controls (first + 5) (omega arith) (omega arith) (λ _. omega arith),
+      run w Q (numberIn w first) (first + 6) (λ p lo hi. nets p (omega arith) (omega arith)),
+    ),
+  ),
+)
 cell-nets w Q IoBuf first controls nets = tt
 cell-nets w Q Input first controls nets = tt
 cell-nets w Q Note first controls nets = tt
@@ -215,16 +239,16 @@ record-places w tot at {op} {width} {next} is =
     let begun : is .start ≡ at + 1 + numbersOf op .count = is .leading .after (low-count op) in
     let same = same-fields w op next (at + 1) (is .leading) in
     let controls =
-          many-read (netAt w tot 1 next) (IsNet w tot 1 next) (λ a b e. net-read w tot 1 next a e) (fieldsOf op (is .n) (is .m) .controls) (is .start)
-          (is .body .nets) (is .body .controls-read) in
+    many-read (netAt w tot 1 next) (IsNet w tot 1 next) (λ a b e. net-read w tot 1 next a e) (fieldsOf op (is .n) (is .m) .controls) (is .start)
+    (is .body .nets) (is .body .controls-read) in
     let nets =
-          many-read (netAt w tot 0 next) (IsNet w tot 0 next) (λ a b e. net-read w tot 0 next a e) (fieldsOf op (is .n) (is .m) .nets) (is .body .nets)
-          (is .body .constants) (is .body .nets-read) in
+    many-read (netAt w tot 0 next) (IsNet w tot 0 next) (λ a b e. net-read w tot 0 next a e) (fieldsOf op (is .n) (is .m) .nets) (is .body .nets)
+    (is .body .constants) (is .body .nets-read) in
     record {
       controls = λ p lo hi. at-place (IsNet w tot 1 next) (is .start) p (omega (arith, begun)) (controls .1 (p - is .start) (omega (arith, begun, same .0)));
       nets = λ p lo hi.
           at-place (IsNet w tot 0 next) (is .body .nets) p (omega (arith, begun, same .0, controls .0))
-          (nets .1 (p - is .body .nets) (omega (arith, begun, same .0, same .1, controls .0)))
+          (nets .1 (p - is .body .nets) (omega (arith, begun, same .0, same .1, controls .0)));
     }
   where
     at-place : (P : ℕ → Type 0) (base p : ℕ) → base ≤ p → P (base + (p - base)) → P p
@@ -237,12 +261,51 @@ unfolding cellAt
 record-known w tot at {op} is =
     let place = record-places w tot at is in
     let all = cell-nets w (Known tot) op (at + 1)
-          (λ p lo hi _. known-net tot (numberIn w p) (place .controls p lo hi .known))
-          (λ p lo hi. known-net tot (numberIn w p) (place .nets p lo hi .known)) in
+    (λ p lo hi _. known-net tot (numberIn w p) (place .controls p lo hi .known))
+    (λ p lo hi. known-net tot (numberIn w p) (place .nets p lo hi .known)) in
     rw (is .same-op) at all
 
+cell-clocks :
+    (w : List ℕ) (Q : Net → Type 0) (op : Operation) (first : ℕ) →
+    ((p : ℕ) → controlsFrom op first ≤ p → p < netsFrom w op first → Q (netIn w p)) → AllNets Q (clocksOf (cellIn w op first))
+cell-clocks w Q Void first controls = tt
+cell-clocks w Q Buf first controls = tt
+cell-clocks w Q Not first controls = tt
+cell-clocks w Q And first controls = tt
+cell-clocks w Q Or first controls = tt
+cell-clocks w Q Xor first controls = tt
+cell-clocks w Q Mux first controls = tt
+cell-clocks w Q Adc first controls = tt
+cell-clocks w Q Aig first controls = tt
+cell-clocks w Q Eq first controls = tt
+cell-clocks w Q ULt first controls = tt
+cell-clocks w Q SLt first controls = tt
+cell-clocks w Q Shl first controls = tt
+cell-clocks w Q UShr first controls = tt
+cell-clocks w Q SShr first controls = tt
+cell-clocks w Q XShr first controls = tt
+cell-clocks w Q Mul first controls = tt
+cell-clocks w Q Match first controls = tt
+cell-clocks w Q Assign first controls = tt
+cell-clocks w Q Dff first controls = (controls (first + 2) (omega arith) (omega arith), tt)
+cell-clocks w Q IoBuf first controls = tt
+cell-clocks w Q Input first controls = tt
+cell-clocks w Q Note first controls = tt
+
+-- The clock of a cell that was read is known.
+pub record-clocks :
+    (w : List ℕ) (tot at : ℕ) {op : Operation} {width next : ℕ} → IsRecord w tot at op width next → AllNets (Known tot) (clocksOf (cellAt w at))
+unfolding cellAt
+record-clocks w tot at {op} is =
+    let place = record-places w tot at is in
+    rw (is .same-op) at (cell-clocks w (Known tot) op (at + 1) (λ p lo hi. known-net tot (numberIn w p) (place .controls p lo hi .known)))
+
+-- Every net of a cell, its clock too, is known.
+abbrev pub KnownCell : ℕ → Placed → Type 0
+KnownCell tot c = AllNets (Known tot) (netsOf (c .cell)) × AllNets (Known tot) (clocksOf (c .cell))
+
 pub walk-known :
-    {w : List ℕ} {base tot slot at end : ℕ} {cells : List Placed} → Walk w base tot slot at cells end →
-    All (λ c. AllNets (Known tot) (netsOf (c .cell))) cells
+    {w : List ℕ} {base tot slot at end : ℕ} {cells : List Placed} → Walk w base tot slot at cells end → All (KnownCell tot) cells
 walk-known (done full ended) = tt
-walk-known {w = w} {tot = tot} (placed {at = at} inside is rest) = (record-known w tot at (is .record-is), walk-known rest)
+walk-known {w = w} {tot = tot} (placed {at = at} inside is rest) =
+    ((record-known w tot at (is .record-is), record-clocks w tot at (is .record-is)), walk-known rest)

@@ -33,7 +33,7 @@ use Rattle.design_list.specs.Cover.{Walk, done, placed, walk-cells, All}
 use Rattle.design_list.specs.Read.{read, accepted}
 use Rattle.design_list.specs.Accepted.{IsAccepted, accepted-read}
 use Rattle.design_facts.specs.Facts.{Known, Run, over, then, run-read, replacement-read, pair-read}
-use Rattle.design_facts.specs.Nets.{netsOf, AllNets, cell-nets, controlsFrom, netsFrom, Places, record-places, record-known, walk-known}
+use Rattle.design_facts.specs.Nets.{netsOf, AllNets, cell-nets, controlsFrom, netsFrom, Places, record-places, record-known, record-clocks, KnownCell, walk-known}
 
 -- A net that names no slot of which `void` holds.
 abbrev pub Real : (ℕ → Bool) → Net → Type 0
@@ -54,6 +54,7 @@ real-net void p e = go (eqb p 0) (eqb p 1) (eqb p 536870911) refl refl refl
             let no1 : p ≡ 1 → ⊥ = eqb-false _ _ b in
             absurd (omega arith)
         inside false x e₁ = rw c at e₁
+
     go :
         (a b c : Bool) → eqb p 0 ≡ a → eqb p 1 ≡ b → eqb p 536870911 ≡ c →
         Real void (cond a (W.constant Zero) (cond b (W.constant One) (cond c (W.constant Undef) (W.slot (p - 2)))))
@@ -120,24 +121,24 @@ unfolding recordVoidsAt cellAt
 record-real w void tot at {op} {width} {next} {after} is e =
     let run : scanMany (voidAt w void (clockAt w at)) (numberIn w at / 32) (at + 1) ≡ S.Clean after = rw (lt-ltb at (length w) (is .inside)) at e in
     let all = many-read (voidAt w void (clockAt w at)) (λ p. offends w void (clockAt w at) p ≡ false) (λ a b e₁. void-read w void (clockAt w at) a b e₁)
-          (numberIn w at / 32) (at + 1) after run in
+    (numberIn w at / 32) (at + 1) after run in
     let ends : next ≡ endAt w at = is .ends in
     let same : op ≡ opAt w at = is .same-op in
     let place = record-places w tot at is in
     let clear : (p : ℕ) → at + 1 ≤ p → p < next → offends w void (clockAt w at) p ≡ false =
-          λ p lo hi. let there : at + 1 + (p - (at + 1)) ≡ p = omega arith in rw there at (all .1 (p - (at + 1)) (omega (arith, ends))) in
+    λ p lo hi. let there : at + 1 + (p - (at + 1)) ≡ p = omega arith in rw there at (all .1 (p - (at + 1)) (omega (arith, ends))) in
     let shape :
-          standingOf op ≡ 1 → (numbersOf op .count ≡ 2) × (fieldsOf op (numberIn w (at + 1)) (numberIn w (at + 1 + 1)) .controls ≡ 4) =
-          dff-shape op (numberIn w (at + 1)) (numberIn w (at + 1 + 1)) in
+    standingOf op ≡ 1 → (numbersOf op .count ≡ 2) × (fieldsOf op (numberIn w (at + 1)) (numberIn w (at + 1 + 1)) .controls ≡ 4) =
+    dff-shape op (numberIn w (at + 1)) (numberIn w (at + 1 + 1)) in
     let nets = cell-nets w (Real void) op (at + 1)
-          (λ p lo hi past.
-          place-real w void (clockAt w at) p (clear p (omega arith) (place .controls p lo hi .inside)) (place .controls p lo hi .kind)
-          (clock-read w at p (omega arith)
-          (λ dff here. let dff-op : standingOf op ≡ 1 = rw same dff in let after-clock = past dff-op in omega (arith, shape dff-op .0))))
-          (λ p lo hi.
-          place-real w void (clockAt w at) p (clear p (omega arith) (place .nets p lo hi .inside)) (let k = place .nets p lo hi .kind in omega arith)
-          (clock-read w at p (omega arith)
-          (λ dff here. let dff-op : standingOf op ≡ 1 = rw same dff in omega (arith, shape dff-op .0, shape dff-op .1)))) in
+    (λ p lo hi past.
+    place-real w void (clockAt w at) p (clear p (omega arith) (place .controls p lo hi .inside)) (place .controls p lo hi .kind)
+    (clock-read w at p (omega arith)
+    (λ dff here. let dff-op : standingOf op ≡ 1 = rw same dff in let after-clock = past dff-op in omega (arith, shape dff-op .0))))
+    (λ p lo hi.
+    place-real w void (clockAt w at) p (clear p (omega arith) (place .nets p lo hi .inside)) (let k = place .nets p lo hi .kind in omega arith)
+    (clock-read w at p (omega arith)
+    (λ dff here. let dff-op : standingOf op ≡ 1 = rw same dff in omega (arith, shape dff-op .0, shape dff-op .1)))) in
     (omega (arith, ends, all .0), rw same at nets)
 
 -- The tos of pairs.
@@ -194,21 +195,23 @@ module _ (w : List ℕ) (void : ℕ → Bool) (tot : ℕ) where
       let parts = both-read (pairVoidsAt w void at) (scanMany (itemVoidsAt w void I.Pair) (length items)) e in
       let passed = pair-passed at (parts .place) (is .inside) (parts .first) in
       let clear = void-read w void 0 (at + 1) (parts .place) passed in
-      let place : parts .place ≡ next = clear .0 ∙ sym (is .after) in
-      (place-real w void 0 (at + 1) (clear .1) (let low = is .plain in omega arith) (λ z. omega arith),
-      pairs-real rest (rw place at (parts .second)))
+      let place : parts .place ≡ next = clear .0 ∙ sym (is .after) in (
+        place-real w void 0 (at + 1) (clear .1) (let low = is .plain in omega arith) (λ z. omega arith),
+        pairs-real rest (rw place at (parts .second)),
+      )
 
 reps-known :
     (w : List ℕ) (tot : ℕ) (head : ℕ → ℕ → Bool) {least at end : ℕ} {reps : List Placed} → Run (replacementAt w tot head) (newCell w) least at reps end →
-    All (λ c. AllNets (Known tot) (netsOf (c .cell))) reps
+    All (KnownCell tot) reps
 reps-known w tot head (over ended) = tt
 reps-known w tot head {least = least} (then {at = at} step rest) =
-    (record-known w tot (at + 1) (replacement-read w tot head least at step .record-is), reps-known w tot head rest)
+    let is = replacement-read w tot head least at step .record-is in
+    ((record-known w tot (at + 1) is, record-clocks w tot (at + 1) is), reps-known w tot head rest)
 
 -- The nets of an accepted design: all are known, and of its cells, new cells and tos none but a clock names a Void of the base.
 pub record Nets (d : Design) : Type 0 where
-  pub known : All (λ c. AllNets (Known (D.total d)) (netsOf (c .cell))) (d .cells)
-  pub new-known : All (λ c. AllNets (Known (D.total d)) (netsOf (c .cell))) (d .cellReps)
+  pub known : All (KnownCell (D.total d)) (d .cells)
+  pub new-known : All (KnownCell (D.total d)) (d .cellReps)
   pub real : All (λ c. AllNets (Real (isVoid (d .cells) (d .base))) (netsOf (c .cell))) (d .cells)
   pub new-real : All (λ c. AllNets (Real (isVoid (d .cells) (d .base))) (netsOf (c .cell))) (d .cellReps)
   pub tos-real : RealTos (isVoid (d .cells) (d .base)) (d .netReps)
@@ -222,14 +225,14 @@ accepted-nets w {d} {replacements} {pairs} e =
     let head = heads (d .cells) (d .base) in
     let walk : Walk w (d .base) tot 0 4 (d .cells) replacements = rw (is .cells-are) (walk-cells w (d .base) (d .added) replacements (is .cells-read)) in
     let reps : Run (replacementAt w tot head) (newCell w) 0 replacements (d .cellReps) pairs =
-          rw (is .reps-are) (run-read _ _ (is .header .cellreps) 0 replacements pairs (is .reps-read)) in
+    rw (is .reps-are) (run-read _ _ (is .header .cellreps) 0 replacements pairs (is .reps-read)) in
     let nets : Run (pairAt w tot) (netPair w) 0 pairs (d .netReps) (is .end) =
-          subst (λ (l : List NetPair). Run (pairAt w tot) (netPair w) 0 pairs l (is .end)) (sym (is .pairs-are))
-          (run-read _ _ (is .header .netreps) 0 pairs (is .end) (is .pairs-read)) in
+    subst (λ (l : List NetPair). Run (pairAt w tot) (netPair w) 0 pairs l (is .end)) (sym (is .pairs-are))
+    (run-read _ _ (is .header .netreps) 0 pairs (is .end) (is .pairs-read)) in
     let reps-many : length (d .cellReps) ≡ is .header .cellreps =
-          ap length (is .reps-are) ∙ (ascending-length _ _ (is .header .cellreps) 0 replacements pairs (is .reps-read)) in
+    ap length (is .reps-are) ∙ (ascending-length _ _ (is .header .cellreps) 0 replacements pairs (is .reps-read)) in
     let nets-many : length (d .netReps) ≡ is .header .netreps =
-          ap length (is .pairs-are) ∙ (ascending-length _ _ (is .header .netreps) 0 pairs (is .end) (is .pairs-read)) in
+    ap length (is .pairs-are) ∙ (ascending-length _ _ (is .header .netreps) 0 pairs (is .end) (is .pairs-read)) in
     let after-cells = both-read (scanMany (itemVoidsAt w void I.Cell) (length (d .cells)) 4) _ (is .voids-read) in
     let after-reps = both-read (scanMany (itemVoidsAt w void I.Replacement) (is .header .cellreps) (after-cells .place)) _ (after-cells .second) in
     let cells = cells-real w void tot walk (after-cells .first) in
