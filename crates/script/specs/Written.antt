@@ -11,7 +11,10 @@ use borrow.Author.Tests.{lt-ltb, le-ltb}
 use Rattle.logic.specs.declared.Fault.{Fault}
 use Rattle.engine.specs.Call.{Call}
 use Rattle.engine.specs.Encode.{decode}
-use Rattle.engine.specs.WellFormed.{malformedAt, outcome, wellFormed}
+use Rattle.engine.specs.Sorts.{Context}
+use Rattle.engine.specs.WellFormed.{Outcome, malformedAt, placeOf, outcome, wellFormed, malformed}
+use Rattle.eval.specs.Tables.{checkedAs}
+use Rattle.eval.specs.declared.CallList.the-variants.{WellFormed, Malformed}
 use Rattle.text.specs.Names.{asked}
 use Rattle.text.specs.Write.{capped, overwrite, overwrite-fits, Wrote}
 use Rattle.script.specs.declared.Mark.{Mark}
@@ -84,3 +87,23 @@ module _ (text : List ℕ) (room needed : ℕ) (short : room < 2 ^ 63) (counted 
 pub whole-text : {text before after : List ℕ} {r : ℕ} → Wrote before after 0 r text → length text ≤ length before
     → after ≡ text ++ drop (length text) before
 whole-text {text} {before} wrote fits = wrote .stored ∙ overwrite-fits before text fits
+
+-- What the checker answers.
+checked-formed : (o : Outcome) {terms declared : ℕ} → checkedAs o ≡ WellFormed terms declared → (y : Context) × (o ≡ wellFormed y)
+checked-formed (wellFormed y) e = (y, refl)
+checked-formed (malformed at) e = let z : _≡_ {A = ℕ} 0 1 = cc in absurd (omega arith)
+
+checked-malformed : (o : Outcome) {place : ℕ} → checkedAs o ≡ Malformed place → placeOf o ≡ some place
+checked-malformed (wellFormed y) e = let z : _≡_ {A = ℕ} 0 1 = cc in absurd (omega arith)
+checked-malformed (malformed at) {place} e = let same : at ≡ place = cc in ap some same
+
+pub is-formed : (w : List ℕ) {terms declared : ℕ} → checkedAs (outcome w) ≡ WellFormed terms declared → IsWellFormed w
+is-formed w e = let f = checked-formed (outcome w) e in record { leaving = f .0; formed = f .1 }
+
+pub written-formed : (w marks : List ℕ) (room : ℕ) → IsWellFormed w → written w marks room ≡ marked w marks room
+unfolding written
+written-formed w marks room f = rw (f .formed)
+
+pub written-malformed : (w marks : List ℕ) (room : ℕ) {place : ℕ} → checkedAs (outcome w) ≡ Malformed place → written w marks room ≡ refuse 19 place
+unfolding written
+written-malformed w marks room e = rw (checked-malformed (outcome w) e)

@@ -1,5 +1,6 @@
 // The script writer: a call list and the names that its recorded marks ask for, as SMT-LIB text in a lent slice of bytes. Each function
 // writes a piece from a place on and gives the next place; past the slice's end it only counts.
+use eval::CallList;
 use logic::Fault;
 use terms::Found;
 ghost use mathlib.Core.Path.{_≡_};
@@ -15,7 +16,7 @@ ghost use Rattle.terms.specs.Made.{made};
 ghost use Rattle.engine.specs.Sorts as sorts;
 ghost use Rattle.engine.specs.Sorts.{leaves};
 ghost use Rattle.script.specs.Ending.{any, namesFrom, FirstAsked, valuesText};
-ghost use Rattle.script.specs.Written.{scriptOf, marked, Scripted};
+ghost use Rattle.script.specs.Written.{scriptOf, marked, written, Scripted};
 ghost use Rattle.script.specs.Marks.{lowNumber, declaresName, markStands, badMark};
 ghost use Rattle.script.specs.Walk.{IsWellFormed};
 ghost use Rattle.text.specs.Names.{letterText, suffixText, nameText, namesOfMark, spelling, asked};
@@ -729,5 +730,18 @@ fn write_marked(calls: &[u32], recorded: &[u8], text: &mut [u8]) -> Written
             }
             Written::Bytes(put_script(text, calls, recorded))
         }
+    }
+}
+
+// Writes the script of a call list and its recorded marks into a lent text: 19 for a malformed list, then 2, then 15 at the room needed.
+pub fn write_script(calls: &[u32], recorded: &[u8], text: &mut [u8]) -> Written
+    ensures { λ r. ⌜ Scripted (now (calls .entry)) (now (recorded .entry)) (now (text .entry)) (now (text .exit)) r (written (now (calls .entry)) (now (recorded .entry)) (length (now (text .entry)))) ⌝ }
+{
+    match eval::check(calls) {
+        CallList::Malformed(place) => Written::Refused(Fault { number: 19, place }),
+        CallList::WellFormed {
+            terms: _,
+            declared: _,
+        } => write_marked(calls, recorded, text),
     }
 }
