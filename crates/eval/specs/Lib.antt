@@ -2,3 +2,5 @@ pub mod Tables
 pub mod Sums
 pub mod TableLaws
 pub mod Checking
+pub mod Evaluated
+pub mod Values

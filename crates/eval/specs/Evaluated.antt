@@ -1,0 +1,86 @@
+-- Document 01, "Examples" and faults 19 and 20: what the evaluator answers and writes. It takes bits in declaration order, writes
+-- every term's number (Bool 0 or 1), and returns how many assertions are 0.
+use mathlib.Core.Bool.{Bool, true, false, cond, not, _&&_, _||_}
+use mathlib.Core.List.{List, [], _∷_, _++_, map}
+use mathlib.Core.Option.{Option, some, none}
+use Prim.Native.Nat.{ℕ, zero, suc, _+_, _^_}
+use lib.ListN.{length, getD}
+use lib.Dec.{eqb, leb, ltb}
+use Rattle.bitvec.specs.Bits.{Bits, bit, bv2nat, nat2bv}
+use Rattle.engine.specs.Call.{Name, Call}
+use Rattle.engine.specs.Call as c
+use Rattle.engine.specs.Meaning.{Value, bool, bits, Assignment, valueAt, run}
+use Rattle.engine.specs.Encode.{letterNumber, suffixNumber, decode}
+use Rattle.engine.specs.WellFormed.{Outcome, wellFormed, malformed, outcome}
+use Rattle.engine.specs.Emit.{overwrite}
+
+-- A name is another's.
+abbrev pub sameName : Name → Name → Bool
+sameName m n =
+    eqb (letterNumber (m .letter)) (letterNumber (n .letter)) && eqb (m .index) (n .index)
+    && eqb (suffixNumber (m .suffix)) (suffixNumber (n .suffix))
+
+-- The assignment that gives the declared names these bits, in the order of their declarations; any other name has none.
+unfoldable pub assigned : List Call → List ℕ → Assignment
+assigned [] given name = []
+assigned (c.term t ∷ cs) given name = assigned cs given name
+assigned (c.declare n w ∷ cs) [] name = cond (sameName n name) (nat2bv w 0) (assigned cs [] name)
+assigned (c.declare n w ∷ cs) (b ∷ given) name = cond (sameName n name) (nat2bv w b) (assigned cs given name)
+assigned (c.assert k ∷ cs) given name = assigned cs given name
+assigned (c.check ∷ cs) given name = assigned cs given name
+
+-- The number of a value: a Bool's is 0 or 1.
+abbrev pub valueNumber : Value → ℕ
+valueNumber (bool b) = bit b
+valueNumber (bits s) = bv2nat s
+
+-- How many assertions are false.
+unfoldable pub falseAssertions : (ℕ → Value) → List Call → ℕ
+falseAssertions v [] = 0
+falseAssertions v (c.term t ∷ cs) = falseAssertions v cs
+falseAssertions v (c.declare n w ∷ cs) = falseAssertions v cs
+falseAssertions v (c.assert k ∷ cs) = cond (eqb (valueNumber (v k)) 0) 1 0 + falseAssertions v cs
+falseAssertions v (c.check ∷ cs) = falseAssertions v cs
+
+-- Fault 20 of the bits: the term number of the first declaration whose bits are missing or above its width.
+unfoldable pub bitsFault : ℕ → List Call → List ℕ → Option ℕ
+bitsFault k [] given = none
+bitsFault k (c.term t ∷ cs) given = bitsFault (suc k) cs given
+bitsFault k (c.declare n w ∷ cs) [] = some k
+bitsFault k (c.declare n w ∷ cs) (b ∷ given) = cond (ltb b (2 ^ w)) (bitsFault (suc k) cs given) (some k)
+bitsFault k (c.assert a ∷ cs) given = bitsFault k cs given
+bitsFault k (c.check ∷ cs) given = bitsFault k cs given
+
+-- What the evaluator answers: the number of false assertions, or a fault's number and place.
+pub data Answer : Type 0 where
+  evaluated : ℕ → Answer
+  refused : ℕ → ℕ → Answer
+
+-- The values of the terms under the bits.
+abbrev pub values : List ℕ → List ℕ → List Value
+values w given = run (assigned (decode w) given) [] (decode w)
+
+abbrev pub onBits : Option ℕ → Answer → Answer
+onBits none otherwise = otherwise
+onBits (some k) otherwise = refused 20 k
+
+abbrev pub withRoom : Bool → Answer → Answer → Answer
+withRoom true a b = a
+withRoom false a b = b
+
+abbrev pub judged : Outcome → List ℕ → List ℕ → ℕ → Answer
+judged (malformed at) w given room = refused 19 at
+judged (wellFormed x) w given room =
+    onBits (bitsFault 0 (decode w) given)
+    (withRoom (leb (length (x .sorts)) room)
+    (evaluated (falseAssertions (valueAt (values w given)) (decode w)))
+    (refused 20 room))
+
+-- The answer for a list, bits, and room for that many values.
+abbrev pub answer : List ℕ → List ℕ → ℕ → Answer
+answer w given room = judged (outcome w) w given room
+
+-- The value slice after: every term's number, and on refusal what was there.
+abbrev pub written : Answer → List ℕ → List ℕ → List ℕ → List ℕ
+written (evaluated n) w given slice = overwrite slice 0 (map valueNumber (values w given))
+written (refused number place) w given slice = slice
