@@ -180,7 +180,7 @@ module _ (w : List ℕ) (numbers : Numbers) (end : ℕ) where
           }
       none false b e = go (numberAt w 63 end at) refl (eqb-false _ _ b) e
 
-length-patterns : (w : List ℕ) (n k at : ℕ) → length (patternsIn w n k at) ≡ k
+pub length-patterns : (w : List ℕ) (n k at : ℕ) → length (patternsIn w n k at) ≡ k
 unfolding patternsIn
 length-patterns w n zero at = refl
 length-patterns w n (suc k) at = ap suc (length-patterns w n k (at + 1 + numberIn w at * n))

@@ -4,5 +4,3 @@ pub mod Solve
 pub mod Unique
 pub mod Formed
 pub mod Temporaries
-pub mod Marks
-pub mod Pairs
