@@ -8,4 +8,3 @@ pub mod Cover
 pub mod Answers
 pub mod Accepted
 pub mod Table
-pub mod Facts
