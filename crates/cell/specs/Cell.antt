@@ -1,5 +1,5 @@
 -- Document 01, "Words": a cell, its output width and the slots it takes. The abstract syntax that every other layer uses.
-use mathlib.Core.Bool.{Bool, true, false}
+use mathlib.Core.Bool.{Bool}
 use mathlib.Core.List.{List}
 use Prim.Native.Nat.{ℕ, _+_, max}
 use lib.ListN.{length}
@@ -94,19 +94,3 @@ standing (shift op value amount stride) = 2
 standing (match value enable patterns) = 2
 standing (assign value enable update offset) = 2
 standing (dff ff) = 1
-
--- Void, Input and Note (Output, Name, Debug) may not be the new cell of a replacement.
-abbrev pub replacing : Cell → Bool
-replacing void = false
-replacing note = false
-replacing (input n) = false
-replacing (ioBuf n) = true
-replacing (unary op a) = true
-replacing (binary op a b) = true
-replacing (mux s a b) = true
-replacing (adc a b c) = true
-replacing (aig a b) = true
-replacing (shift op value amount stride) = true
-replacing (match value enable patterns) = true
-replacing (assign value enable update offset) = true
-replacing (dff ff) = true

@@ -10,8 +10,8 @@ use borrow.Author.Tests.{ltb-true, ltb-false, leb-true, eqb-true, eqb-false}
 use Rattle.logic.specs.Word.{kindOf, payloadOf}
 use Rattle.logic.specs.Table.{tab, length-tab}
 use Rattle.logic.specs.declared.Fault.{Fault}
-use Rattle.cell.specs.Cell.{Cell, outputLen, standing, replacing}
-use Rattle.cell.specs.Operation.{operationOf, numbersOf, fieldsOf, standingOf, mayReplace}
+use Rattle.cell.specs.Cell.{Cell, outputLen, standing}
+use Rattle.cell.specs.Operation.{operationOf, numbersOf, fieldsOf, standingOf}
 use Rattle.cell.specs.declared.Operation.{Operation}
 use Rattle.cell.specs.declared.Operation.the-variants.{Void, Buf, Not, And, Or, Xor, Mux, Adc, Aig, Eq, ULt, SLt, Shl, UShr, SShr, XShr, Mul, Match, Assign, Dff, IoBuf, Input, Note}
 use Rattle.cell.specs.declared.Numbers.{Numbers}
@@ -368,32 +368,3 @@ low-standing Note = omega arith
 
 pub record-standing : {w : List ℕ} {total at : ℕ} {op : Operation} {width next : ℕ} → IsRecord w total at op width next → standingOf op ≤ 2
 record-standing {op = op} is = low-standing op
-
-replacing-in : (w : List ℕ) (op : Operation) (at : ℕ) → replacing (cellIn w op at) ≡ mayReplace op
-replacing-in w Void at = refl
-replacing-in w Buf at = refl
-replacing-in w Not at = refl
-replacing-in w And at = refl
-replacing-in w Or at = refl
-replacing-in w Xor at = refl
-replacing-in w Mux at = refl
-replacing-in w Adc at = refl
-replacing-in w Aig at = refl
-replacing-in w Eq at = refl
-replacing-in w ULt at = refl
-replacing-in w SLt at = refl
-replacing-in w Shl at = refl
-replacing-in w UShr at = refl
-replacing-in w SShr at = refl
-replacing-in w XShr at = refl
-replacing-in w Mul at = refl
-replacing-in w Match at = refl
-replacing-in w Assign at = refl
-replacing-in w Dff at = refl
-replacing-in w IoBuf at = refl
-replacing-in w Input at = refl
-replacing-in w Note at = refl
-
-pub replacing-at : (w : List ℕ) (at : ℕ) → replacing (cellAt w at) ≡ mayReplace (opAt w at)
-unfolding cellAt
-replacing-at w at = replacing-in w (opAt w at) (at + 1)

@@ -49,7 +49,7 @@ cellRepsAnswer w head void h count replacements =
 
 -- A run of k replacements without a fault has k items.
 module _ {A : Type 0} (step : ℕ → ℕ → Step) (item : ℕ → A) where
-  pub ascending-length : (k least at next : ℕ) → ascending step item k least at .scan ≡ S.Clean next → length (ascending step item k least at .items) ≡ k
+  ascending-length : (k least at next : ℕ) → ascending step item k least at .scan ≡ S.Clean next → length (ascending step item k least at .items) ≡ k
   unfolding ascending
   ascending-length zero least at next read = refl
   ascending-length (suc k) least at next read = go (step least at) read (λ above n e. ascending-length k above n next e)
