@@ -1,1 +1,0 @@
-// What holds of every accepted design: theorems alone.
