@@ -67,7 +67,7 @@ there [] k h = absurd (omega arith)
 there (s ∷ sorts) zero h = omega arith
 there (s ∷ sorts) (suc k) h = suc-le-suc (there sorts k h)
 
-args-earlier : (sorts : List Sort) (t : Term) → WellSorted sorts t → All (λ a. a < length sorts) (argumentsOf t)
+pub args-earlier : (sorts : List Sort) (t : Term) → WellSorted sorts t → All (λ a. a < length sorts) (argumentsOf t)
 args-earlier sorts (c.boolLit b) h = tt
 args-earlier sorts (c.boolIte i a b) h =
     (there sorts i (omega arith), (there sorts a (omega arith), (there sorts b (omega arith), tt)))

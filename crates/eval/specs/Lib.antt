@@ -5,3 +5,4 @@ pub mod Checking
 pub mod Evaluated
 pub mod Values
 pub mod AssignedLaws
+pub mod Evaluating
