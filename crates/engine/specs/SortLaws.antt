@@ -128,7 +128,7 @@ module _ {sorts : List Sort} {l : List Value} (g : Sorted sorts l) where
   binary-sort o a b h e =
       operation-sort o _ _ h (width a h) (width a h ∙ sym (width b (subst IsVector (sym e) h) ∙ e))
 
-  denote-sort : (t : Term) → WellSorted sorts t → OfSort (sortOf sorts t) (denote (valueAt l) t)
+  pub denote-sort : (t : Term) → WellSorted sorts t → OfSort (sortOf sorts t) (denote (valueAt l) t)
   denote-sort (c.boolLit b) h = refl
   denote-sort (c.boolIte i a b) h = refl
   denote-sort (c.not a) h = refl
@@ -150,7 +150,7 @@ module _ {sorts : List Sort} {l : List Value} (g : Sorted sorts l) where
   denote-sort (c.compare o a b) h = refl
 
   -- One more term.
-  sorted-snoc : (s : Sort) (v : Value) → OfSort s v → Sorted (sorts ++ (s ∷ [])) (l ++ (v ∷ []))
+  pub sorted-snoc : (s : Sort) (v : Value) → OfSort s v → Sorted (sorts ++ (s ∷ [])) (l ++ (v ∷ []))
   sorted-snoc s v q = record {
     many = length-snoc l v ∙ ap suc (g .many) ∙ sym (length-snoc sorts s);
     each = λ k b. go k b (ℕ-discrete k (length sorts));

@@ -1,7 +1,8 @@
 -- The evaluator goes by what is written so far: numbers and sorts of earlier terms alone make the number of a term.
+use Rattle.eval.specs.AssignedLaws.{Gives, first, rest}
 use mathlib.Core.Path.{_≡_, refl, sym, ap, ap₂, _∙_, subst}
 use mathlib.Core.Bool.{Bool, cond}
-use mathlib.Core.List.{List, [], _∷_, _++_, map}
+use mathlib.Core.List.{List, [], _∷_, _++_, map, append-assoc}
 use Prim.Native.Nat.{ℕ, zero, suc, _+_, _≤_, _<_, suc-le-suc}
 use native.Mathlib.Nat.{le-of-suc-le-suc}
 use native.Mathlib.Omega.{arith}
@@ -10,12 +11,12 @@ use lib.Seq.{sets, sets-eq, getD-at, drop-append-seam}
 use lib.Dec.{eqb}
 use Rattle.engine.specs.Call.{Term, Call}
 use Rattle.engine.specs.Call as c
-use Rattle.engine.specs.Meaning.{Value, bool, valueAt, denote, argumentsOf, All}
-use Rattle.engine.specs.Laws.{All-map}
-use Rattle.engine.specs.Sorts.{Sort, sortAt, sortOf, WellSorted}
-use Rattle.engine.specs.SortLaws.{Sorted, args-earlier}
+use Rattle.engine.specs.Meaning.{Value, bool, valueAt, denote, argumentsOf, All, Assignment, run, bits}
+use Rattle.engine.specs.Laws.{All-map, run-append, run-keeps, length-snoc, length-run}
+use Rattle.engine.specs.Sorts.{Sort, sortAt, sortOf, WellSorted, Context, start, after, Formed, OfSort}
+use Rattle.engine.specs.SortLaws.{Sorted, args-earlier, sorted-snoc, denote-sort}
 use Rattle.engine.specs.Emit.{overwrite, overwrite-append}
-use Rattle.eval.specs.Evaluated.{valueNumber}
+use Rattle.eval.specs.Evaluated.{valueNumber, falseAssertions}
 use Rattle.eval.specs.Values.{andNumber, valueBy, value-is}
 
 -- Numbers and sorts of the arguments alone make the number of a term.
@@ -84,3 +85,65 @@ term-number slice sorts l s given t g room agrees h =
     (All-map (λ k. k < length sorts) _ (λ k b. slice-at slice l k (let e = g .many in omega arith) room) (argumentsOf t)
     (args-earlier sorts t h))
     ∙ value-is g given t h
+
+-- Where a list is evaluated up to a call: the calls done and to do, what the calls done leave, and what is written and counted.
+pub record Evaluating (cs : List Call) (ρ : Assignment) (slice₀ slice : List ℕ) (given : List ℕ) (todo : List Call)
+    (terms falses : ℕ) : Type 0 where
+  pub done : List Call
+  pub context : Context
+  pub split : cs ≡ done ++ todo
+  pub formed : Formed context todo
+  pub sorted : Sorted (context .sorts) (run ρ [] done)
+  pub gives : Gives ρ todo given
+  pub written : slice ≡ overwrite slice₀ 0 (numbers (run ρ [] done))
+  pub counts : terms ≡ length (run ρ [] done)
+  pub judged : falses + falseAssertions (valueAt (run ρ [] cs)) todo ≡ falseAssertions (valueAt (run ρ [] cs)) cs
+
+pub evaluating-start : (cs : List Call) (ρ : Assignment) (slice given : List ℕ) → Formed start cs → Gives ρ cs given
+    → Evaluating cs ρ slice slice given cs 0 0
+unfolding run overwrite
+evaluating-start cs ρ slice given f g = record {
+  done = [];
+  context = start;
+  split = refl;
+  formed = f;
+  sorted = record { many = refl; each = λ k h. absurd (omega arith) };
+  gives = g;
+  written = refl;
+  counts = refl;
+  judged = omega arith;
+}
+
+-- One more call that makes a term.
+run-more : (ρ : Assignment) (done : List Call) (call : Call) (v : Value) → run ρ (run ρ [] done) (call ∷ []) ≡ run ρ [] done ++ (v ∷ [])
+    → run ρ [] (done ++ (call ∷ [])) ≡ run ρ [] done ++ (v ∷ [])
+run-more ρ done call v e = run-append ρ [] done (call ∷ []) ∙ e
+
+-- The terms so far fit where all do.
+fits : (ρ : Assignment) (cs done todo : List Call) (room : ℕ) → cs ≡ done ++ todo → length (run ρ [] cs) ≤ room
+    → length (run ρ [] done) ≤ room
+fits ρ cs done todo room e h =
+    let all = ap (λ (l : List Call). length (run ρ [] l)) e ∙ ap length (run-append ρ [] done todo) ∙ length-run ρ (run ρ [] done) todo in
+    omega arith
+
+module _ {cs : List Call} {ρ : Assignment} {slice₀ slice given given′ : List ℕ} {terms falses : ℕ} {call : Call}
+    {todo : List Call} (e : Evaluating cs ρ slice₀ slice given (call ∷ todo) terms falses) (s : Sort) (v : Value) where
+  -- A call that makes a term of a sort and a value: its number is written.
+  pub evaluating-made : run ρ (run ρ [] (e .done)) (call ∷ []) ≡ run ρ [] (e .done) ++ (v ∷ [])
+      → after (e .context) call .sorts ≡ e .context .sorts ++ (s ∷ []) → OfSort s v → Gives ρ todo given′
+      → falseAssertions (valueAt (run ρ [] cs)) (call ∷ todo) ≡ falseAssertions (valueAt (run ρ [] cs)) todo
+      → Evaluating cs ρ slice₀ (set slice terms (valueNumber v)) given′ todo (terms + 1) falses
+  evaluating-made more sorts of-sort gives same =
+      let l = run ρ [] (e .done) in
+      let grown = run-more ρ (e .done) call v more in
+      record {
+        done = e .done ++ (call ∷ []);
+        context = after (e .context) call;
+        split = e .split ∙ sym (append-assoc (e .done) (call ∷ []) todo);
+        formed = e .formed .2;
+        sorted = rw (grown, sorts) (sorted-snoc (e .sorted) s v of-sort);
+        gives = gives;
+        written = rw (grown, slice-more slice₀ l v, ← e .written, ← e .counts);
+        counts = rw (grown, length-snoc l v) (let k = e .counts in omega arith);
+        judged = ap (λ (n : ℕ). falses + n) (sym same) ∙ e .judged;
+      }
