@@ -1,20 +1,22 @@
 -- The evaluator goes by what is written so far: numbers and sorts of earlier terms alone make the number of a term.
+use Rattle.bitvec.specs.Laws.{bv2nat-nat2bv, length-nat2bv}
+use Rattle.bitvec.specs.Bits.{bv2nat, nat2bv}
 use Rattle.eval.specs.AssignedLaws.{Gives, first, rest}
 use mathlib.Core.Path.{_≡_, refl, sym, ap, ap₂, _∙_, subst}
 use mathlib.Core.Bool.{Bool, cond}
-use mathlib.Core.List.{List, [], _∷_, _++_, map, append-assoc}
-use Prim.Native.Nat.{ℕ, zero, suc, _+_, _≤_, _<_, suc-le-suc}
-use native.Mathlib.Nat.{le-of-suc-le-suc}
+use mathlib.Core.List.{List, [], _∷_, _++_, map, append-assoc, append-nil}
+use Prim.Native.Nat.{ℕ, zero, suc, _+_, _≤_, _<_, suc-le-suc, _^_}
+use native.Mathlib.Nat.{le-of-suc-le-suc, mod-eq-of-lt}
 use native.Mathlib.Omega.{arith}
 use lib.ListN.{length, getD, set, length-map, drop, List·getD-append}
 use lib.Seq.{sets, sets-eq, getD-at, drop-append-seam}
 use lib.Dec.{eqb}
-use Rattle.engine.specs.Call.{Term, Call}
+use Rattle.engine.specs.Call.{Term, Call, Name}
 use Rattle.engine.specs.Call as c
 use Rattle.engine.specs.Meaning.{Value, bool, valueAt, denote, argumentsOf, All, Assignment, run, bits}
 use Rattle.engine.specs.Laws.{All-map, run-append, run-keeps, length-snoc, length-run}
 use Rattle.engine.specs.Sorts.{Sort, sortAt, sortOf, WellSorted, Context, start, after, Formed, OfSort}
-use Rattle.engine.specs.SortLaws.{Sorted, args-earlier, sorted-snoc, denote-sort}
+use Rattle.engine.specs.SortLaws.{Sorted, args-earlier, sorted-snoc, denote-sort, there}
 use Rattle.engine.specs.Emit.{overwrite, overwrite-append}
 use Rattle.eval.specs.Evaluated.{valueNumber, falseAssertions}
 use Rattle.eval.specs.Values.{andNumber, valueBy, value-is}
@@ -147,3 +149,84 @@ module _ {cs : List Call} {ρ : Assignment} {slice₀ slice given given′ : Lis
         counts = rw (grown, length-snoc l v) (let k = e .counts in omega arith);
         judged = ap (λ (n : ℕ). falses + n) (sym same) ∙ e .judged;
       }
+
+-- A term, a declaration, an assertion and check, each from the slice and the sorts so far.
+module _ {cs : List Call} {ρ : Assignment} {slice₀ slice given : List ℕ} {terms falses : ℕ} {todo : List Call} where
+  pub evaluating-term : (t : Term) (s : ℕ → Sort) (g : ℕ) (e : Evaluating cs ρ slice₀ slice given (c.term t ∷ todo) terms falses)
+      → length (run ρ [] cs) ≤ length slice₀ → ((k : ℕ) → k < length (e .context .sorts) → s k ≡ sortAt (e .context .sorts) k)
+      → Evaluating cs ρ slice₀ (set slice terms (valueBy s (λ k. getD slice k 0) g (c.term t))) given todo (terms + 1) falses
+  unfolding run Gives falseAssertions
+  evaluating-term t s g e room agrees =
+      let l = run ρ [] (e .done) in
+      let number : valueBy s (λ k. getD slice k 0) g (c.term t) ≡ valueNumber (denote (valueAt l) t) =
+      rw (e .written)
+      (term-number slice₀ (e .context .sorts) l s g t (e .sorted)
+      (fits ρ cs (e .done) (c.term t ∷ todo) (length slice₀) (e .split) room) agrees (e .formed .1 .0)) in
+      rw number
+      (evaluating-made e (sortOf (e .context .sorts) t) (denote (valueAt l) t) refl refl
+      (denote-sort (e .sorted) t (e .formed .1 .0)) (e .gives) refl)
+
+  pub evaluating-check : (e : Evaluating cs ρ slice₀ slice given (c.check ∷ todo) terms falses)
+      → Evaluating cs ρ slice₀ slice given todo terms falses
+  unfolding run Gives falseAssertions
+  evaluating-check e =
+      let same : run ρ [] (e .done ++ (c.check ∷ [])) ≡ run ρ [] (e .done) = run-append ρ [] (e .done) (c.check ∷ []) in
+      record {
+        done = e .done ++ (c.check ∷ []);
+        context = after (e .context) c.check;
+        split = e .split ∙ sym (append-assoc (e .done) (c.check ∷ []) todo);
+        formed = e .formed .2;
+        sorted = rw same (e .sorted);
+        gives = e .gives;
+        written = rw same (e .written);
+        counts = rw same (e .counts);
+        judged = e .judged;
+      }
+
+  pub evaluating-declare : (n : Name) (w : ℕ) (e : Evaluating cs ρ slice₀ slice given (c.declare n w ∷ todo) terms falses)
+      → first given < 2 ^ w → Evaluating cs ρ slice₀ (set slice terms (first given)) (rest given) todo (terms + 1) falses
+  unfolding run Gives falseAssertions
+  evaluating-declare n w e low =
+      let number : first given ≡ valueNumber (bits (ρ n)) =
+      sym (ap bv2nat (e .gives .0) ∙ bv2nat-nat2bv w (first given) ∙ mod-eq-of-lt low) in
+      rw number
+      (evaluating-made e w (bits (ρ n)) refl refl
+      (e .formed .1 .1, ap length (e .gives .0) ∙ length-nat2bv w (first given)) (e .gives .1) refl)
+
+  pub evaluating-assert : (k : ℕ) (e : Evaluating cs ρ slice₀ slice given (c.assert k ∷ todo) terms falses)
+      → length (run ρ [] cs) ≤ length slice₀
+      → Evaluating cs ρ slice₀ slice given todo terms (falses + cond (eqb (getD slice k 0) 0) 1 0)
+  unfolding run Gives falseAssertions
+  evaluating-assert k e room =
+      let l = run ρ [] (e .done) in
+      let same : run ρ [] (e .done ++ (c.assert k ∷ [])) ≡ l = run-append ρ [] (e .done) (c.assert k ∷ []) in
+      let known : k < length l =
+      (let m = e .sorted .many in let h = there (e .context .sorts) k (let z = e .formed .1 .0 in omega arith) in omega arith) in
+      let last : valueAt (run ρ [] cs) k ≡ valueAt l k =
+      ap (λ (d : List Call). valueAt (run ρ [] d) k) (e .split)
+      ∙ ap (λ (r : List Value). valueAt r k) (run-append ρ [] (e .done) (c.assert k ∷ todo))
+      ∙ run-keeps ρ l (c.assert k ∷ todo) k known in
+      let number : getD slice k 0 ≡ valueNumber (valueAt (run ρ [] cs) k) =
+      ap (λ (r : List ℕ). getD r k 0) (e .written)
+      ∙ slice-at slice₀ l k known (fits ρ cs (e .done) (c.assert k ∷ todo) (length slice₀) (e .split) room)
+      ∙ ap valueNumber (sym last) in
+      record {
+        done = e .done ++ (c.assert k ∷ []);
+        context = e .context;
+        split = e .split ∙ sym (append-assoc (e .done) (c.assert k ∷ []) todo);
+        formed = e .formed .2;
+        sorted = rw same (e .sorted);
+        gives = e .gives;
+        written = rw same (e .written);
+        counts = rw same (e .counts);
+        judged = rw number (let j = e .judged in omega arith);
+      }
+
+-- At the end, every term's number is written and every false assertion counted.
+pub evaluating-end : (cs : List Call) (ρ : Assignment) (slice₀ slice given : List ℕ) (terms falses : ℕ)
+    → Evaluating cs ρ slice₀ slice given [] terms falses
+    → (slice ≡ overwrite slice₀ 0 (numbers (run ρ [] cs))) × (falses ≡ falseAssertions (valueAt (run ρ [] cs)) cs)
+unfolding falseAssertions
+evaluating-end cs ρ slice₀ slice given terms falses e =
+    let all : e .done ≡ cs = sym (e .split ∙ append-nil (e .done)) in
+    (e .written ∙ ap (λ (d : List Call). overwrite slice₀ 0 (numbers (run ρ [] d))) all, (let j = e .judged in omega arith))
