@@ -67,7 +67,7 @@ there [] k h = absurd (omega arith)
 there (s ∷ sorts) zero h = omega arith
 there (s ∷ sorts) (suc k) h = suc-le-suc (there sorts k h)
 
-args-earlier : (sorts : List Sort) (t : Term) → WellSorted sorts t → All (λ a. a < length sorts) (argumentsOf t)
+pub args-earlier : (sorts : List Sort) (t : Term) → WellSorted sorts t → All (λ a. a < length sorts) (argumentsOf t)
 args-earlier sorts (c.boolLit b) h = tt
 args-earlier sorts (c.boolIte i a b) h =
     (there sorts i (omega arith), (there sorts a (omega arith), (there sorts b (omega arith), tt)))
@@ -128,7 +128,7 @@ module _ {sorts : List Sort} {l : List Value} (g : Sorted sorts l) where
   binary-sort o a b h e =
       operation-sort o _ _ h (width a h) (width a h ∙ sym (width b (subst IsVector (sym e) h) ∙ e))
 
-  denote-sort : (t : Term) → WellSorted sorts t → OfSort (sortOf sorts t) (denote (valueAt l) t)
+  pub denote-sort : (t : Term) → WellSorted sorts t → OfSort (sortOf sorts t) (denote (valueAt l) t)
   denote-sort (c.boolLit b) h = refl
   denote-sort (c.boolIte i a b) h = refl
   denote-sort (c.not a) h = refl
@@ -150,7 +150,7 @@ module _ {sorts : List Sort} {l : List Value} (g : Sorted sorts l) where
   denote-sort (c.compare o a b) h = refl
 
   -- One more term.
-  sorted-snoc : (s : Sort) (v : Value) → OfSort s v → Sorted (sorts ++ (s ∷ [])) (l ++ (v ∷ []))
+  pub sorted-snoc : (s : Sort) (v : Value) → OfSort s v → Sorted (sorts ++ (s ∷ [])) (l ++ (v ∷ []))
   sorted-snoc s v q = record {
     many = length-snoc l v ∙ ap suc (g .many) ∙ sym (length-snoc sorts s);
     each = λ k b. go k b (ℕ-discrete k (length sorts));

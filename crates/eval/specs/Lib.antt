@@ -4,3 +4,5 @@ pub mod TableLaws
 pub mod Checking
 pub mod Evaluated
 pub mod Values
+pub mod AssignedLaws
+pub mod Evaluating

@@ -1,5 +1,7 @@
 // The checker of a call list (fault 19) and its evaluator (fault 20). Both are total on every list of words.
 use call_list::Operation;
+use engine::BinaryOp;
+use engine::Compare;
 use engine::Origin;
 use logic::Term;
 ghost use mathlib.Core.Path.{_≡_};
@@ -14,7 +16,11 @@ ghost use Rattle.engine.specs.Structure.{capped, originBy, guarded, sortOfTerm,
 ghost use Rattle.call_list.specs.Operations.{opFrom, isDeclare};
 ghost use Rattle.eval.specs.Tables.{wordSort, recordSort, standsBy, wrongAs, slotOf, knownBy, againBy, headBy, onWrong, faultBy, noteSort, noteName, isCheck, seenNext, checkedAs};
 ghost use Rattle.eval.specs.Checking.{Checked};
-ghost use Rattle.bitvec.specs.Bits.{bit};
+ghost use Rattle.eval.specs.Values.{valueOf};
+ghost use Rattle.bitvec.specs.Bits.{bit, nat2bv};
+ghost use Rattle.bitvec.specs.Words.{atWidth, holdsAt};
+ghost use Rattle.engine.specs.Meaning.{denoteOp, denoteCompare};
+ghost use Rattle.engine.specs.Emit.{binaryOf, compareOf};
 
 // What checking a call list answers: how many terms it makes and names it declares, or the first place at fault.
 pub enum CallList {
@@ -385,4 +391,81 @@ pub fn check(calls: &[u32]) -> CallList
     let mut sorts = [0u8; 65536];
     let mut names = [0u8; 589824];
     check_tables(calls, &mut sorts, &mut names)
+}
+
+// A choice by a Bool's number, its negation, and the number of an equality.
+fn chosen(condition: u64, if_one: u64, otherwise: u64) -> u64
+    ensures { λ r. ⌜ r ≡ cond (eqb condition 1) «if_one» otherwise ⌝ }
+{
+    if condition == 1 { if_one } else { otherwise }
+}
+
+fn flag_number(holds: bool) -> u64
+    ensures { λ r. ⌜ r ≡ bit holds ⌝ }
+{
+    if holds { 1 } else { 0 }
+}
+
+// An operation of two vectors of a width.
+pub fn binary_value(op: BinaryOp, width: u32, s: u64, t: u64) -> u64
+    ensures { λ r. ⌜ r ≡ atWidth width (denoteOp (binaryOf op) (nat2bv width s) (nat2bv width t)) ⌝ }
+{
+    match op {
+        BinaryOp::And => bitvec::bvand(width, s, t),
+        BinaryOp::Or => bitvec::bvor(width, s, t),
+        BinaryOp::Xor => bitvec::bvxor(width, s, t),
+        BinaryOp::Add => bitvec::bvadd(width, s, t),
+        BinaryOp::Comp => bitvec::bvcomp(width, s, t),
+        BinaryOp::Shl => bitvec::bvshl(width, s, t),
+        BinaryOp::Lshr => bitvec::bvlshr(width, s, t),
+        BinaryOp::Ashr => bitvec::bvashr(width, s, t),
+        BinaryOp::Mul => bitvec::bvmul(width, s, t),
+    }
+}
+
+// A comparison of two vectors of a width.
+pub fn compare_value(op: Compare, width: u32, s: u64, t: u64) -> bool
+    ensures { λ r. ⌜ r ≡ holdsAt width (denoteCompare (compareOf op) (nat2bv width s) (nat2bv width t)) ⌝ }
+{
+    match op {
+        Compare::Ult => bitvec::bvult(width, s, t),
+        Compare::Slt => bitvec::bvslt(width, s, t),
+    }
+}
+
+// The number of the term of an operation, but for and and literals, whose number is handed over: from the payloads of its first
+// two arguments, and the numbers and sorts of the terms that its arguments refer to.
+pub fn value_of(
+    operation: Operation,
+    list: u64,
+    given: u64,
+    a: u32,
+    b: u32,
+    va: u64,
+    vb: u64,
+    vc: u64,
+    sa: u32,
+    sb: u32,
+    sc: u32,
+) -> u64
+    ensures { λ r. ⌜ r ≡ valueOf (opFrom operation) list given a b va vb vc sa sb sc ⌝ }
+{
+    match operation {
+        Operation::BoolLit => flag_number(a == 1),
+        Operation::BoolIte => chosen(va, vb, vc),
+        Operation::Not => chosen(va, 0, 1),
+        Operation::And => list,
+        Operation::Lit => list,
+        Operation::Equal => flag_number(va == vb),
+        Operation::Ite => chosen(va, vb, vc),
+        Operation::Concat => bitvec::concat(sa, va, sb, vb),
+        Operation::Extract => bitvec::extract(sc, a, b, vc),
+        Operation::BvNot => bitvec::bvnot(sa, va),
+        Operation::Binary(op) => binary_value(op, sa, va, vb),
+        Operation::Compare(op) => flag_number(compare_value(op, sa, va, vb)),
+        Operation::Declare => given,
+        Operation::Assert => 0,
+        Operation::Check => 0,
+        Operation::Unknown => 0,
+    }
 }
