@@ -9,4 +9,13 @@
    bits 47 to 0 its place (accepted: the number of slots, base + added). The words keep their values. */
 uint64_t vm_read(const uint32_t *list, size_t len);
 
+/* Writes the script of a call list of n words and its r recorded marks into a text of t bytes. Bits 63 to 48 of the answer are the number
+   of the first fault (0: none), bits 47 to 0 its place, or the number of bytes written. On a fault the text keeps its bytes. */
+uint64_t vm_script(const uint32_t *calls, size_t n, const uint8_t *recorded, size_t r, uint8_t *text, size_t t);
+
+/* Reads a solver's answer of t bytes against r recorded marks into a table of s entries: 0, 1, 2 (X) or 3 (not recorded) per mark. Bits 63
+   to 48 of the answer are the number of the first fault (0: none), bits 47 to 0 its place, or 0 for unsat and 1 for sat. The table is
+   written only after sat. */
+uint64_t vm_answer(const uint8_t *text, size_t t, const uint8_t *recorded, size_t r, uint8_t *trits, size_t s);
+
 #endif

@@ -1,8 +1,43 @@
 -- Answers packed into one word of 64 bits: bits 63 to 48 the fault number (0: none), bits 47 to 0 the place, or for an accepted list base + added.
+use mathlib.Core.Path.{_≡_}
+use mathlib.Core.List.{List}
 use Prim.Native.Nat.{ℕ, _+_, _*_, _%_, _^_}
+use lib.ListN.{length}
+use Rattle.logic.specs.declared.Fault.{Fault}
+use Rattle.script.specs.declared.Written.{Written}
+use Rattle.script.specs.declared.Written.the-variants as script
+use Rattle.script.specs.declared.Written.the-variants.{Bytes}
+use Rattle.script.specs.Written.{written, textAfter, scriptOf}
+use Rattle.answer.specs.declared.Answer.{Answer}
+use Rattle.answer.specs.declared.Answer.the-variants as answer
+use Rattle.answer.specs.declared.Answer.the-variants.{Unsat, Sat}
+use Rattle.answer.specs.Reply.{answerOf, replyTo, tableAfter}
 use Rattle.design_list.specs.declared.DesignRead.{DesignRead}
 use Rattle.design_list.specs.declared.DesignRead.the-variants.{Accepted, Refused}
 
 abbrev pub packed : DesignRead → ℕ
 packed (Accepted x) = x .base + x .added
 packed (Refused e) = e .number % 2 ^ 16 * 2 ^ 48 + e .place % 2 ^ 48
+
+-- A refusal of any entry.
+abbrev pub packedFault : Fault → ℕ
+packedFault e = e .number % 2 ^ 16 * 2 ^ 48 + e .place % 2 ^ 48
+
+-- The writer's answer: below the fault number the number of bytes.
+abbrev pub packedWritten : Written → ℕ
+packedWritten (Bytes n) = n % 2 ^ 48
+packedWritten (script.Refused e) = packedFault e
+
+pub record PackedScript (calls marks before after : List ℕ) (r : ℕ) : Type 0 where
+  pub answers : r ≡ packedWritten (written calls marks (length before))
+  pub writes : after ≡ textAfter (written calls marks (length before)) (scriptOf calls marks) before
+
+-- The reader's answer: 0 for unsat and 1 for sat.
+abbrev pub packedAnswer : Answer → ℕ
+packedAnswer Unsat = 0
+packedAnswer Sat = 1
+packedAnswer (answer.Refused e) = packedFault e
+
+pub record PackedAnswer (text marks before after : List ℕ) (r : ℕ) : Type 0 where
+  pub answers : r ≡ packedAnswer (answerOf (replyTo text marks (length before)))
+  pub writes : after ≡ tableAfter (replyTo text marks (length before)) marks before

@@ -1,8 +1,11 @@
 // The C interface: each entry over slices of words, its answer packed into a number.
+use answer::Answer;
 use design_list::DesignRead;
+use logic::Fault;
+use script::Written;
 ghost use mathlib.Core.Path.{_≡_};
 ghost use Rattle.design_list.specs.Read.{read, answer};
-ghost use Rattle.ffi.specs.Packed.{packed};
+ghost use Rattle.ffi.specs.Packed.{packed, packedFault, PackedScript, PackedAnswer};
 
 // Reads a design list: the fault's number and place, or 0 and the number of slots.
 #[no_mangle]
@@ -13,5 +16,35 @@ pub extern "C" fn vm_read(list: &[u32]) -> u64
         DesignRead::Refused(f) => (f.number % 65536) as u64 * 281474976710656
             + (f.place % 281474976710656) as u64,
         DesignRead::Accepted(x) => x.base as u64 + x.added as u64,
+    }
+}
+
+// A refusal, packed: its number above its place.
+fn packed_fault(fault: Fault) -> u64
+    ensures { λ r. ⌜ r ≡ packedFault fault ⌝ }
+{
+    (fault.number % 65536) as u64 * 281474976710656 + (fault.place % 281474976710656) as u64
+}
+
+// Writes the script of a call list and its recorded marks: the fault's number and place, or 0 and the number of bytes.
+#[no_mangle]
+pub extern "C" fn vm_script(calls: &[u32], recorded: &[u8], text: &mut [u8]) -> u64
+    ensures { λ r. ⌜ PackedScript (now (calls .entry)) (now (recorded .entry)) (now (text .entry)) (now (text .exit)) r ⌝ }
+{
+    match script::write_script(calls, recorded, text) {
+        Written::Refused(f) => packed_fault(f),
+        Written::Bytes(n) => (n % 281474976710656) as u64,
+    }
+}
+
+// Reads a solver's answer against the recorded marks into a table: the fault's number and place, or 0 for unsat and 1 for sat.
+#[no_mangle]
+pub extern "C" fn vm_answer(text: &[u8], recorded: &[u8], trits: &mut [u8]) -> u64
+    ensures { λ r. ⌜ PackedAnswer (now (text .entry)) (now (recorded .entry)) (now (trits .entry)) (now (trits .exit)) r ⌝ }
+{
+    match answer::read_answer(text, recorded, trits) {
+        Answer::Refused(f) => packed_fault(f),
+        Answer::Unsat => 0,
+        Answer::Sat => 1,
     }
 }

@@ -622,13 +622,13 @@ fn put_script(text: &mut [u8], calls: &[u32], recorded: &[u8]) -> usize
 }
 
 // The number of a letter or a suffix, as a word has it.
-fn low_number(n: u32) -> u32
-    ensures { λ r. ⌜ r ≡ lowNumber n ⌝ }
+fn low_number(number: u32) -> u32
+    ensures { λ r. ⌜ r ≡ lowNumber number ⌝ }
 {
-    if n == 1 {
+    if number == 1 {
         return 1;
     }
-    if n == 2 {
+    if number == 2 {
         return 2;
     }
     0
