@@ -39,7 +39,7 @@ is-declared (c.term t ∷ calls) name m = is-declared calls name m
 is-declared (c.declare other w ∷ calls) name (List·Memᴰ·head e) =
     ap (λ (b : Bool). b || declared calls name) (subst (λ (n : Name).
     declaresName (letterNumber (name .letter)) (name .index) (suffixNumber (name .suffix)) (c.declare n w) ≡ true) e (same-name name w))
-is-declared (c.declare other w ∷ calls) name (List·Memᴰ·tail m) = 
+is-declared (c.declare other w ∷ calls) name (List·Memᴰ·tail m) =
     rw (is-declared calls name m)
     (or-true (declaresName (letterNumber (name .letter)) (name .index) (suffixNumber (name .suffix)) (c.declare other w)))
 is-declared (c.assert k ∷ calls) name m = is-declared calls name m
