@@ -24,3 +24,4 @@ pub mod WellFormed
 pub mod Required
 pub mod Tidy
 pub mod Marks
+pub mod Answered

@@ -54,7 +54,7 @@ is-accepted w {d} {r} {p} e = go (accepted-read w e)
         record { laid = accepted-laid w e; bounds = accepted-bounds w e; slots = is .low; words = omega arith }
 
 module _ (w : List ℕ) {d : Design} {r p : ℕ} (is : read w ≡ accepted d r p) where
-  words-are : callWords w ≡ encode (verify d)
+  pub words-are : callWords w ≡ encode (verify d)
   unfolding callWords
   words-are = ap writtenCalls is
 

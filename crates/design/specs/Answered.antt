@@ -1,0 +1,117 @@
+-- What `verified` answers: an accepted list is refused only for want of room, at the room needed; it says "nothing asked" just where
+-- there is no obligation; and its counts are those of the builder.
+use mathlib.Core.Path.{_≡_, refl, sym, ap, _∙_, subst}
+use mathlib.Core.List.{List, [], _∷_, _++_}
+use Prim.Native.Nat.{ℕ, zero, suc, _+_, _≤_, _<_}
+use native.Mathlib.Omega.{arith}
+use lib.ListN.{length, getD}
+use borrow.Author.Tests.{lt-ltb, le-ltb}
+use Rattle.logic.specs.declared.Fault.{Fault}
+use Rattle.cell.specs.Design.{Design, total}
+use Rattle.engine.specs.Call.{Call}
+use Rattle.engine.specs.Call as c
+use Rattle.engine.specs.Encode.{encode}
+use Rattle.working_out.specs.Obligations.{obligations}
+use Rattle.smt.specs.Prog.{Prog, ret, op, declare, bind, bind2, _>>=_, Age, curr, past, Half}
+use Rattle.smt.specs.Emit.{St, Out, netName, place, at, learn, reread, after, known, emit}
+use Rattle.design_list.specs.Read.{refused, accepted, read}
+use Rattle.design.specs.Verify.{Step, declared, asserted, obliged, steps, work, start, built, query, asked, verify}
+use Rattle.design.specs.Meant.{steps-are}
+use Rattle.design.specs.Exists as terms-asked
+use Rattle.design.specs.Theorem.{asked-each}
+use Rattle.design.specs.Verified.{Refused, temporaries, counted, told, ofRead, verified, callWords}
+use Rattle.design.specs.Required.{is-accepted, words-are}
+
+-- ---- the temporaries counted in the calls are those that the builder numbered
+
+temporaries-append : (cs ds : List Call) → temporaries (cs ++ ds) ≡ temporaries cs + temporaries ds
+unfolding temporaries
+temporaries-append [] ds = omega arith
+temporaries-append (c.term t ∷ cs) ds = temporaries-append cs ds
+temporaries-append (c.declare name w ∷ cs) ds = let h = temporaries-append cs ds in omega arith
+temporaries-append (c.assert k ∷ cs) ds = temporaries-append cs ds
+temporaries-append (c.check ∷ cs) ds = temporaries-append cs ds
+
+emit-temp : {A : Type 0} (m : Prog A) (s : St) → (emit m s) .st .temp ≡ s .temp + temporaries ((emit m s) .calls)
+unfolding emit temporaries
+emit-temp (ret a) s = omega arith
+emit-temp (op t f) s = emit-temp (f (s .next)) (at (suc (s .next)) (s .temp) s)
+emit-temp {A} (declare a i y f) s = go (λ k s. emit-temp (f k) s) (getD (s .names) (place a i y) 0) a
+  where
+    go : ((k : ℕ) (s : St) → (emit (f k) s) .st .temp ≡ s .temp + temporaries ((emit (f k) s) .calls)) → (o : ℕ) (b : Age)
+        → (known {X = Out A} o (after (c.declare (netName b i y) 1 ∷ []) (emit (f (s .next)) (learn a i y s))) (λ k. emit (f k) (reread a i s))) .st .temp
+        ≡ s .temp + temporaries ((known {X = Out A} o (after (c.declare (netName b i y) 1 ∷ []) (emit (f (s .next)) (learn a i y s))) (λ k. emit (f k) (reread a i s))) .calls)
+    go rec zero curr = let h = rec (s .next) (learn a i y s) in omega arith
+    go rec zero past = let h = rec (s .next) (learn a i y s) in omega arith
+    go rec (suc k) b = rec k (reread a i s)
+emit-temp (bind w t f) s = let h = emit-temp (f (s .next)) (at (suc (suc (s .next))) (suc (s .temp)) s) in omega arith
+emit-temp (bind2 w x y f) s =
+    let h = emit-temp (f (s .next) (suc (s .next))) (at (suc (suc (suc (suc (s .next))))) (suc (s .temp)) s) in omega arith
+
+work-temp : (steps : List Step) (s : St) → (work steps s) .st .temp ≡ s .temp + temporaries ((work steps s) .calls)
+unfolding work temporaries
+work-temp [] s = omega arith
+work-temp (declared m ∷ rest) s =
+    let h = emit-temp m s in
+    let g = work-temp rest ((emit m s) .st) in
+    let e = temporaries-append ((emit m s) .calls) ((work rest ((emit m s) .st)) .calls) in
+    omega arith
+work-temp (asserted m ∷ rest) s =
+    let h = emit-temp m s in
+    let g = work-temp rest ((emit m s) .st) in
+    let e = temporaries-append ((emit m s) .calls) (c.assert ((emit m s) .res) ∷ (work rest ((emit m s) .st)) .calls) in
+    omega arith
+work-temp (obliged m ∷ rest) s =
+    let h = emit-temp m s in
+    let g = work-temp rest ((emit m s) .st) in
+    let e = temporaries-append ((emit m s) .calls) ((work rest ((emit m s) .st)) .calls) in
+    omega arith
+
+-- The query has none.
+query-temporaries : (l : List ℕ) (s : St) → temporaries (asked l s) ≡ 0
+unfolding asked query emit _>>=_ temporaries
+query-temporaries [] s = refl
+query-temporaries (o ∷ l) s = refl
+
+pub temporaries-are : (d : Design) → temporaries (verify d) ≡ (built d) .st .temp
+unfolding verify
+temporaries-are d =
+    let h = work-temp (steps d) (start (total d)) in
+    let q = query-temporaries ((built d) .res) ((built d) .st) in
+    let e = temporaries-append ((built d) .calls) (asked ((built d) .res) ((built d) .st)) in
+    omega arith
+
+-- ---- the answer
+
+pub refused-as-read : (w : List ℕ) {e : Fault} → read w ≡ refused e → (room recorded : ℕ) → verified w room recorded ≡ Refused e
+unfolding verified
+refused-as-read w is room recorded = ap (λ r. ofRead r room recorded) is
+
+module _ (w : List ℕ) {d : Design} {reps pairs : ℕ} (is : read w ≡ accepted d reps pairs) (room recorded : ℕ) where
+  -- With room, every accepted list is answered.
+  pub answered : length (callWords w) ≤ room → total d ≤ recorded → verified w room recorded ≡ told ((built d) .res) (counted (verify d))
+  unfolding verified
+  answered calls marks =
+      let enough : length (encode (verify d)) ≤ room = rw (words-are w is) at calls in
+      ap (λ r. ofRead r room recorded) is ∙ rw (le-ltb _ _ enough, le-ltb _ _ marks)
+
+  -- 14 at the room needed: the call slice first, then the recorded one.
+  pub short-of-words : room < length (callWords w) → verified w room recorded ≡ Refused (record { number = 14; place = length (callWords w) })
+  unfolding verified
+  short-of-words short =
+      let few : room < length (encode (verify d)) = rw (words-are w is) at short in
+      ap (λ r. ofRead r room recorded) is ∙ rw (lt-ltb _ _ few, words-are w is)
+
+  pub short-of-marks : length (callWords w) ≤ room → recorded < total d
+      → verified w room recorded ≡ Refused (record { number = 14; place = total d })
+  unfolding verified
+  short-of-marks calls short =
+      let enough : length (encode (verify d)) ≤ room = rw (words-are w is) at calls in
+      ap (λ r. ofRead r room recorded) is ∙ rw (le-ltb _ _ enough, lt-ltb _ _ short)
+
+  -- Nothing is asked just where there is no obligation.
+  pub asked-obligations : length ((built d) .res) ≡ length (obligations d)
+  unfolding terms-asked.asked
+  asked-obligations =
+      subst (λ (l : List Step). length ((work l (start (total d))) .res) ≡ length (obligations d)) (steps-are d)
+      (asked-each d ((is-accepted w is) .laid))
