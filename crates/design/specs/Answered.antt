@@ -1,5 +1,5 @@
 -- What `verified` answers: an accepted list is refused only for want of room, at the room needed; it says "nothing asked" just where
--- there is no obligation; and its counts are those of the builder.
+-- there is no obligation; its counts are those of the builder; and what the two lent slices hold after it.
 use mathlib.Core.Path.{_≡_, refl, sym, ap, _∙_, subst}
 use mathlib.Core.List.{List, [], _∷_, _++_}
 use Prim.Native.Nat.{ℕ, zero, suc, _+_, _≤_, _<_}
@@ -19,7 +19,21 @@ use Rattle.design.specs.Verify.{Step, declared, asserted, obliged, steps
 use Rattle.design.specs.Meant.{steps-are}
 use Rattle.design.specs.Exists as terms-asked
 use Rattle.design.specs.Theorem.{asked-each}
-use Rattle.design.specs.Verified.{Refused, temporaries, counted, told, ofRead, verified, callWords}
+use Rattle.design.specs.Verified.{
+  Refused,
+  temporaries,
+  Counts,
+  counted,
+  told,
+  ofRead,
+  verified,
+  over,
+  onSuccess,
+  callWords,
+  marks,
+  callsAfter,
+  recordedAfter,
+}
 use Rattle.design.specs.Required.{is-accepted, words-are}
 
 -- ---- the temporaries counted in the calls are those that the builder numbered
@@ -115,3 +129,28 @@ module _ (w : List ℕ) {d : Design} {reps pairs : ℕ} (is : read w ≡ accepte
   asked-obligations =
       subst (λ (l : List Step). length ((work l (start (total d))) .res) ≡ length (obligations d)) (steps-are d)
       (asked-each d ((is-accepted w is) .laid))
+
+-- ---- the lent slices
+
+told-writes : (l : List ℕ) (n : Counts) (new old : List ℕ) → onSuccess (told l n) new old ≡ over new old
+told-writes [] n new old = refl
+told-writes (o ∷ l) n new old = refl
+
+module _ (w calls recorded : List ℕ) where
+  -- A refusal leaves both as they were.
+  pub untouched : {e : Fault} → verified w (length calls) (length recorded) ≡ Refused e
+      → (callsAfter w calls recorded ≡ calls) × (recordedAfter w calls recorded ≡ recorded)
+  unfolding callsAfter recordedAfter
+  untouched e = (ap (λ v. onSuccess v (callWords w) calls) e, ap (λ v. onSuccess v (marks w) recorded) e)
+
+  -- With room, the call words and the marks are written, and nothing past them.
+  pub slices-after : {d : Design} {reps pairs : ℕ} → read w ≡ accepted d reps pairs → length (callWords w) ≤ length calls
+      → total d ≤ length recorded
+      → (callsAfter w calls recorded ≡ over (callWords w) calls) × (recordedAfter w calls recorded ≡ over (marks w) recorded)
+  unfolding callsAfter recordedAfter
+  slices-after {d} is room more =
+      let e = answered w is (length calls) (length recorded) room more in
+      (
+        ap (λ v. onSuccess v (callWords w) calls) e ∙ told-writes ((built d) .res) (counted (verify d)) (callWords w) calls,
+        ap (λ v. onSuccess v (marks w) recorded) e ∙ told-writes ((built d) .res) (counted (verify d)) (marks w) recorded,
+      )
