@@ -149,8 +149,7 @@ module _ (w calls recorded : List ℕ) where
       → (callsAfter w calls recorded ≡ over (callWords w) calls) × (recordedAfter w calls recorded ≡ over (marks w) recorded)
   unfolding callsAfter recordedAfter
   slices-after {d} is room more =
-      let e = answered w is (length calls) (length recorded) room more in
-      (
+      let e = answered w is (length calls) (length recorded) room more in (
         ap (λ v. onSuccess v (callWords w) calls) e ∙ told-writes ((built d) .res) (counted (verify d)) (callWords w) calls,
         ap (λ v. onSuccess v (marks w) recorded) e ∙ told-writes ((built d) .res) (counted (verify d)) (marks w) recorded,
       )
