@@ -9,6 +9,11 @@
    bits 47 to 0 its place (accepted: the number of slots, base + added). The words keep their values. */
 uint64_t vm_read(const uint32_t *list, size_t len);
 
+/* Evaluates a call list of n words, which may hold anything, under m numbers: the bits of its declared names, in the order of their
+   declarations. The number of every term goes into values, which has room for v. Bits 63 to 48 of the answer are the number of the
+   first fault (0: none), bits 47 to 0 its place, or the number of assertions that are false. On a fault values keeps its numbers. */
+uint64_t vm_evaluate(const uint32_t *calls, size_t n, const uint64_t *bits, size_t m, uint64_t *values, size_t v);
+
 /* Writes the script of a call list of n words and its r recorded marks into a text of t bytes. Bits 63 to 48 of the answer are the number
    of the first fault (0: none), bits 47 to 0 its place, or the number of bytes written. On a fault the text keeps its bytes. */
 uint64_t vm_script(const uint32_t *calls, size_t n, const uint8_t *recorded, size_t r, uint8_t *text, size_t t);

@@ -1,11 +1,13 @@
 #!/usr/bin/env python3
-"""Writes crates/read_calls/stdin and stdout: call lists, and what document 01's sentence "A call list is malformed at .." says of each.
+"""Writes crates/read_calls/stdin and stdout: call lists with bits and room for values, what document 01's sentence "A call list is
+malformed at .." says of each list, and what its evaluation gives.
 
     tests/call_lists.py [--check]
 
-The sentence is written anew here, not taken from the code. After the lists made below come the call lists of the Rust
-that oracle/sample/calls.txt holds, all of them well formed."""
+The sentence and SMT-LIB's operations are written anew here, not taken from the code. After the lists made below come the call
+lists of the Rust that oracle/sample/calls.txt holds, all of them well formed."""
 import pathlib
+import random
 import struct
 import sys
 
@@ -178,16 +180,145 @@ def of_sample():
         yield words[3 + words[0] : 3 + words[0] + words[1]]
 
 
+def signed(x, w): return x - (1 << w) if x >> (w - 1) else x
+
+
+def binary(op, x, y, w):
+    """bvand bvor bvxor bvadd bvcomp bvult bvslt bvshl bvlshr bvashr bvmul, by their numbers."""
+    return {
+        10: lambda: x & y, 11: lambda: x | y, 12: lambda: x ^ y, 13: lambda: x + y, 14: lambda: int(x == y),
+        15: lambda: int(x < y), 16: lambda: int(signed(x, w) < signed(y, w)), 17: lambda: x << y if y < w else 0,
+        18: lambda: x >> y if y < w else 0, 19: lambda: signed(x, w) >> min(y, w - 1), 20: lambda: x * y,
+    }[op]() % (1 << w)
+
+
+def records(w):
+    at = 0
+    while at < len(w):
+        op, n = pay(w[at]) % 32, pay(w[at]) // 32
+        yield op, [pay(x) for x in w[at + 1 : at + 1 + n]]
+        at += 1 + n
+
+
+def value(op, a, values, sorts):
+    """The number and the sort of the term that an operation makes of its arguments' payloads."""
+    v = lambda i: values[a[i]]
+    s = lambda i: sorts[a[i]]
+    if op == 0:
+        return a[0], 0
+    if op in (1, 6):
+        return (v(1) if v(0) else v(2)), s(1)
+    if op == 2:
+        return 1 - v(0), 0
+    if op == 3:
+        return int(all(values[k] for k in a)), 0
+    if op == 4:
+        return sum(d << (16 * i) for i, d in enumerate(a[1:])), a[0]
+    if op == 5:
+        return int(v(0) == v(1)), 0
+    if op == 7:
+        return (v(0) << s(1)) + v(1), s(0) + s(1)
+    if op == 8:
+        return (v(2) >> a[1]) % (1 << (a[0] - a[1] + 1)), a[0] - a[1] + 1
+    if op == 9:
+        return (1 << s(0)) - 1 - v(0), s(0)
+    return binary(op, v(0), v(1), s(0)), {14: 1, 15: 0, 16: 0}.get(op, s(0))
+
+
+def evaluation(w, bits, room):
+    """The evaluator's answer, and the values after, which were all 7777."""
+    kept = [7777] * room
+    place = verdict(w)
+    if place.startswith("malformed"):
+        return f"refused 19 at {place.split()[-1]}", kept
+    terms, given = 0, list(bits)
+    for op, a in records(w):
+        if op == 21 and (not given or given.pop(0) >> a[3]):
+            return f"refused 20 at {terms}", kept
+        terms += op not in (22, 23)
+    if room < terms:
+        return f"refused 20 at {room}", kept
+    values, sorts, given, false = [], [], list(bits), 0
+    for op, a in records(w):
+        if op == 22:
+            false += values[a[0]] == 0
+        elif op != 23:
+            number, sort = (given.pop(0), a[3]) if op == 21 else value(op, a, values, sorts)
+            values.append(number)
+            sorts.append(sort)
+    return f"evaluated {false}", values + kept[terms:]
+
+
+def line(w, bits, room):
+    answer, values = evaluation(w, bits, room)
+    if len(values) <= 64:
+        return f"{verdict(w)}; {answer};" + "".join(f" {v}" for v in values) + "\n"
+    digest = 0
+    for v in values:
+        digest = (3 * digest + v) % (1 << 64)
+    return f"{verdict(w)}; {answer}; digest {digest}\n"
+
+
+def operations_at(width, x, y):
+    """Every operation on two vectors of a width, with a literal of it; joined with what makes 64, if anything is left."""
+    low, high, left = 0, width - 1, 64 - width
+    digits = [(x >> (16 * i)) % 65536 for i in range((width + 15) // 16)]
+    w = declare(0, 0, 1, width) + declare(0, 0, 2, width) + [head(4, 1 + len(digits)), num(width)] + [num(d) for d in digits]
+    w += [head(5, 2), term(0), term(1)] + [head(6, 3), term(3), term(0), term(1)] + [head(9, 1), term(0)]
+    for op in range(10, 21):
+        w += [head(op, 2), term(0), term(1)]
+    for i, j in ((high, low), (high, high), (low, low), (high // 2, low), (high, high // 2)):
+        w += [head(8, 3), num(i), num(j), term(0)]
+    if left:
+        w += declare(1, 3, 0, left) + [head(7, 2), term(0), term(22)] + [head(7, 2), term(22), term(1)]
+    return w, [x, y] + [(1 << left) - 2] * (left > 1) + [1] * (left == 1)
+
+
+def evaluated_here():
+    out = []
+    for width in (1, 17, 63, 64):
+        ones, top = (1 << width) - 1, 1 << (width - 1)
+        amounts = {0, 1, width - 1, width, width + 1, ones}
+        pairs = [(ones, 1 & ones), (top, ones), (ones, top), (0, 0), (0x9E3779B97F4A7C15 & ones, 0xD1B54A32D192ED03 & ones)]
+        for x, y in pairs + [(top + 1 & ones, y & ones) for y in sorted(amounts)]:
+            w, bits = operations_at(width, x, y)
+            out.append((w, bits, 26))
+    false, true, byte = [head(0, 1), num(0)], [head(0, 1), num(1)], declare(2, 9, 0, 8)
+    says = lambda k: [head(22, 1), term(k)]
+    p = false + true + [head(2, 1), term(0)] + [head(1, 3), term(1), term(0), term(2)]
+    # Bools; assertions, false ones among them
+    out += [(p + [head(3, n)] + [term(k) for k in ks], [], 6) for n, ks in ((1, [0]), (1, [1]), (2, [1, 2]), (3, [1, 2, 3]), (2, [0, 1]))]
+    for asked in ([], [0], [1], [0, 1], [1, 0], [0, 0, 1], [3, 2, 1, 0], [1] * 5 + [0]):
+        out.append((p + sum((says(k) for k in asked), []) + [head(23, 0)], [], 4))
+    out.append((says(0), [], 4)); out.append((true + says(0), [], 1))
+    # fault 20: bits missing or above the width, at the declaration's term; then the room; 19 goes before
+    two = true + byte + false + declare(2, 10, 0, 64)
+    out += [(two, bits, room) for bits in ([], [255], [256, 0], [255, 2**64 - 1], [255, 1, 2], [2**64 - 1]) for room in (0, 3, 4, 6)]
+    out += [(declare(0, 0, 0, w), [bits], 1) for w in (1, 17, 63, 64) for bits in (2**w - 1, min(2**w, 2**64 - 1), 2**64 - 1)]
+    out += [(two + [head(2, 1), term(1)], [], 2), ([], [], 0), ([], [1], 2)]
+    return out
+
+
+def cases():
+    chance = random.Random(1)
+    for w in made_here():
+        widths = [a[3] for op, a in records(w) if op == 21] if verdict(w).startswith("well") else []
+        yield w, [5 % (1 << n) for n in widths], 3
+        yield w, [chance.getrandbits(n) for n in widths], 9
+    yield from evaluated_here()
+    for w in of_sample():
+        assert verdict(w).startswith("well formed")
+        yield w, [chance.getrandbits(a[3]) for op, a in records(w) if op == 21], int(verdict(w).split()[2]) + 2
+
+
 def main():
-    sample = list(of_sample())
-    lists = made_here() + sample
-    answers = [verdict(w) for w in lists]
-    assert all(a.startswith("well formed") for a in answers[-len(sample) :])
-    made = {
-        "stdin": b"".join(struct.pack(f"<{1 + len(w)}I", len(w), *w) for w in lists),
-        "stdout": "".join(a + "\n" for a in answers).encode(),
-    }
-    for name, text in made.items():
+    stdin = stdout = b""
+    for w, bits, room in cases():
+        halves = [h for b in bits for h in (b & 0xFFFFFFFF, b >> 32)]
+        row = [len(w), *w, len(bits), *halves, room]
+        stdin += struct.pack(f"<{len(row)}I", *row)
+        stdout += line(w, bits, room).encode()
+    for name, text in (("stdin", stdin), ("stdout", stdout)):
         path = ROOT / "crates/read_calls" / name
         if "--check" in sys.argv:
             assert path.read_bytes() == text, f"{path} is not current"

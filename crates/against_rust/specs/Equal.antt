@@ -1,8 +1,7 @@
 -- The model of the order of work makes the Rust's calls, call for call, and its marks, on every list of the stored sample: computed by
 -- the prover, from the words of the list to the words of the calls.
 use mathlib.Core.Path.{_≡_, refl}
-use mathlib.Core.List.{List, map}
-use Prim.Native.Nat.{ℕ}
+use mathlib.Core.List.{map}
 use Rattle.logic.specs.Table as table
 use Rattle.bitvec.specs.Bits as bits
 use Rattle.fields.specs.Field as field

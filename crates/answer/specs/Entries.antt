@@ -1,23 +1,21 @@
 -- The entries read slot by slot are the table of the bits that the grammar reads for the names asked.
-use mathlib.Core.Path.{_≡_, refl, sym, ap, _∙_}
-use mathlib.Core.Bool.{Bool, true, false, cond, _||_}
-use mathlib.Core.List.{List, [], _∷_, _++_}
-use Prim.Native.Nat.{ℕ, zero, suc, _+_, _-_, _<_, _≤_}
+use mathlib.Core.Path.{_≡_, refl}
+use mathlib.Core.Bool.{Bool, true, false}
+use mathlib.Core.List.{List, [], _∷_}
+use Prim.Native.Nat.{ℕ, suc, _+_, _-_, _<_, _≤_}
 use native.Mathlib.Numerals.{add-one}
 use native.Mathlib.Omega.{arith}
-use lib.Dec.{eqb, ltb}
+use lib.Dec.{eqb}
 use lib.ListN.{length, drop, getD, set, drop-of-length-le}
 use lib.Seq.{drop-cons}
 use Rattle.logic.specs.Trit.{shows, readbackNumber}
-use Rattle.logic.specs.declared.Readback.the-variants.{Shown, Absent}
+use Rattle.logic.specs.declared.Readback.the-variants.{Shown}
 use Rattle.logic.specs.declared.Fault.{Fault}
-use Rattle.engine.specs.Call.{Name}
 use Rattle.text.specs.Write.{overwrite, overwrite-none, overwrite-more}
 use Rattle.text.specs.Names.{spelling, askedFrom, asked}
-use Rattle.answer.specs.declared.Mark.the-variants.{Fine, Bad}
 use Rattle.answer.specs.Token.{Token}
-use Rattle.answer.specs.Reply.{Result, Reader, got, refused, return, onGot, pairs, pairSpelled, shownFirst, table, badMark, expect, ended, model, list}
-use Rattle.answer.specs.Step.{trit, entryOf, entries, written, onEntry}
+use Rattle.answer.specs.Reply.{Result, Reader, got, refused, return, onGot, pairs, pairSpelled, shownFirst, table}
+use Rattle.answer.specs.Step.{trit, entryOf, entries, written}
 
 module _ {A : Type 0} where
   -- Where reading goes on, whatever was read.

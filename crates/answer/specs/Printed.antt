@@ -1,7 +1,7 @@
 -- What a solver prints for a table reads back as that table, whatever y it gives under an X.
-use mathlib.Core.Path.{_≡_, refl, sym, ap, _∙_}
-use mathlib.Core.Bool.{Bool, true, false, cond, _&&_, _||_}
-use mathlib.Core.List.{List, [], _∷_, _++_, append-assoc, append-nil}
+use mathlib.Core.Path.{_≡_, refl, ap, _∙_}
+use mathlib.Core.Bool.{Bool, true, false, cond, _||_}
+use mathlib.Core.List.{List, [], _∷_, _++_, append-assoc}
 use Prim.Native.Nat.{ℕ, zero, suc, _+_, _<_, _≤_, _%_, _/_}
 use native.Mathlib.Nat.{suc-inj}
 use native.Mathlib.Omega.{arith}
@@ -17,7 +17,7 @@ use Rattle.text.specs.Bytes.{ascii, decimal, decimal-digit, decimal-more}
 use Rattle.text.specs.Names.{nameText, letterText, suffixText, asked, askedFrom}
 use Rattle.answer.specs.declared.Answer.the-variants.{Sat}
 use Rattle.answer.specs.declared.Mark.the-variants.{Fine}
-use Rattle.answer.specs.Token.{Token, tokens, tokensOf, run, white, parenthesis}
+use Rattle.answer.specs.Token.{tokens, tokensOf, run, white, parenthesis}
 use Rattle.answer.specs.Reply.{got, same, expect, expectName, value, pairSpelled, pair, pairs, model, ended, reply, sat, satisfied, table, badMark, Read}
 use Rattle.answer.specs.Model.{reply-text, read-as}
 

@@ -1,5 +1,5 @@
 -- The tokens of an answer: ( and ), and the longest runs of other bytes between white space, each with the place of its first byte.
-use mathlib.Core.Bool.{Bool, true, false, cond, _&&_, _||_, not}
+use mathlib.Core.Bool.{Bool, cond, _||_}
 use mathlib.Core.List.{List, [], _∷_}
 use Prim.Native.Nat.{ℕ, zero, suc}
 use lib.Dec.{eqb}

@@ -1,5 +1,5 @@
 -- Document 01, "Words": the bounds of an accepted list, and how many words a cell, a replacement and a design take in it.
-use mathlib.Core.List.{List, [], _∷_}
+use mathlib.Core.List.{List}
 use Prim.Native.Nat.{ℕ, _+_, _*_, _^_, _≤_, _<_}
 use lib.ListN.{length}
 use Rattle.logic.specs.declared.Trit.{Trit}

@@ -1,20 +1,20 @@
 -- What the terms of a cell cost: at most 4,800 words of calls for each word of the cell's record.
-use mathlib.Core.Path.{_≡_, refl, sym, ap, _∙_, subst}
+use mathlib.Core.Path.{_≡_, refl, sym, ap, subst}
 use mathlib.Core.Bool.{Bool, true, false, cond}
-use mathlib.Core.List.{List, [], _∷_, _++_, map}
+use mathlib.Core.List.{List, [], _∷_, _++_}
 use Prim.Native.Nat.{ℕ, zero, suc, _+_, _-_, _*_, _/_, _≤_, _<_, _^_, max}
 use native.Mathlib.Omega.{arith}
-use native.Mathlib.Nat.{suc-mul, pow-suc}
+use native.Mathlib.Nat.{pow-suc}
 use lib.Dec.{ltb, eqb}
 use borrow.Author.Tests.{lt-ltb}
-use lib.ListN.{length, getD, replicate, length-map, length-replicate, length-append}
-use Rattle.logic.specs.Table.{tab, length-tab}
+use lib.ListN.{length, getD, replicate, length-replicate, length-append}
+use Rattle.logic.specs.Table.{length-tab}
 use Rattle.logic.specs.Net.{Net, constant, slot}
 use Rattle.logic.specs.declared.Trit.{Trit}
 use Rattle.logic.specs.declared.Trit.the-variants.{Zero, One, Undef}
 use Rattle.engine.specs.Call.{Term, BinaryOp, Compare}
 use Rattle.engine.specs.Call as c
-use Rattle.cell.specs.Cell.{Cell, Control, FlipFlop, Binary, Shift, outputLen}
+use Rattle.cell.specs.Cell.{Control, FlipFlop, Binary, Shift}
 use Rattle.cell.specs.Cell as cells
 use Rattle.bitvec.specs.Laws.{length-nat2bv}
 use Rattle.smt.specs.Prog.{Prog, ret, op, _>>=_, curr, past, TritVec, tv, BitVec, bv, vector, buildExtract, buildBvor, buildConcat, buildBvadd}
@@ -80,7 +80,7 @@ use Rattle.smt.specs.Builder.{
   cell,
   hasClear,
 }
-use Rattle.bound.specs.Costs.{termCost, Costs, CostsOnly, costs-ret, costs-more, costs-seq, costs-weaken, sumBy, sum-each}
+use Rattle.bound.specs.Costs.{termCost, Costs, CostsOnly, costs-ret, costs-more, costs-seq, costs-weaken, sumBy}
 use Rattle.bound.specs.Builder.{
   tvNot-costs,
   tvXor-costs,

@@ -1,17 +1,16 @@
 -- What is known of a record that was read: its operation, its end, and that the cell it stands for has the width that was counted.
-use Prim.Native.Nat.{ℕ, zero, suc, _+_, _-_, _*_, _<_, _≤_, _/_, _%_, _^_}
+use Prim.Native.Nat.{ℕ, zero, suc, _+_, _-_, _*_, _<_, _≤_, _^_}
 use mathlib.Core.Path.{_≡_, refl, sym, ap, _∙_}
 use mathlib.Core.List.{List}
 use mathlib.Core.Bool.{Bool, true, false, cond}
 use native.Mathlib.Omega.{arith}
 use lib.ListN.{getD, length}
-use lib.Dec.{ltb, leb, eqb}
-use borrow.Author.Tests.{ltb-true, ltb-false, leb-true, eqb-true, eqb-false}
-use Rattle.logic.specs.Word.{kindOf, payloadOf}
-use Rattle.logic.specs.Table.{tab, length-tab}
-use Rattle.logic.specs.declared.Fault.{Fault}
-use Rattle.cell.specs.Cell.{Cell, outputLen, standing}
-use Rattle.cell.specs.Operation.{operationOf, numbersOf, fieldsOf, standingOf}
+use lib.Dec.{ltb, eqb}
+use borrow.Author.Tests.{ltb-false, eqb-true, eqb-false}
+use Rattle.logic.specs.Word.{kindOf}
+use Rattle.logic.specs.Table.{length-tab}
+use Rattle.cell.specs.Cell.{outputLen, standing}
+use Rattle.cell.specs.Operation.{numbersOf, fieldsOf, standingOf}
 use Rattle.cell.specs.declared.Operation.{Operation}
 use Rattle.cell.specs.declared.Operation.the-variants.{Void, Buf, Not, And, Or, Xor, Mux, Adc, Aig, Eq, ULt, SLt, Shl, UShr, SShr, XShr, Mul, Match, Assign, Dff, IoBuf, Input, Note}
 use Rattle.cell.specs.declared.Numbers.{Numbers}
@@ -22,7 +21,7 @@ use Rattle.fields.specs.declared.Scan.{Scan}
 use Rattle.fields.specs.declared.Scan.the-variants as S
 use Rattle.fields.specs.declared.Head.{Head}
 use Rattle.fields.specs.declared.Head.the-variants as H
-use Rattle.fields.specs.Field.{fault, onClean, numberAt, netsAt, constantsAt}
+use Rattle.fields.specs.Field.{fault, numberAt, netsAt, constantsAt}
 use Rattle.fields.specs.Pattern.{patternsAt}
 use Rattle.fields.specs.Head.{headAt}
 use Rattle.fields.specs.Accepted.{IsNumber, number-read, IsHead, head-read, ends-read, both-read}

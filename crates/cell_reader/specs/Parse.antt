@@ -1,7 +1,6 @@
 -- Document 01, "Words", "Operations and bodies": the cell that the words of a record without a fault stand for.
 use Prim.Native.Nat.{ℕ, zero, suc, _+_, _*_, _/_, _%_}
 use mathlib.Core.List.{List, [], _∷_}
-use mathlib.Core.Bool.{Bool}
 use lib.ListN.{getD}
 use lib.Dec.{eqb}
 use Rattle.logic.specs.Word.{kindOf, payloadOf}

@@ -1,9 +1,8 @@
 -- Document 01, "Words" and "Faults and what stays": a record of the design list, field by field, up to its first fault.
 use Prim.Native.Nat.{ℕ, _+_, _-_, _^_}
 use mathlib.Core.List.{List}
-use mathlib.Core.Bool.{Bool, cond}
+use mathlib.Core.Bool.{cond}
 use lib.Dec.{ltb, eqb}
-use Rattle.logic.specs.declared.Fault.{Fault}
 use Rattle.cell.specs.Operation.{numbersOf, fieldsOf}
 use Rattle.cell.specs.declared.Operation.{Operation}
 use Rattle.cell.specs.declared.Numbers.{Numbers}

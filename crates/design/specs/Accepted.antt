@@ -1,5 +1,5 @@
 -- What is known of the design of an accepted list: its layout, its bounds, and its size.
-use Prim.Native.Nat.{ℕ, _≤_}
+use Prim.Native.Nat.{_≤_}
 use Rattle.cell.specs.Design.{Design, total}
 use Rattle.working_out.specs.Laid.{Laid}
 use Rattle.bound.specs.Bounded.{Bounds, designWords}

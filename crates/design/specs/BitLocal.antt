@@ -1,11 +1,10 @@
 -- The bits of a cell's terms depend on the bits of past nets and of the cell's current reads alone.
-use mathlib.Core.Path.{_≡_, refl, sym, ap, ap₂, _∙_}
+use mathlib.Core.Path.{_≡_, refl, ap₂}
 use mathlib.Core.Bool.{Bool, true, false, cond}
 use mathlib.Core.List.{List, [], _∷_, _++_, map}
-use mathlib.Core.List.{List·Memᴰ, List·Memᴰ·head, List·Memᴰ·tail, Memᴰ·append-left, Memᴰ·append-right}
+use mathlib.Core.List.{List·Memᴰ, List·Memᴰ·head, Memᴰ·append-left, Memᴰ·append-right}
 use Prim.Native.Nat.{ℕ, zero, suc, _+_, _-_}
 use lib.ListN.{length, getD, take, drop, replicate}
-use Rattle.logic.specs.Table.{tab}
 use Rattle.logic.specs.Net.{Net, constant, slot}
 use Rattle.logic.specs.declared.Trit.{Trit}
 use Rattle.logic.specs.declared.Trit.the-variants.{Zero, One, Undef}
@@ -17,7 +16,7 @@ use Rattle.rules.specs.Reads.{currentNet, currentNets, clockNow, compared, comp
 use Rattle.working_out.specs.Reading.{Each}
 use Rattle.smt.specs.Prog.{Age, curr, past, Half, isUndef, isOne}
 use Rattle.smt.specs.Builder.{outputNets, zext, extended, shiftWidth, overwritten, hasClear}
-use Rattle.smt.specs.Formula.{TritBits, tb, NetBits, bitOf, readBits, litBits, concatBits}
+use Rattle.smt.specs.Formula.{TritBits, tb, NetBits, bitOf, readBits, litBits}
 use Rattle.smt.specs.CellBits.{
   ageOf,
   valueBits,

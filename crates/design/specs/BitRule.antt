@@ -1,26 +1,25 @@
 -- The bits of the nets from the bits of the sources: the rules of the cells on pairs of bits, which working out solves as it does
 -- those on trits.
 use mathlib.Core.Path.{_≡_, refl, sym, ap, ap₂, _∙_}
-use mathlib.Core.Bool.{Bool, true, false, not, cond, false≢true}
-use mathlib.Core.List.{List, [], _∷_, map, List·Memᴰ}
-use Prim.Native.Nat.{ℕ, zero, suc, _+_, _<_}
+use mathlib.Core.Bool.{Bool, true, false, not, false≢true}
+use mathlib.Core.List.{List, _∷_, map}
+use Prim.Native.Nat.{ℕ, suc, _+_, _<_}
 use native.Mathlib.Omega.{arith}
 use lib.Dec.{eqb}
 use borrow.Author.Tests.{eqb-false}
 use lib.ListN.{length}
-use Rattle.logic.specs.Table.{tab, zipWith, map-tab}
-use Rattle.logic.specs.Net.{Net, slot}
+use Rattle.logic.specs.Table.{zipWith, map-tab}
+use Rattle.logic.specs.Net.{slot}
 use Rattle.logic.specs.declared.Trit.{Trit}
 use Rattle.bitvec.specs.Bits.{Bits}
 use Rattle.cell.specs.Cell.{Cell, outputLen}
 use Rattle.cell.specs.Cell as c
 use Rattle.cell.specs.Design.{Design}
-use Rattle.rules.specs.Shape.{Shaped}
 use Rattle.rules.specs.CellRule.{outputs}
 use Rattle.rules.specs.Reads.{currentReads}
 use Rattle.working_out.specs.Reading.{readsPast, asserted}
 use Rattle.working_out.specs.Equations.{Rule, Wide, CellLocal}
-use Rattle.smt.specs.Prog.{Age, curr, past, Half, isUndef, isOne}
+use Rattle.smt.specs.Prog.{curr, past, Half, isUndef, isOne}
 use Rattle.smt.specs.Builder.{outputNets}
 use Rattle.smt.specs.Formula.{TritBits, tb, NetBits, bitOf, readBits}
 use Rattle.smt.specs.Shows.{Shown, empty, lane}

@@ -1,9 +1,9 @@
 -- An accepted list makes at most 8,192 call words for each of its own words.
-use mathlib.Core.Path.{_≡_, refl, sym, ap, ap₂, _∙_, subst}
+use mathlib.Core.Path.{_≡_, refl, sym, ap, subst}
 use mathlib.Core.Bool.{Bool, true, false, cond}
 use mathlib.Core.Option.{Option, none, some}
 use mathlib.Core.List.{List, [], _∷_, _++_, map}
-use Prim.Native.Nat.{ℕ, zero, suc, _+_, _-_, _*_, _≤_, _<_}
+use Prim.Native.Nat.{ℕ, suc, _+_, _-_, _*_, _≤_}
 use native.Mathlib.Omega.{arith}
 use lib.Dec.{eqb}
 use lib.ListN.{length, length-map, length-append}
@@ -19,8 +19,8 @@ use Rattle.engine.specs.Meaning.{terms}
 use Rattle.engine.specs.Encode.{encode}
 use Rattle.working_out.specs.Reading.{Each, cellOf, readsPast, Pair, equal, ofVoid, ofDffs, ordinary, pairOf}
 use Rattle.working_out.specs.Laid.{Laid, CellLaid}
-use Rattle.smt.specs.Prog.{Prog, TritVec, curr, past}
-use Rattle.smt.specs.Builder.{cell, currNet, pastNet, currValue, outputNets, net, tvEq, tvRefines}
+use Rattle.smt.specs.Prog.{Prog, curr, past}
+use Rattle.smt.specs.Builder.{cell, currValue, outputNets}
 use Rattle.smt.specs.Emit.{St, emit}
 use Rattle.bound.specs.Costs.{CostsOnly, costs-more, sumBy, encode-append, emit-words}
 use Rattle.bound.specs.Builder.{tvEq-costs, tvRefines-costs, netOf-costs, net-costs}
@@ -51,11 +51,11 @@ use Rattle.design.specs.Verify.{
   start,
   verify,
 }
-use Rattle.design.specs.Found.{placed, found, own-cells, New, new-found}
+use Rattle.design.specs.Found.{found, own-cells, new-found}
 use Rattle.design.specs.Replacements.{foundAt, inCells, wide, design-in-order}
 use Rattle.design.specs.StepsSafe.{output-narrow}
 use Rattle.design.specs.Exists.{but, asked}
-use Rattle.design.specs.Meant.{steps-are, stepsOf, meantSteps}
+use Rattle.design.specs.Meant.{steps-are}
 use Rattle.design.specs.Theorem.{verify-is}
 use Rattle.design.specs.Requirement3.{queryCalls}
 

@@ -1,29 +1,28 @@
 -- For given trits, alike on joined flip-flops, an assignment that shows them and satisfies every assertion but the query; and the
 -- calls but the query are well sorted.
-use mathlib.Core.Path.{_≡_, refl, sym, ap, ap₂, _∙_, subst, fun-ext}
-use mathlib.Core.Bool.{Bool, true, false}
-use mathlib.Core.List.{List, [], _∷_, _++_, map, append-nil}
-use Prim.Native.Nat.{ℕ, zero, suc, _+_, _*_, _≤_, _<_}
+use mathlib.Core.Path.{_≡_, refl, sym, ap, subst, fun-ext}
+use mathlib.Core.Bool.{false}
+use mathlib.Core.List.{List, [], _∷_, _++_, append-nil}
+use Prim.Native.Nat.{ℕ, zero, suc, _+_, _*_, _<_}
 use native.Mathlib.Omega.{arith}
-use lib.ListN.{length, getD, replicate}
+use lib.ListN.{getD, replicate}
 use Rattle.cell.specs.Design.{Design, total}
 use Rattle.rules.specs.CellRule.{Trits}
-use Rattle.engine.specs.Call.{Name, Call}
+use Rattle.engine.specs.Call.{Call}
 use Rattle.engine.specs.Call as c
-use Rattle.engine.specs.Meaning.{Value, bool, bits, Assignment, valueAt, run, Fits, Asserted, Holds, Earlier, Sat, All, terms}
+use Rattle.engine.specs.Meaning.{Value, bool, bits, Assignment, valueAt, run, Fits, Earlier, Sat, All, terms}
 use Rattle.engine.specs.Laws.{All-map, holds-sat}
-use Rattle.working_out.specs.Reading.{Each, source, Alike}
+use Rattle.working_out.specs.Reading.{Each, Alike}
 use Rattle.working_out.specs.Laid.{Laid}
 use Rattle.working_out.specs.Loop.{hasLoop}
-use Rattle.smt.specs.Prog.{Age, curr, past, Half, isUndef, isOne, buildAnd, buildNot}
-use Rattle.smt.specs.Emit.{St, emit, place, netName}
+use Rattle.smt.specs.Prog.{Age, curr, past}
+use Rattle.smt.specs.Emit.{place}
 use Rattle.smt.specs.Formula.{NetBits, netBits}
-use Rattle.smt.specs.CellShows.{tritsOf}
 use Rattle.soundness.specs.Safe.{Truth}
-use Rattle.soundness.specs.Solve.{Extends, extends-refl, Temp, noTemp, Ran, assigned, assigned-net, WellSorted, sorted-earlier, Here, v, ρ, σ}
-use Rattle.design.specs.Verify.{start, steps, work}
+use Rattle.soundness.specs.Solve.{extends-refl, Temp, noTemp, Ran, assigned, assigned-net, WellSorted, sorted-earlier, Here, v, ρ, σ}
+use Rattle.design.specs.Verify.{start, work}
 use Rattle.design.specs.Numbered.{work-next}
-use Rattle.design.specs.Meant.{Meant, stepsOf, meantSteps, steps-are, steps-mean}
+use Rattle.design.specs.Meant.{stepsOf, meantSteps, steps-mean}
 use Rattle.design.specs.WorkSound.{SaidOf}
 use Rattle.design.specs.WorkMeets.{execWork, WorkMet, work-meets}
 use Rattle.bound.specs.Bounded.{Bounds}

@@ -1,6 +1,6 @@
 -- An assignment filled up on the names that a list does not declare, so that it shows given trits on every source.
 use mathlib.Core.Path.{_≡_, refl, sym, ap, ap₂, _∙_}
-use mathlib.Core.Logic.{_≢_, ⊎-elim}
+use mathlib.Core.Logic.{⊎-elim}
 use mathlib.Core.Bool.{Bool, true, false}
 use mathlib.Core.List.{List, [], _∷_, List·Memᴰ, List·Memᴰ·head, List·Memᴰ·tail, List·Memᴰ·not-nil, List·Memᴰ·cases-cons}
 use Prim.Native.Nat.{ℕ}
@@ -9,7 +9,6 @@ use native.Mathlib.Decide.{ℕ-discrete}
 use lib.ListN.{getD}
 use Rattle.logic.specs.Trit.{shows, xOf, yOf}
 use Rattle.logic.specs.declared.Trit.{Trit}
-use Rattle.logic.specs.declared.Trit.the-variants.{Zero, One, Undef}
 use Rattle.cell.specs.Design.{Design}
 use Rattle.rules.specs.CellRule.{Trits}
 use Rattle.bitvec.specs.Bits.{Bits}
@@ -17,7 +16,7 @@ use Rattle.engine.specs.Call.{Letter, Suffix, Name, Call}
 use Rattle.engine.specs.Call as c
 use Rattle.engine.specs.Encode.{letterNumber, suffixNumber}
 use Rattle.engine.specs.Meaning.{Assignment}
-use Rattle.smt.specs.Prog.{Age, curr, past, Half, isUndef, isOne}
+use Rattle.smt.specs.Prog.{Age, Half, isUndef, isOne}
 use Rattle.smt.specs.Emit.{netName}
 use Rattle.smt.specs.Formula.{NetBits}
 use Rattle.soundness.specs.Solve.{assigned, assigned-net}

@@ -1,17 +1,16 @@
 -- The cells of an accepted design, and the new cell that is found for one.
-use mathlib.Core.Path.{_≡_, refl, sym, ap, _∙_}
+use mathlib.Core.Path.{_≡_, refl, ap, _∙_}
 use mathlib.Core.Bool.{Bool, true, false, cond}
-use mathlib.Core.Option.{Option, none, some}
+use mathlib.Core.Option.{some}
 use mathlib.Core.List.{List, [], _∷_}
-use Prim.Native.Nat.{ℕ, _+_, _≤_, _<_, max}
+use Prim.Native.Nat.{ℕ}
 use native.Mathlib.Omega.{arith}
 use lib.Dec.{eqb}
 use borrow.Author.Tests.{eqb-true}
-use Rattle.cell.specs.Cell.{Cell, outputLen, slotsOf}
+use Rattle.cell.specs.Cell.{Cell, outputLen}
 use Rattle.cell.specs.Cell as c
 use Rattle.cell.specs.Design.{Design, Placed, total}
-use Rattle.rules.specs.Shape.{Shaped}
-use Rattle.working_out.specs.Reading.{Each, each-map, cellIn, cellOf}
+use Rattle.working_out.specs.Reading.{Each, cellIn, cellOf}
 use Rattle.working_out.specs.Laid.{Laid, CellLaid, MayReplace, Replaces}
 use Rattle.working_out.specs.Layout.{at-each, located}
 use Rattle.smt.specs.CellBits.{NotInput}

@@ -2,29 +2,24 @@
 use mathlib.Core.Path.{_≡_, refl, sym, ap, ap₂, _∙_, subst}
 use mathlib.Core.Bool.{Bool, true, false, not, cond, Bool·not-not}
 use mathlib.Core.Option.{Option, none, some}
-use mathlib.Core.List.{List, [], _∷_, _++_, map, map-append, append-nil}
+use mathlib.Core.List.{List, [], _∷_, _++_, map, map-append}
 use Prim.Native.Nat.{ℕ, _+_, _<_}
-use native.Mathlib.Omega.{arith}
 use lib.Dec.{eqb}
 use borrow.Author.Tests.{eqb-false}
-use lib.ListN.{length}
-use Rattle.logic.specs.Net.{Net}
-use Rattle.logic.specs.declared.Trit.{Trit}
 use Rattle.cell.specs.Cell.{Cell, outputLen}
 use Rattle.cell.specs.Design.{Design, Placed, NetPair}
 use Rattle.rules.specs.Shape.{Shaped}
-use Rattle.rules.specs.CellRule.{Trits, outputs}
+use Rattle.rules.specs.CellRule.{Trits}
 use Rattle.working_out.specs.Reading.{Each, cellOf, readsPast, Pair, equal, ofVoid, ofDffs, ordinary, pairOf}
-use Rattle.working_out.specs.Laid.{Laid, CellLaid}
-use Rattle.working_out.specs.WorkingOut.{tritRule}
-use Rattle.working_out.specs.Obligations.{Obligation, current, asRead, cellObligations, netObligations, ofPair, obligations, fromOf, toOf, allRefine, broken}
+use Rattle.working_out.specs.Laid.{Laid}
+use Rattle.working_out.specs.Obligations.{Obligation, current, asRead, cellObligations, netObligations, ofPair, obligations, broken}
 use Rattle.working_out.specs.Obligations as o
 use Rattle.smt.specs.Builder.{currValue, outputNets}
-use Rattle.smt.specs.Formula.{TritBits, NetBits, refinesBits}
-use Rattle.smt.specs.CellBits.{NotInput, currBits, netBit, cellBits}
+use Rattle.smt.specs.Formula.{NetBits}
+use Rattle.smt.specs.CellBits.{NotInput}
 use Rattle.smt.specs.CellShows.{tritsOf, value-shows, cell-bits-show}
 use Rattle.design.specs.Verify.{Step, declared, asserted, obliged, claim, addCell, isInput, newCellIn}
-use Rattle.design.specs.Found.{placed, own-cells, may-replace, New, new-found}
+use Rattle.design.specs.Found.{placed, own-cells, may-replace, new-found}
 use Rattle.design.specs.Replacements.{foundAt, inCells, wide, design-in-order}
 use Rattle.design.specs.Meant.{
   Meant,

@@ -7,7 +7,6 @@ use Prim.Native.Nat.{ℕ, _+_, _<_}
 use native.Mathlib.Omega.{arith}
 use lib.Dec.{eqb}
 use borrow.Author.Tests.{eqb-false}
-use lib.ListN.{length}
 use Rattle.logic.specs.Table.{length-tab}
 use Rattle.logic.specs.Net.{Net, slot}
 use Rattle.cell.specs.Cell.{Cell, outputLen}
@@ -17,12 +16,12 @@ use Rattle.rules.specs.Shape.{Shaped}
 use Rattle.engine.specs.Meaning.{Value, bool, Assignment}
 use Rattle.working_out.specs.Laid.{Laid, CellLaid}
 use Rattle.working_out.specs.Reading.{Each, each-append, cellOf, readsPast, Pair, equal, ofVoid, ofDffs, ordinary, pairOf}
-use Rattle.smt.specs.Prog.{Prog, curr, past}
-use Rattle.smt.specs.Builder.{currNet, pastNet, currValue, valueOf, outputNets, net, netOf, cell, tvEq, tvRefines}
-use Rattle.smt.specs.Formula.{NetBits, netBits, readBits, sameBits, refinesBits}
+use Rattle.smt.specs.Prog.{curr, past}
+use Rattle.smt.specs.Builder.{currNet, pastNet, currValue, outputNets, net, cell}
+use Rattle.smt.specs.Formula.{NetBits, netBits, sameBits, refinesBits}
 use Rattle.smt.specs.Wp.{wp, wp-mono, wp-seq}
 use Rattle.smt.specs.Terms.{Is, netOf-wp, valueOf-wp, tvEq-wp, tvRefines-wp}
-use Rattle.smt.specs.CellBits.{NotInput, valueBits, netBit, pastBits, currBits, cellBits, net-wp, cell-wp}
+use Rattle.smt.specs.CellBits.{NotInput, netBit, pastBits, currBits, cellBits, net-wp, cell-wp}
 use Rattle.design.specs.Found.{own-cells, may-replace, new-found}
 use Rattle.design.specs.Verify.{
   Step,

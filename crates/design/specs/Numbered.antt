@@ -1,5 +1,5 @@
 -- The builder's next term number counts the calls that make a term.
-use mathlib.Core.Path.{_≡_, refl, sym, ap, _∙_}
+use mathlib.Core.Path.{_≡_}
 use mathlib.Core.List.{List, [], _∷_, _++_}
 use Prim.Native.Nat.{ℕ, zero, suc, _+_}
 use native.Mathlib.Omega.{arith}
@@ -7,7 +7,7 @@ use lib.ListN.{getD}
 use Rattle.engine.specs.Call.{Call}
 use Rattle.engine.specs.Call as c
 use Rattle.engine.specs.Meaning.{terms}
-use Rattle.smt.specs.Prog.{Prog, ret, op, declare, bind, bind2, Age, Half}
+use Rattle.smt.specs.Prog.{Prog, ret, op, declare, bind, bind2}
 use Rattle.smt.specs.Emit.{St, Out, netName, place, at, learn, reread, after, known, emit}
 use Rattle.design.specs.Verify.{Step, declared, asserted, obliged, work}
 

@@ -1,14 +1,13 @@
 -- What more calls after a list leave as it was: the values of its terms, and with them its assertions; and an assignment counts only
 -- on the names that a list declares.
-use mathlib.Core.Path.{_≡_, refl, sym, ap, ap₂, _∙_}
-use mathlib.Core.Bool.{true}
+use mathlib.Core.Path.{_≡_, refl, sym, ap, _∙_}
 use mathlib.Core.List.{List, [], _∷_, _++_, List·Memᴰ, List·Memᴰ·head, List·Memᴰ·tail}
-use Prim.Native.Nat.{ℕ, suc, _+_, _≤_, _<_}
+use Prim.Native.Nat.{ℕ, suc, _+_, _<_}
 use native.Mathlib.Omega.{arith}
 use lib.ListN.{length}
 use Rattle.engine.specs.Call.{Name, Call}
 use Rattle.engine.specs.Call as c
-use Rattle.engine.specs.Meaning.{Value, bool, bits, Assignment, denote, valueAt, run, Fits, Asserted, Earlier, terms}
+use Rattle.engine.specs.Meaning.{Value, bits, Assignment, valueAt, run, Fits, Asserted, Earlier, terms}
 use Rattle.engine.specs.Laws.{run-keeps, run-append, length-run}
 use Rattle.design.specs.Requirement3.{declaredNames, IsDeclared}
 

@@ -1,18 +1,18 @@
 -- Going through the cells in slot order and taking the new cell of each meets the cell replacements of an accepted list in their
 -- order, each once.
-use mathlib.Core.Path.{_≡_, refl, sym, ap, ap₂, _∙_, subst}
-use mathlib.Core.Bool.{Bool, true, false, cond, true≢false}
+use mathlib.Core.Path.{_≡_, refl, sym, subst}
+use mathlib.Core.Bool.{Bool, true, false, cond}
 use mathlib.Core.Option.{Option, none, some}
-use mathlib.Core.List.{List, [], _∷_, _++_, map}
-use Prim.Native.Nat.{ℕ, _+_, _≤_, _<_, max}
+use mathlib.Core.List.{List, [], _∷_, _++_}
+use Prim.Native.Nat.{ℕ, _+_, _≤_, _<_}
 use native.Mathlib.Omega.{arith}
-use native.Mathlib.Decide.{ℕ-discrete, decLt}
+use native.Mathlib.Decide.{ℕ-discrete}
 use lib.Dec.{eqb, leb, ltb}
 use borrow.Author.Tests.{eq-eqb, ne-eqb, le-leb, lt-ltb, ltb-false}
 use Rattle.cell.specs.Cell.{Cell, outputLen, slotsOf}
 use Rattle.cell.specs.Design.{Design, Placed, total}
-use Rattle.working_out.specs.Reading.{Each, each-map, isIn, cellIn, cellOf}
-use Rattle.working_out.specs.Laid.{Run, Ascending, Laid, Replaces}
+use Rattle.working_out.specs.Reading.{Each, each-map, isIn, cellIn}
+use Rattle.working_out.specs.Laid.{Run, Ascending, Laid}
 use Rattle.design.specs.Verify.{newCellIn}
 use Rattle.design.specs.Found.{placed}
 

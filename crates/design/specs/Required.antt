@@ -13,7 +13,6 @@ use Rattle.design_list.specs.Read.{Read, refused, accepted, read}
 use Rattle.design_list.specs.Accepted.{IsAccepted, accepted-read}
 use Rattle.accepted.specs.Laid.{accepted-laid}
 use Rattle.accepted.specs.Bounds.{accepted-bounds, accepted-words}
-use Rattle.bound.specs.Bounded.{designWords}
 use Rattle.design.specs.Accepted.{Accepted}
 use Rattle.design.specs.Verify.{verify}
 use Rattle.design.specs.Requirement3.{Requirement3}

@@ -2,7 +2,6 @@
 -- current trit for each source slot and a past trit for each slot.
 use mathlib.Core.Path.{_≡_}
 use mathlib.Core.Bool.{Bool, true, false, not}
-use mathlib.Core.Logic.{_⊎_}
 use mathlib.Core.List.{List, [], _∷_, _++_, map, List·Memᴰ}
 use Prim.Native.Nat.{ℕ, suc, _<_}
 use lib.ListN.{length, getD}
@@ -11,9 +10,9 @@ use Rattle.logic.specs.declared.Trit.{Trit}
 use Rattle.cell.specs.Design.{Design, total}
 use Rattle.rules.specs.CellRule.{Trits}
 use Rattle.rules.specs.Refine.{Refines}
-use Rattle.engine.specs.Call.{Name, Term, Call}
+use Rattle.engine.specs.Call.{Name, Call}
 use Rattle.engine.specs.Call as c
-use Rattle.engine.specs.Meaning.{Value, bool, asBool, Assignment, Fits, Asserted, run, valueAt, terms}
+use Rattle.engine.specs.Meaning.{asBool, Assignment, Fits, Asserted, run, valueAt, terms}
 use Rattle.working_out.specs.Reading.{source, Alike}
 use Rattle.working_out.specs.WorkingOut.{workedOut, whole}
 use Rattle.working_out.specs.Obligations.{obligations, broken}

@@ -1,17 +1,17 @@
 -- From bits to trits: nets whose bits pass the asserted tests show trits that solve the design's equations, and the test of an
 -- obligation is false exactly when the obligation is broken.
-use mathlib.Core.Path.{_≡_, refl, sym, ap, ap₂, _∙_}
-use mathlib.Core.Bool.{Bool, true, false, not, cond, _&&_, true≢false, false≢true}
-use mathlib.Core.Option.{Option, none, some}
+use mathlib.Core.Path.{_≡_, refl, sym, ap, _∙_}
+use mathlib.Core.Bool.{Bool, true, false, not, _&&_, false≢true}
+use mathlib.Core.Option.{some}
 use mathlib.Core.List.{List, [], _∷_, _++_, map}
-use Prim.Native.Nat.{ℕ, zero, suc, _+_, _<_}
+use Prim.Native.Nat.{ℕ, _+_}
 use native.Mathlib.Omega.{arith}
 use lib.Dec.{eqb}
 use borrow.Author.Tests.{ne-eqb}
 use lib.ListN.{length}
-use Rattle.logic.specs.Table.{tab, zipWith, map-tab, length-tab}
+use Rattle.logic.specs.Table.{zipWith, map-tab, length-tab}
 use Rattle.logic.specs.Trit.{shows}
-use Rattle.logic.specs.Net.{Net, constant, slot}
+use Rattle.logic.specs.Net.{Net, slot}
 use Rattle.logic.specs.declared.Trit.{Trit}
 use Rattle.bitvec.specs.Bits.{Bits}
 use Rattle.engine.specs.Meaning.{all}
@@ -20,22 +20,22 @@ use Rattle.cell.specs.Cell as c
 use Rattle.cell.specs.Design.{Design, Placed, NetPair}
 use Rattle.rules.specs.Shape.{Shaped}
 use Rattle.rules.specs.Trits.{refines}
-use Rattle.rules.specs.CellRule.{Trits, ofNet, outputs, cellRule, read}
-use Rattle.working_out.specs.Reading.{Each, readsPast, asserted, Pair, equal, ofVoid, ofDffs, ordinary, pairOf}
+use Rattle.rules.specs.CellRule.{Trits, ofNet, outputs}
+use Rattle.working_out.specs.Reading.{Each, readsPast, asserted, ofVoid, pairOf}
 use Rattle.working_out.specs.Laid.{CellLaid}
 use Rattle.working_out.specs.Loop.{bufOf}
-use Rattle.working_out.specs.Equations.{CellShown, VoidShown, Solution}
+use Rattle.working_out.specs.Equations.{CellShown, VoidShown}
 use Rattle.working_out.specs.WorkingOut.{tritRule, Solves}
 use Rattle.working_out.specs.Obligations.{allRefine}
-use Rattle.smt.specs.Prog.{curr, past, isUndef, isOne}
+use Rattle.smt.specs.Prog.{curr}
 use Rattle.smt.specs.Builder.{outputNets}
-use Rattle.smt.specs.Formula.{TritBits, tb, NetBits, readBits, sameBits, refinesBits}
+use Rattle.smt.specs.Formula.{TritBits, tb, NetBits, refinesBits}
 use Rattle.smt.specs.Refines.{same-bits, refines-shows}
 use Rattle.smt.specs.Shows.{Shown, Shows, empty, lane, shown-is}
-use Rattle.smt.specs.CellBits.{currBits, valueBits, netBit, cellBits}
+use Rattle.smt.specs.CellBits.{currBits, netBit, cellBits}
 use Rattle.smt.specs.CellShows.{tritsOf, read-shows, value-shows, cell-bits-show}
 use Rattle.design.specs.BitRule.{asserted-not-input, asserted-some}
-use Rattle.design.specs.Verify.{Step, isInput, newCellIn}
+use Rattle.design.specs.Verify.{isInput, newCellIn}
 use Rattle.design.specs.Meant.{Meant, meantAdd, meantNew, meantCell, meantCells, meantPair, meantPairs, meantSteps, claimTest, voidTest}
 use Rattle.design.specs.WorkSound.{SaidOf}
 

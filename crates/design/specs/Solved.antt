@@ -1,25 +1,23 @@
 -- For given trits, alike on joined flip-flops, bits of the nets that show them on the sources and pass every asserted test: hidden
 -- bits 0 on the sources, and the rest worked out.
 use mathlib.Core.Path.{_≡_, refl, sym, ap, ap₂, _∙_}
-use mathlib.Core.Bool.{Bool, true, false, not, cond, _&&_, true≢false, false≢true}
+use mathlib.Core.Bool.{Bool, true, false, not, cond, _&&_, true≢false}
 use mathlib.Core.Option.{Option, none, some}
-use mathlib.Core.List.{List, [], _∷_, _++_, map}
-use Prim.Native.Nat.{ℕ, _+_, _<_, _≤_, max}
+use mathlib.Core.List.{List, [], _∷_, map}
+use Prim.Native.Nat.{ℕ, _+_, _<_, _≤_}
 use native.Mathlib.Omega.{arith}
 use lib.Dec.{eqb, ltb}
 use borrow.Author.Tests.{eqb-false, ne-eqb}
 use lib.ListN.{length}
-use Rattle.logic.specs.Table.{tab, map-tab, tab-ext}
+use Rattle.logic.specs.Table.{map-tab, tab-ext}
 use Rattle.logic.specs.Trit.{shows, xOf, yOf}
 use Rattle.logic.specs.Net.{Net, constant, slot}
 use Rattle.logic.specs.declared.Trit.{Trit}
 use Rattle.logic.specs.declared.Trit.the-variants.{Zero, One, Undef}
-use Rattle.bitvec.specs.Bits.{Bits}
 use Rattle.cell.specs.Cell.{Cell, outputLen, slotsOf}
 use Rattle.cell.specs.Cell as c
 use Rattle.cell.specs.Design.{Design, Placed, NetPair, total}
-use Rattle.rules.specs.Shape.{Shaped}
-use Rattle.rules.specs.CellRule.{Trits, ofNet, outputs}
+use Rattle.rules.specs.CellRule.{Trits, ofNet}
 use Rattle.working_out.specs.Reading.{
   Each,
   each-map,
@@ -42,15 +40,15 @@ use Rattle.working_out.specs.Reading.{
 use Rattle.working_out.specs.Reading as reading
 use Rattle.working_out.specs.Laid.{Laid, CellLaid}
 use Rattle.working_out.specs.Layout.{at-each, located}
-use Rattle.working_out.specs.Loop.{hasLoop, bufOf}
+use Rattle.working_out.specs.Loop.{hasLoop}
 use Rattle.working_out.specs.Equations.{CellShown, VoidShown, Solution, workedOutBy}
 use Rattle.working_out.specs.Solutions.{worked-out-by}
-use Rattle.smt.specs.Prog.{Age, curr, past, Half, isUndef, isOne}
+use Rattle.smt.specs.Prog.{curr, Half, isUndef, isOne}
 use Rattle.smt.specs.Builder.{currValue, outputNets}
 use Rattle.smt.specs.Formula.{TritBits, tb, NetBits, bitOf, readBits, sameBits}
 use Rattle.smt.specs.Refines.{same-refl}
 use Rattle.smt.specs.CellBits.{ageOf, currBits, pastBits, valueBits, netBit, cellBits}
-use Rattle.smt.specs.CellShows.{tritsOf, cell-bits-show, value-shows}
+use Rattle.smt.specs.CellShows.{tritsOf, cell-bits-show}
 use Rattle.design.specs.BitRule.{
   BitPair,
   pair,
@@ -64,8 +62,7 @@ use Rattle.design.specs.BitRule.{
   asserted-not-input,
   asserted-some,
 }
-use Rattle.design.specs.Verify.{Step, declared, asserted, obliged, isInput, addCell, claim, newCellIn}
-use Rattle.design.specs.Found.{own-cells}
+use Rattle.design.specs.Verify.{declared, asserted, isInput, claim, newCellIn}
 use Rattle.design.specs.Meant.{
   Meant,
   meantAdd,

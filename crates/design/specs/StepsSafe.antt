@@ -3,31 +3,30 @@
 use mathlib.Core.Path.{_≡_, refl, sym, ap, _∙_}
 use mathlib.Core.Bool.{Bool, true, false, cond, true≢false}
 use mathlib.Core.Option.{Option, none, some}
-use mathlib.Core.List.{List, [], _∷_, _++_}
-use Prim.Native.Nat.{ℕ, zero, suc, _+_, _≤_, _<_, max}
+use mathlib.Core.List.{List, [], _∷_}
+use Prim.Native.Nat.{ℕ, _+_, _≤_, _<_}
 use native.Mathlib.Omega.{arith}
 use lib.Dec.{eqb}
 use borrow.Author.Tests.{eqb-false}
-use lib.ListN.{length}
-use Rattle.logic.specs.Table.{tab, length-tab}
+use Rattle.logic.specs.Table.{length-tab}
 use Rattle.logic.specs.Net.{Net, constant, slot}
 use Rattle.cell.specs.Cell.{Cell, outputLen, slotsOf}
 use Rattle.cell.specs.Cell as c
 use Rattle.cell.specs.Design.{Design, Placed, NetPair, total}
 use Rattle.rules.specs.Shape.{Shaped}
 use Rattle.engine.specs.Sorts.{Sort}
-use Rattle.working_out.specs.Reading.{Each, each-map, each-append, cellOf, cellIn, readsPast, Pair, equal, ofVoid, ofDffs, ordinary, pairOf}
+use Rattle.working_out.specs.Reading.{Each, each-map, each-append, cellOf, readsPast, Pair, equal, ofVoid, ofDffs, ordinary, pairOf}
 use Rattle.working_out.specs.Laid as layout
-use Rattle.working_out.specs.Laid.{Laid, CellLaid, Replaces, PairWithin, netsOf}
+use Rattle.working_out.specs.Laid.{Laid, CellLaid, PairWithin, netsOf}
 use Rattle.working_out.specs.Layout.{at-each, located}
 use Rattle.bound.specs.Bounded.{Bounded, Bounds}
-use Rattle.smt.specs.Prog.{Prog, curr, past}
-use Rattle.smt.specs.Builder.{currNet, pastNet, currValue, outputNets, net, netOf, cell, tvEq, tvRefines}
+use Rattle.smt.specs.Prog.{curr, past}
+use Rattle.smt.specs.Builder.{currNet, pastNet, currValue, outputNets, net, cell}
 use Rattle.smt.specs.CellBits.{NotInput}
 use Rattle.soundness.specs.Safe.{safe, safe-mono, safe-seq, Truth, Width, Within, TritsOf, later, netOf-safe, valueOf-safe, tvEq-safe, tvRefines-safe}
 use Rattle.soundness.specs.CellSafe.{net-safe, cell-safe, output-within}
-use Rattle.design.specs.Verify.{Step, declared, asserted, obliged, isInput, claim, addCell, newCell, replaceNet, replaceVoidNet, joinPasts, currents, newCellIn}
-use Rattle.design.specs.Found.{placed, found, own-cells, may-replace, new-found}
+use Rattle.design.specs.Verify.{declared, asserted, isInput, claim, newCell, replaceNet, replaceVoidNet, joinPasts, currents, newCellIn}
+use Rattle.design.specs.Found.{found, own-cells, may-replace, new-found}
 use Rattle.design.specs.Meant.{
   Meant,
   meantAdd,

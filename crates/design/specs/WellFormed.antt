@@ -1,42 +1,41 @@
 -- The calls of an accepted list are well formed: never fault 19. Each argument is an earlier term of its sort, each name is declared
 -- once, every number fits a word, and nothing follows check.
-use mathlib.Core.Path.{_≡_, refl, sym, ap, ap₂, _∙_, subst}
+use mathlib.Core.Path.{_≡_, refl, sym, ap, _∙_, subst}
 use mathlib.Core.Bool.{Bool, true, false, cond}
-use mathlib.Core.List.{List, [], _∷_, _++_, map, append-assoc, append-nil, List·Memᴰ, List·Memᴰ·not-nil}
-use Prim.Native.Nat.{ℕ, zero, suc, _+_, _-_, _*_, _^_, _≤_, _<_}
+use mathlib.Core.List.{List, [], _∷_, _++_, append-assoc, List·Memᴰ, List·Memᴰ·not-nil}
+use Prim.Native.Nat.{ℕ, zero, suc, _+_, _-_, _*_, _≤_, _<_}
 use native.Mathlib.Omega.{arith}
 use lib.Dec.{eqb}
 use lib.ListN.{length, getD, length-append, length-replicate, List·getD-eq-default}
 use Rattle.cell.specs.Cell.{outputLen}
 use Rattle.cell.specs.Design.{Design, Placed, NetPair, total}
-use Rattle.engine.specs.Call.{Name, Call}
+use Rattle.engine.specs.Call.{Call}
 use Rattle.engine.specs.Call as c
-use Rattle.engine.specs.Meaning.{Value, bool, bits, valueAt, terms, All}
-use Rattle.engine.specs.Sorts.{Sort, Context, Formed, payloadLimit, countLimit}
+use Rattle.engine.specs.Meaning.{Value, bool, terms, All}
+use Rattle.engine.specs.Sorts.{Sort, Formed, payloadLimit, countLimit}
 use Rattle.engine.specs.Sorts as sorts
 use Rattle.engine.specs.Encode.{recordOf, encode, decode}
 use Rattle.engine.specs.WellFormed.{outcome, wellFormed}
 use Rattle.engine.specs.Written.{decode-encode}
 use Rattle.engine.specs.Accepted.{encode-formed}
 use Rattle.working_out.specs.Reading.{Each, Pair, equal, ofVoid, ofDffs, ordinary, pairOf}
-use Rattle.working_out.specs.Laid.{Laid}
 use Rattle.working_out.specs.Obligations as obligation
 use Rattle.working_out.specs.Obligations.{obligations, cellObligations, netObligations, ofPair}
 use Rattle.bound.specs.Costs.{sumBy}
-use Rattle.bound.specs.Bounded.{Bounds, recordWords, designWords}
-use Rattle.smt.specs.Prog.{Prog, ret, op, declare, bind, bind2, Age, Half}
+use Rattle.bound.specs.Bounded.{recordWords, designWords}
+use Rattle.smt.specs.Prog.{Prog, ret, op, declare, bind, bind2}
 use Rattle.smt.specs.Emit.{St, Out, emit, place, netName, at, learn, reread, after, known}
 use Rattle.smt.specs.Formula.{NetBits}
 use Rattle.soundness.specs.Safe.{safe, Truth}
-use Rattle.soundness.specs.Solve.{Extends, extends-refl, Temp, noTemp, Ran, exec, WellSorted, Here, v, ρ, σ, sortOfValue, assigned-net}
-use Rattle.soundness.specs.Formed.{NewNames, Sorted, formed, Declared, temps-grow, Then, KnownSorts, emit-new}
+use Rattle.soundness.specs.Solve.{Extends, extends-refl, Temp, noTemp, exec, WellSorted, Here, σ, sortOfValue, assigned-net}
+use Rattle.soundness.specs.Formed.{NewNames, formed, Declared, temps-grow, Then, KnownSorts, emit-new}
 use Rattle.design.specs.Accepted.{Accepted}
 use Rattle.design.specs.Verify.{Step, declared, asserted, obliged, work, start, verify}
-use Rattle.design.specs.Meant.{Meant, meant, stepsOf, meantSteps, steps-are}
-use Rattle.design.specs.Numbered.{terms-append, emit-next, work-next}
+use Rattle.design.specs.Meant.{Meant, stepsOf, meantSteps}
+use Rattle.design.specs.Numbered.{terms-append, work-next}
 use Rattle.design.specs.WorkMeets.{StepSafe, Safe, execWork, WorkMet, work-meets, met-by}
 use Rattle.design.specs.StepsSafe.{steps-safe}
-use Rattle.design.specs.Exists.{but, asked, whole, L, TS, here, met, asked-earlier, zeros-none}
+use Rattle.design.specs.Exists.{but, asked, whole, L, TS, here, met}
 use Rattle.design.specs.Bound.{verify-words}
 use Rattle.design.specs.Theorem.{verify-is, asked-each}
 use Rattle.design.specs.Requirement3.{queryCalls}

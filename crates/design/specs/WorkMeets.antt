@@ -1,19 +1,18 @@
 -- The other way: bits of the nets that pass the asserted tests extend, by the values of the temporaries, to an assignment and a
 -- valuation that meet the calls of the steps; and these calls are well sorted.
-use mathlib.Core.Path.{_≡_, refl, sym, ap, ap₂, _∙_}
-use mathlib.Core.Bool.{Bool, true, false}
-use mathlib.Core.List.{List, [], _∷_, _++_, map, append-assoc}
-use Prim.Native.Nat.{ℕ, _≤_, _<_}
+use mathlib.Core.Path.{ap, _∙_}
+use mathlib.Core.Bool.{Bool, false}
+use mathlib.Core.List.{List, [], _∷_, _++_, append-assoc}
+use Prim.Native.Nat.{ℕ, _≤_}
 use native.Mathlib.Omega.{arith}
-use lib.ListN.{length}
-use Rattle.engine.specs.Call.{Call, assert}
+use Rattle.engine.specs.Call.{Call}
 use Rattle.engine.specs.Meaning.{Value, bool, Assignment, Holds, All}
 use Rattle.engine.specs.Sorts.{Sort}
 use Rattle.working_out.specs.Reading.{Each}
-use Rattle.smt.specs.Prog.{Prog, TritVec}
+use Rattle.smt.specs.Prog.{Prog}
 use Rattle.smt.specs.Emit.{St, emit}
 use Rattle.smt.specs.Formula.{NetBits, netBits}
-use Rattle.smt.specs.Wp.{wp, wp-sound}
+use Rattle.smt.specs.Wp.{wp-sound}
 use Rattle.soundness.specs.Safe.{safe, Truth}
 use Rattle.soundness.specs.Solve.{
   Extends,
@@ -36,8 +35,8 @@ use Rattle.soundness.specs.Solve.{
   σ,
 }
 use Rattle.design.specs.Verify.{Step, declared, asserted, obliged, work}
-use Rattle.design.specs.Meant.{Meant, meant, stepsOf, StepIs, MeantIs}
-use Rattle.design.specs.WorkSound.{Said, SaidOf}
+use Rattle.design.specs.Meant.{Meant, meant, stepsOf, MeantIs}
+use Rattle.design.specs.WorkSound.{SaidOf}
 
 -- A step's calls fit: its term, where it is asserted or kept, is a Bool.
 abbrev pub StepSafe : ℕ → (ℕ → Sort) → ℕ → Step → Type 0

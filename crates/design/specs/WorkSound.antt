@@ -1,7 +1,7 @@
 -- What a valuation that meets the calls of the steps says: every asserted test holds of the nets' bits, and the obligations' terms
 -- have the values of their tests.
-use mathlib.Core.Path.{_≡_, refl, sym, ap, ap₂, _∙_}
-use mathlib.Core.Bool.{Bool, true, false}
+use mathlib.Core.Path.{_≡_, refl, ap, ap₂}
+use mathlib.Core.Bool.{Bool, true}
 use mathlib.Core.List.{List, [], _∷_, _++_, map, append-assoc}
 use Prim.Native.Nat.{ℕ}
 use Rattle.engine.specs.Call.{Call, assert}
@@ -10,7 +10,7 @@ use Rattle.working_out.specs.Reading.{Each}
 use Rattle.smt.specs.Prog.{Prog}
 use Rattle.smt.specs.Emit.{St, emit}
 use Rattle.smt.specs.Formula.{NetBits, netBits}
-use Rattle.smt.specs.Wp.{wp, Known, Sound, wp-sound}
+use Rattle.smt.specs.Wp.{Known, wp-sound}
 use Rattle.design.specs.Verify.{Step, declared, asserted, obliged, work}
 use Rattle.design.specs.Meant.{Meant, meant, stepsOf, Says, StepIs, MeantIs}
 

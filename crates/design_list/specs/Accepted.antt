@@ -1,13 +1,13 @@
 -- What is known of an accepted list: every stage of `read` met no fault, and the design is what the stages read.
-use Prim.Native.Nat.{ℕ, zero, suc, _+_, _-_, _<_, _≤_}
-use mathlib.Core.Path.{_≡_, refl, sym, ap, _∙_}
+use Prim.Native.Nat.{ℕ, _+_, _-_, _≤_}
+use mathlib.Core.Path.{_≡_, refl}
 use mathlib.Core.Bool.{Bool, true, false, cond}
 use mathlib.Core.List.{List}
 use native.Mathlib.Omega.{arith}
 use lib.ListN.{length}
 use lib.Dec.{ltb, eqb}
 use borrow.Author.Tests.{ltb-false, eqb-true}
-use Rattle.cell.specs.Design.{Placed, NetPair, Design, total}
+use Rattle.cell.specs.Design.{Placed, Design, total}
 use Rattle.fields.specs.declared.Scan.{Scan}
 use Rattle.fields.specs.declared.Scan.the-variants as S
 use Rattle.fields.specs.Field.{fault}
@@ -15,7 +15,7 @@ use Rattle.design_list.specs.declared.Header.{Header}
 use Rattle.design_list.specs.declared.Opening.{Opening}
 use Rattle.design_list.specs.declared.Opening.the-variants as O
 use Rattle.design_list.specs.Slots.{heads, isVoid}
-use Rattle.design_list.specs.Items.{Reading, headerAt, cellsOf, cellRepsFrom, netRepsFrom, finishAt}
+use Rattle.design_list.specs.Items.{headerAt, cellsOf, cellRepsFrom, netRepsFrom, finishAt}
 use Rattle.design_list.specs.Voids.{voidsAt}
 use Rattle.design_list.specs.Read.{Read, refused, accepted, onScan, onOpening, readNetReps, readCellReps, readCells, read}
 use Rattle.design_list.specs.Laws.{header-read}

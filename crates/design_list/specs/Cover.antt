@@ -1,24 +1,23 @@
 -- The cells of a list without a fault take the slots from 0 to the total, one after another; so the table of the reader says what stands at each.
-use Prim.Native.Nat.{ℕ, zero, suc, _+_, _-_, _*_, _/_, _%_, _<_, _≤_, max}
-use mathlib.Core.Path.{_≡_, refl, sym, ap, fun-ext, _∙_}
+use Prim.Native.Nat.{ℕ, zero, suc, _+_, _-_, _/_, _%_, _<_, _≤_, max}
+use mathlib.Core.Path.{_≡_, refl, fun-ext, _∙_}
 use mathlib.Core.Bool.{Bool, true, false, cond}
-use mathlib.Core.List.{List, [], _∷_, _++_, map}
+use mathlib.Core.List.{List, [], _∷_, _++_}
 use native.Mathlib.Omega.{arith}
-use native.Mathlib.Nat.{add-zero, zero-add}
+use native.Mathlib.Nat.{add-zero}
 use lib.ListN.{length, getD, take, drop, replicate, length-append, length-replicate, length-map, List·getD-map, List·getD-append}
 use lib.Seq.{sets, sets-eq}
-use lib.Dec.{ltb, leb, eqb}
+use lib.Dec.{ltb, eqb}
 use borrow.Author.Tests.{ltb-true, ltb-false}
 use Rattle.cell.specs.Cell.{Cell, void, note, input, ioBuf, unary, binary, mux, adc, aig, shift, match, assign, dff, outputLen, slotsOf, standing}
 use Rattle.cell.specs.Design.{Placed}
 use Rattle.cell.specs.declared.Operation.{Operation}
-use Rattle.fields.specs.declared.Scan.{Scan}
 use Rattle.fields.specs.declared.Scan.the-variants as S
 use Rattle.cell_reader.specs.Parse.{cellAt}
 use Rattle.design_list.specs.declared.Placing.{Placing}
 use Rattle.design_list.specs.declared.Placing.the-variants as P
 use Rattle.design_list.specs.Slots.{covering, nowhere, takes, heads, isVoid, markOf, marks}
-use Rattle.design_list.specs.Items.{Reading, stop, push, onPlaced, placedAt, cellsFrom, cellsOf}
+use Rattle.design_list.specs.Items.{stop, push, onPlaced, placedAt, cellsFrom, cellsOf}
 use Rattle.design_list.specs.Marks.{headsIn, isVoidIn}
 use Rattle.design_list.specs.Laws.{IsPlaced, placed-read, limit-low}
 

@@ -8,14 +8,13 @@ use native.Mathlib.Omega.{arith}
 use native.Mathlib.Nat.{add-zero, sub-zero}
 use lib.ListN.{length, set, replicate, length-replicate}
 use lib.Seq.{sets, length-sets}
-use lib.Dec.{ltb, leb, eqb}
+use lib.Dec.{ltb, leb}
 use borrow.Author.Tests.{lt-ltb, le-ltb, leb-true}
 use Rattle.logic.specs.declared.Fault.{Fault}
-use Rattle.cell.specs.Cell.{Cell, outputLen, slotsOf, standing}
+use Rattle.cell.specs.Cell.{outputLen, slotsOf}
 use Rattle.cell.specs.Design.{Placed}
 use Rattle.cell.specs.Operation.{standingOf}
 use Rattle.cell.specs.declared.Operation.{Operation}
-use Rattle.fields.specs.declared.Scan.{Scan}
 use Rattle.fields.specs.declared.Scan.the-variants as S
 use Rattle.fields.specs.declared.Number.{Number}
 use Rattle.fields.specs.declared.Number.the-variants as N
@@ -27,15 +26,13 @@ use Rattle.cell_reader.specs.Record.{recordAt}
 use Rattle.cell_reader.specs.Parse.{opAt, cellAt}
 use Rattle.cell_reader.specs.Accepted.{IsRecord, record-read, standing-at}
 use Rattle.design_list.specs.declared.Header.{Header}
-use Rattle.design_list.specs.declared.Opening.{Opening}
 use Rattle.design_list.specs.declared.Opening.the-variants as O
-use Rattle.design_list.specs.declared.Placing.{Placing}
 use Rattle.design_list.specs.declared.Placing.the-variants as P
 use Rattle.design_list.specs.declared.Cells.the-variants as C
 use Rattle.design_list.specs.declared.Step.{Step}
 use Rattle.design_list.specs.declared.Step.the-variants as T
 use Rattle.design_list.specs.Slots.{covering, markOf, markWord, marks}
-use Rattle.design_list.specs.Items.{Reading, stop, push, onHeaderNumber, countsAt, headerAt, limitOf, onRecord, onPlaced, placedAt, cellsFrom, cellsOf, onStep, ascending}
+use Rattle.design_list.specs.Items.{Reading, stop, push, onHeaderNumber, countsAt, headerAt, limitOf, onRecord, placedAt, cellsFrom, cellsOf, ascending}
 use Rattle.design_list.specs.Marks.{counted}
 use Rattle.design_list.specs.Voids.{offends, voidAt}
 

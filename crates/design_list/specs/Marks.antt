@@ -1,7 +1,7 @@
 -- The words of the slots, read back: what `heads` and `isVoid` say of cells, said of the table that the reader keeps.
 use Prim.Native.Nat.{ℕ, _/_, _%_}
 use mathlib.Core.List.{List}
-use mathlib.Core.Bool.{Bool, true, false, cond}
+use mathlib.Core.Bool.{Bool, false, cond}
 use lib.ListN.{getD, length}
 use lib.Dec.{ltb, eqb}
 use Rattle.fields.specs.declared.Scan.{Scan}

@@ -1,10 +1,10 @@
 -- Document 01, "Words": a cell takes max(1, output width) slots, one cell after another. What stands at each slot, and the words that say so.
 use Prim.Native.Nat.{ℕ, _+_, _*_}
 use mathlib.Core.List.{List, [], _∷_, _++_, map}
-use mathlib.Core.Bool.{Bool, true, false, cond}
+use mathlib.Core.Bool.{Bool, false, cond}
 use lib.ListN.{getD, replicate}
-use lib.Dec.{ltb, leb, eqb}
-use Rattle.cell.specs.Cell.{Cell, note, outputLen, slotsOf, standing}
+use lib.Dec.{ltb, eqb}
+use Rattle.cell.specs.Cell.{note, outputLen, slotsOf, standing}
 use Rattle.cell.specs.Design.{Placed}
 
 -- For each slot in order the cell that takes it, with that cell's first slot.

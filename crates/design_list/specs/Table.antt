@@ -1,17 +1,17 @@
 -- What stands at each slot of an accepted list, as words in a lent slice (see `markWord`).
 use Prim.Native.Nat.{ℕ, zero, suc, _+_, _-_, _<_, _≤_}
 use mathlib.Core.Path.{_≡_, refl, sym, ap, _∙_}
-use mathlib.Core.Bool.{Bool, true, false, cond}
+use mathlib.Core.Bool.{cond}
 use mathlib.Core.List.{List, [], _∷_, _++_}
 use native.Mathlib.Omega.{arith}
 use native.Mathlib.Numerals.{add-one}
 use lib.ListN.{length, getD, set, take, drop, length-take, length-map}
-use lib.Seq.{sets, sets-eq, drop-cons, getD-take, take-at, drop-length}
+use lib.Seq.{sets, sets-eq, drop-cons, getD-take, take-at}
 use lib.Dec.{ltb}
 use native.Mathlib.Nat.{zero-add}
 use borrow.Author.Tests.{lt-ltb, le-ltb}
 use Rattle.logic.specs.declared.Fault.{Fault}
-use Rattle.cell.specs.Design.{Placed, Design, total}
+use Rattle.cell.specs.Design.{Design, total}
 use Rattle.fields.specs.declared.Scan.{Scan}
 use Rattle.fields.specs.declared.Scan.the-variants as S
 use Rattle.design_list.specs.declared.Header.{Header}
@@ -26,7 +26,7 @@ use Rattle.design_list.specs.Voids.{voidsAt}
 use Rattle.design_list.specs.Read.{Read, refused, accepted, onScan, readNetReps, readCellReps, readCells, read, answer}
 use Rattle.design_list.specs.Answers.{cellsRead}
 use Rattle.design_list.specs.Cover.{walk-cells, walk-total}
-use Rattle.design_list.specs.Accepted.{IsAccepted, accepted-read}
+use Rattle.design_list.specs.Accepted.{accepted-read}
 
 -- The answer, by the length of the slice: a slice with a word for every slot is filled, a shorter one is too short.
 abbrev pub tableAnswer : DesignRead → ℕ → SlotTable

@@ -2,7 +2,7 @@
 -- "After the last word 10, in list order": a second pass over the cells, the new cells and the tos.
 use Prim.Native.Nat.{ℕ, _+_, _-_, _/_}
 use mathlib.Core.List.{List}
-use mathlib.Core.Bool.{Bool, true, false, cond}
+use mathlib.Core.Bool.{Bool, false, cond}
 use lib.ListN.{getD, length}
 use lib.Dec.{ltb, leb, eqb}
 use Rattle.logic.specs.Word.{kindOf, payloadOf}

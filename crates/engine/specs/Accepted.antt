@@ -1,20 +1,20 @@
 -- A formed call list, written as words, is well formed, and its reading leaves what its calls leave.
-use mathlib.Core.Path.{_≡_, refl, sym, ap, ap₂, _∙_, subst}
-use mathlib.Core.Bool.{Bool, true, false, not, cond, _&&_, _||_}
+use mathlib.Core.Path.{_≡_, refl, sym, ap, _∙_, subst}
+use mathlib.Core.Bool.{Bool, true, false, not, _&&_}
 use mathlib.Core.List.{List, [], _∷_, _++_, map, append-assoc, List·Memᴰ, List·Memᴰ·head, List·Memᴰ·tail}
-use mathlib.Core.Option.{Option, some, none}
+use mathlib.Core.Option.{none}
 use Prim.Native.Nat.{ℕ, zero, suc, _+_, _-_, _*_, _/_, _%_, _^_, _≤_, _<_, min, zero-le, suc-le-suc}
 use native.Mathlib.Nat.{le-of-suc-le-suc, le-refl}
 use native.Mathlib.Omega.{arith}
 use lib.ListN.{length, getD, length-append, length-map}
-use lib.Dec.{eqb, leb, ltb, eqb·suc-zero}
+use lib.Dec.{eqb, leb, eqb·suc-zero}
 use native.Mathlib.Numerals.{sub-one}
 use lib.Pow.{pow-mono, shr-lt}
 use borrow.Author.Tests.{lt-ltb, le-leb, eq-eqb, eqb-true, leb-true, leb-false}
-use Rattle.logic.specs.Word.{kindOf, payloadOf, wordOf, headWord, numberWord, termWord, kind-of-word, payload-of-word}
-use Rattle.bitvec.specs.Bits.{Bits, bit, bv2nat}
+use Rattle.logic.specs.Word.{kindOf, payloadOf, wordOf, numberWord, termWord, kind-of-word, payload-of-word}
+use Rattle.bitvec.specs.Bits.{bit, bv2nat}
 use Rattle.bitvec.specs.Laws.{bv2nat-lt}
-use Rattle.engine.specs.Call.{Letter, Suffix, Name, Term, Call}
+use Rattle.engine.specs.Call.{Letter, Suffix, Name, Call}
 use Rattle.engine.specs.Call as c
 use Rattle.engine.specs.Meaning.{All}
 use Rattle.engine.specs.Sorts.{

@@ -5,10 +5,10 @@ use mathlib.Core.List.{List, [], _∷_, _++_, map}
 use Prim.Native.Nat.{ℕ, zero, suc, _+_, _-_, _*_, _/_, _%_, _^_}
 use lib.ListN.{length, getD}
 use lib.Dec.{eqb, ltb}
-use Rattle.logic.specs.Word.{kindOf, payloadOf, headWord, numberWord, termWord}
+use Rattle.logic.specs.Word.{payloadOf, headWord, numberWord, termWord}
 use Rattle.logic.specs.Table.{tab}
-use Rattle.bitvec.specs.Bits.{Bits, bit, bv2nat, nat2bv}
-use Rattle.engine.specs.Call.{Letter, Suffix, Name, BinaryOp, Compare, Term, Call}
+use Rattle.bitvec.specs.Bits.{bit, bv2nat, nat2bv}
+use Rattle.engine.specs.Call.{Letter, Suffix, BinaryOp, Compare, Term, Call}
 use Rattle.engine.specs.Call as c
 
 -- The operations of the calls.

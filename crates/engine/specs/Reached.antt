@@ -1,32 +1,32 @@
 -- What the scans of a call list find, in a list read well so far: the sort of a term is what its record says, and a name is known
 -- exactly if a record before declares it.
 use mathlib.Core.Path.{_≡_, refl, sym, ap, ap₂, _∙_, subst}
-use mathlib.Core.Bool.{Bool, true, false, not, cond, _&&_, _||_, or-false, or-true}
+use mathlib.Core.Bool.{Bool, true, false, not, _&&_, _||_, or-false, or-true}
 use mathlib.Core.List.{List, [], _∷_, _++_}
-use mathlib.Core.Option.{none}
-use Prim.Native.Nat.{ℕ, zero, suc, _+_, _-_, _*_, _≤_, _<_, min}
+use mathlib.Core.Option.{Option, some, none}
+use Prim.Native.Nat.{ℕ, zero, suc, _+_, _-_, _≤_, _<_}
 use native.Mathlib.Omega.{arith}
 use native.Mathlib.Decide.{ℕ-discrete}
 use native.Mathlib.Numerals.{sub-one}
-use lib.ListN.{length, getD, length-append, List·getD-append}
+use lib.ListN.{length, getD, List·getD-append}
 use lib.Seq.{getD-append-seam}
-use lib.Dec.{eqb, leb, ltb}
+use lib.Dec.{eqb, ltb}
 use borrow.Author.Tests.{lt-ltb, eq-eqb, eqb-true, eqb-false, ltb-true}
 use native.Mathlib.Nat.{le-of-suc-le-suc}
 use Rattle.logic.specs.Table.{tab, length-tab}
 use Rattle.logic.specs.Word.{kindOf, payloadOf, numberWord, kind-of-word, payload-of-word}
 use Rattle.engine.specs.Call.{Name, Term, Call}
 use Rattle.engine.specs.Call as c
-use Rattle.engine.specs.Meaning.{argumentsOf, All}
 use Rattle.engine.specs.Laws.{length-snoc}
 use Rattle.engine.specs.Sorts.{Sort, sortAt, sortOf, WellSorted, Context, start, after, Allowed, payloadLimit}
 use Rattle.engine.specs.SortLaws.{there}
-use Rattle.engine.specs.Encode.{Op, words, makesTerm, operationOf, operationAt, argumentAt, countAt, nextAt, callOf, callAt}
+use Rattle.engine.specs.Encode.{words, makesTerm, operationOf, operationAt, argumentAt, countAt, nextAt, callAt}
 use Rattle.engine.specs.Encode as o
-use Rattle.engine.specs.WellFormed.{isNumber, isNumberOf, headStands, wrongArgument, declares, spells, known}
+use Rattle.engine.specs.WellFormed.{isNumber, isNumberOf, headStands, wrongArgument, declares, spells, known, wellFormed, malformed, readFrom}
+use Rattle.engine.specs.Steps.{read-step, read-head, read-wrong}
 use Rattle.engine.specs.Tests.{both, left-of, right-of, refuted}
 use Rattle.engine.specs.Written.{letter-low, suffix-low}
-use Rattle.engine.specs.ReadBack.{Reads, reads-at, stands}
+use Rattle.engine.specs.ReadBack.{reads-at, stands}
 use Rattle.engine.specs.Structure.{originOf, guarded, sortFrom, capped, termPlace, placeOfTerm, sortThrough, declaresAt, declaredFrom}
 use Rattle.engine.specs.StructureLaws.{Below, sortFrom-ext, place-here, place-next, place-skip, declared-end, declared-here, declared-next}
 use Rattle.engine.specs.declared.Origin.{Origin}
@@ -37,6 +37,21 @@ pub record Right (w : List ℕ) (at : ℕ) (x : Context) : Type 0 where
   pub inside : at < length w
   pub head : headStands x w at ≡ true
   pub arguments : wrongArgument (x .sorts) w at ≡ none
+
+-- Where reading from a place meets no fault, its record is right, and reading the rest meets none.
+pub right-read : (n : ℕ) (w : List ℕ) (at : ℕ) (x y : Context) → at < length w → readFrom (suc n) w at x ≡ wellFormed y
+    → Right w at x × (readFrom n w (nextAt w at) (after x (callAt w at)) ≡ wellFormed y)
+right-read n w at x y inside e = go (headStands x w at) refl (wrongArgument (x .sorts) w at) refl
+  where
+    never : {k : ℕ} → malformed k ≡ wellFormed y → ⊥
+    never f = let z : _≡_ {A = ℕ} 0 1 = cc in omega arith
+
+    go : (h : Bool) → headStands x w at ≡ h → (a : Option ℕ) → wrongArgument (x .sorts) w at ≡ a
+        → Right w at x × (readFrom n w (nextAt w at) (after x (callAt w at)) ≡ wellFormed y)
+    go false p a q = absurd (never (sym (read-head n w at x inside p) ∙ e))
+    go true p (some i) q = absurd (never (sym (read-wrong n w at x i inside p q) ∙ e))
+    go true p none q =
+        (record { inside = inside; head = p; arguments = q }, sym (read-step n w at x inside p q) ∙ e)
 
 -- n records are right, from a place and context to another.
 abbrev pub Passes : ℕ → List ℕ → ℕ → Context → ℕ → Context → Type 0

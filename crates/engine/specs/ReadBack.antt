@@ -1,23 +1,23 @@
 -- A well-formed list of words is the writing of the calls that it reads as, and these are formed.
 use mathlib.Core.Path.{_≡_, refl, sym, ap, ap₂, _∙_, subst}
 use mathlib.Core.Bool.{Bool, true, false, not, cond, _&&_, _||_, false≢true}
-use mathlib.Core.List.{List, [], _∷_, _++_, map, append-assoc, List·Memᴰ, List·Memᴰ·cases-cons, List·Memᴰ·not-nil}
+use mathlib.Core.List.{List, [], _∷_, _++_, List·Memᴰ, List·Memᴰ·cases-cons, List·Memᴰ·not-nil}
 use mathlib.Core.Logic.{⊎-elim}
 use mathlib.Core.Option.{Option, some, none}
 use Prim.Native.Nat.{ℕ, zero, suc, _+_, _-_, _*_, _/_, _%_, _^_, _≤_, _<_, min, zero-le, suc-le-suc}
-use native.Mathlib.Nat.{le-of-suc-le-suc, le-refl, zero-lt-suc, mod-eq-of-lt}
+use native.Mathlib.Nat.{zero-lt-suc, mod-eq-of-lt}
 use native.Mathlib.Omega.{arith}
 use native.Mathlib.Numerals.{add-one, sub-one}
-use lib.ListN.{length, getD, take, drop, length-append, length-map, length-drop, drop-of-length-le}
+use lib.ListN.{length, getD, drop, drop-of-length-le}
 use lib.Seq.{drop-cons}
 use lib.Dec.{eqb, leb, ltb, eqb·suc-zero}
 use lib.Pow.{pow-mono, pow-pos, pow-add}
-use borrow.Author.Tests.{lt-ltb, le-leb, eq-eqb, eqb-true, leb-true, leb-false, ltb-true, ltb-false}
+use borrow.Author.Tests.{eq-eqb, eqb-true, leb-true, leb-false, ltb-true, ltb-false}
 use Rattle.logic.specs.Word.{kindOf, payloadOf, wordOf, headWord, numberWord, termWord, word-of-parts}
 use Rattle.logic.specs.Table.{tab, length-tab, tab-ext, map-tab}
-use Rattle.bitvec.specs.Bits.{Bits, bit, bv2nat, nat2bv}
+use Rattle.bitvec.specs.Bits.{bit, nat2bv}
 use Rattle.bitvec.specs.Laws.{length-nat2bv, bv2nat-nat2bv}
-use Rattle.engine.specs.Call.{Letter, Suffix, Name, BinaryOp, Compare, Term, Call}
+use Rattle.engine.specs.Call.{Name, BinaryOp, Compare, Call}
 use Rattle.engine.specs.Call as c
 use Rattle.engine.specs.Meaning.{All, Earlier}
 use Rattle.engine.specs.SortLaws.{formed-earlier}
@@ -84,8 +84,8 @@ use Rattle.engine.specs.WellFormed.{
   readFrom,
   outcome,
 }
-use Rattle.engine.specs.Tests.{both, left-of, right-of, not-of, refuted}
-use Rattle.engine.specs.Steps.{failing-free, calls-end, calls-step, read-end, read-step, read-head, read-wrong}
+use Rattle.engine.specs.Tests.{both, left-of, right-of, not-of}
+use Rattle.engine.specs.Steps.{failing-free, read-end, read-step, read-head, read-wrong}
 
 -- ---- single words
 

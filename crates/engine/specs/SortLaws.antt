@@ -6,7 +6,7 @@ use mathlib.Core.List.{List, [], _∷_, _++_}
 use Prim.Native.Nat.{ℕ, zero, suc, _+_, _-_, _≤_, _<_, suc-le-suc}
 use native.Mathlib.Omega.{arith}
 use native.Mathlib.Decide.{ℕ-discrete}
-use lib.ListN.{length, getD, length-append, List·getD-append, List·getD-eq-default}
+use lib.ListN.{length, List·getD-append}
 use lib.Seq.{getD-append-seam}
 use Rattle.bitvec.specs.Bits.{Bits}
 use Rattle.bitvec.specs.Laws.{
@@ -23,7 +23,7 @@ use Rattle.bitvec.specs.Laws.{
   length-bvashr,
   length-bvmul,
 }
-use Rattle.engine.specs.Call.{Name, BinaryOp, Term, Call}
+use Rattle.engine.specs.Call.{BinaryOp, Term, Call}
 use Rattle.engine.specs.Call as c
 use Rattle.engine.specs.Meaning.{
   Value,

@@ -2,18 +2,18 @@
 -- records they may still read makes no difference where it is at least the number of words left.
 use mathlib.Core.Path.{_≡_, refl, sym, ap, _∙_}
 use mathlib.Core.Bool.{Bool, true, false, cond}
-use mathlib.Core.List.{List, [], _∷_, _++_}
-use mathlib.Core.Option.{Option, some, none}
+use mathlib.Core.List.{List, [], _∷_}
+use mathlib.Core.Option.{some, none}
 use Prim.Native.Nat.{ℕ, zero, suc, _+_, _-_, _≤_, _<_}
 use native.Mathlib.Omega.{arith}
 use native.Mathlib.Decide.{ℕ-discrete}
 use native.Mathlib.Numerals.{add-one, sub-one}
-use lib.ListN.{length, getD}
+use lib.ListN.{length}
 use lib.Dec.{ltb}
 use borrow.Author.Tests.{lt-ltb, le-ltb}
 use Rattle.engine.specs.Call.{Call}
 use Rattle.engine.specs.Sorts.{Context, after}
-use Rattle.engine.specs.Encode.{offset, countAt, nextAt, callAt, callsFrom}
+use Rattle.engine.specs.Encode.{offset, nextAt, callAt, callsFrom}
 use Rattle.engine.specs.WellFormed.{
   headStands,
   firstFailing,

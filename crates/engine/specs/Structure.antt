@@ -1,16 +1,14 @@
 -- The terms and names of a call list by its records alone: where the record of a term stands, what it says of the term's sort,
 -- and whether a name was declared before a place. On a well-formed list these are the sorts and the names of its calls.
-use mathlib.Core.Path.{_≡_, refl, sym, ap, ap₂, _∙_, subst}
-use mathlib.Core.Bool.{Bool, true, false, cond, _&&_, _||_}
-use mathlib.Core.List.{List, [], _∷_, _++_}
-use Prim.Native.Nat.{ℕ, zero, suc, _+_, _-_, _*_, _≤_, _<_, min}
-use lib.ListN.{length, getD, set, replicate}
-use lib.Dec.{eqb, leb, ltb}
+use mathlib.Core.Bool.{Bool, true, false, cond, _&&_}
+use mathlib.Core.List.{List}
+use Prim.Native.Nat.{ℕ, zero, suc, _+_, _-_, min}
+use lib.ListN.{length, getD}
+use lib.Dec.{eqb, ltb}
 use Rattle.logic.specs.declared.Term.{Term}
-use Rattle.logic.specs.Word.{kindOf, payloadOf}
-use Rattle.engine.specs.Call.{Name, BinaryOp, Call}
+use Rattle.engine.specs.Call.{BinaryOp, Call}
 use Rattle.engine.specs.Call as c
-use Rattle.engine.specs.Sorts.{Sort, noSort, sortAt}
+use Rattle.engine.specs.Sorts.{Sort, noSort}
 use Rattle.engine.specs.Encode.{
   Op,
   makesTerm,
@@ -21,7 +19,7 @@ use Rattle.engine.specs.Encode.{
   nextAt,
   callAt,
 }
-use Rattle.engine.specs.WellFormed.{isNumber, declares}
+use Rattle.engine.specs.WellFormed.{declares}
 use Rattle.engine.specs.declared.Origin.{Origin}
 use Rattle.engine.specs.declared.Origin.the-variants.{Given, Same, Joined}
 

@@ -1,23 +1,23 @@
 -- A formed call list, written as words, is well formed and reads back as itself.
-use mathlib.Core.Path.{_≡_, refl, sym, ap, ap₂, _∙_, subst}
-use mathlib.Core.Bool.{Bool, true, false, not, cond, _&&_, _||_}
+use mathlib.Core.Path.{_≡_, refl, ap, ap₂, _∙_}
+use mathlib.Core.Bool.{Bool, true, false, not}
 use mathlib.Core.List.{List, [], _∷_, _++_, map, append-assoc}
-use mathlib.Core.Option.{Option, some, none}
-use Prim.Native.Nat.{ℕ, zero, suc, _+_, _-_, _*_, _/_, _%_, _^_, _≤_, _<_, min, suc-le-suc}
+use mathlib.Core.Option.{none}
+use Prim.Native.Nat.{ℕ, zero, suc, _+_, _-_, _*_, _/_, _%_, _^_, _≤_, _<_, suc-le-suc}
 use native.Mathlib.Nat.{zero-lt-suc, div-lt-iff-lt-mul, lt-of-lt-of-le, le-refl}
 use native.Mathlib.Numerals.{sub-one}
 use native.Mathlib.Omega.{arith}
 use lib.ListN.{length, getD, length-append, length-map, List·getD-append}
 use lib.Seq.{getD-append-seam, getD-append-add}
 use lib.Pow.{pow-add, pow-mono}
-use lib.Dec.{eqb, leb, ltb}
-use Rattle.logic.specs.Word.{kindOf, payloadOf, wordOf, headWord, numberWord, termWord, kind-of-word, payload-of-word}
+use lib.Dec.{eqb}
+use Rattle.logic.specs.Word.{payloadOf, wordOf, headWord, numberWord, termWord, payload-of-word}
 use Rattle.logic.specs.Table.{tab}
 use Rattle.bitvec.specs.Bits.{Bits, bit, bv2nat, nat2bv}
 use Rattle.bitvec.specs.Laws.{nat2bv-bv2nat, bv2nat-lt}
-use Rattle.engine.specs.Call.{Letter, Suffix, Name, BinaryOp, Compare, Term, Call}
+use Rattle.engine.specs.Call.{Letter, Suffix, BinaryOp, Compare, Call}
 use Rattle.engine.specs.Call as c
-use Rattle.engine.specs.Meaning.{argumentsOf, All}
+use Rattle.engine.specs.Meaning.{All}
 use Rattle.engine.specs.Laws.{All-map}
 use Rattle.engine.specs.Sorts.{
   Sort,

@@ -4,7 +4,6 @@ use logic::Term;
 ghost use mathlib.Core.Path.{_≡_};
 ghost use mathlib.Core.List.{[], _∷_, map};
 ghost use Prim.Native.Nat.{min};
-ghost use lib.ListN.{length};
 ghost use Rattle.logic.specs.Word.{headWord, numberWord, termWord};
 ghost use Rattle.bitvec.specs.Bits.{nat2bv};
 ghost use Rattle.engine.specs.Call as c;

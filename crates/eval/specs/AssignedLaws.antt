@@ -1,18 +1,17 @@
 -- The assignment of the evaluator: in a formed list, each declaration has the bits that stand at its place among the declarations.
 use mathlib.Core.Path.{_≡_, refl, sym, ap, _∙_}
-use mathlib.Core.Bool.{Bool, true, false, cond, _&&_, false≢true}
-use mathlib.Core.List.{List, [], _∷_, _++_, List·Memᴰ, List·Memᴰ·head, List·Memᴰ·tail}
-use Prim.Native.Nat.{ℕ, zero, suc, _+_}
-use native.Mathlib.Omega.{arith}
+use mathlib.Core.Bool.{true, _&&_}
+use mathlib.Core.List.{List, [], _∷_, List·Memᴰ, List·Memᴰ·head, List·Memᴰ·tail}
+use Prim.Native.Nat.{ℕ}
 use lib.ListN.{length, getD}
 use lib.Dec.{eqb}
 use borrow.Author.Tests.{eq-eqb, eqb-true}
-use Rattle.bitvec.specs.Bits.{Bits, nat2bv}
+use Rattle.bitvec.specs.Bits.{nat2bv}
 use Rattle.bitvec.specs.Laws.{length-nat2bv}
 use Rattle.engine.specs.Call.{Letter, Suffix, Name, Call}
 use Rattle.engine.specs.Call as c
 use Rattle.engine.specs.Meaning.{Assignment, Fits}
-use Rattle.engine.specs.Sorts.{Context, after, Allowed, Formed}
+use Rattle.engine.specs.Sorts.{Context, after, Formed}
 use Rattle.engine.specs.Encode.{letterNumber, suffixNumber}
 use Rattle.engine.specs.Written.{letter-back, suffix-back}
 use Rattle.engine.specs.Tests.{both, left-of, right-of, refuted}

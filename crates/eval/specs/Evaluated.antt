@@ -1,18 +1,21 @@
 -- Document 01, "Examples" and faults 19 and 20: what the evaluator answers and writes. It takes bits in declaration order, writes
 -- every term's number (Bool 0 or 1), and returns how many assertions are 0.
-use mathlib.Core.Bool.{Bool, true, false, cond, not, _&&_, _||_}
-use mathlib.Core.List.{List, [], _∷_, _++_, map}
+use mathlib.Core.Bool.{Bool, true, false, cond, _&&_}
+use mathlib.Core.List.{List, [], _∷_, map}
 use mathlib.Core.Option.{Option, some, none}
-use Prim.Native.Nat.{ℕ, zero, suc, _+_, _^_}
-use lib.ListN.{length, getD}
+use Prim.Native.Nat.{ℕ, suc, _+_, _^_}
+use lib.ListN.{length}
 use lib.Dec.{eqb, leb, ltb}
-use Rattle.bitvec.specs.Bits.{Bits, bit, bv2nat, nat2bv}
+use Rattle.bitvec.specs.Bits.{bit, bv2nat, nat2bv}
 use Rattle.engine.specs.Call.{Name, Call}
 use Rattle.engine.specs.Call as c
 use Rattle.engine.specs.Meaning.{Value, bool, bits, Assignment, valueAt, run}
 use Rattle.engine.specs.Encode.{letterNumber, suffixNumber, decode}
 use Rattle.engine.specs.WellFormed.{Outcome, wellFormed, malformed, outcome}
 use Rattle.engine.specs.Emit.{overwrite}
+use Rattle.logic.specs.declared.Fault.{Fault}
+use Rattle.eval.specs.declared.Evaluation.{Evaluation}
+use Rattle.eval.specs.declared.Evaluation.the-variants.{Evaluated, Refused}
 
 -- A name is another's.
 abbrev pub sameName : Name → Name → Bool
@@ -52,35 +55,34 @@ bitsFault k (c.assert a ∷ cs) given = bitsFault k cs given
 bitsFault k (c.check ∷ cs) given = bitsFault k cs given
 
 -- What the evaluator answers: the number of false assertions, or a fault's number and place.
-pub data Answer : Type 0 where
-  evaluated : ℕ → Answer
-  refused : ℕ → ℕ → Answer
+abbrev pub refused : ℕ → ℕ → Evaluation
+refused number place = Refused (record { number = number; place = place })
 
 -- The values of the terms under the bits.
-abbrev pub values : List ℕ → List ℕ → List Value
-values w given = run (assigned (decode w) given) [] (decode w)
+abbrev pub termValues : List ℕ → List ℕ → List Value
+termValues w given = run (assigned (decode w) given) [] (decode w)
 
-abbrev pub onBits : Option ℕ → Answer → Answer
+abbrev pub onBits : Option ℕ → Evaluation → Evaluation
 onBits none otherwise = otherwise
 onBits (some k) otherwise = refused 20 k
 
-abbrev pub withRoom : Bool → Answer → Answer → Answer
+abbrev pub withRoom : Bool → Evaluation → Evaluation → Evaluation
 withRoom true a b = a
 withRoom false a b = b
 
-abbrev pub judged : Outcome → List ℕ → List ℕ → ℕ → Answer
+abbrev pub judged : Outcome → List ℕ → List ℕ → ℕ → Evaluation
 judged (malformed at) w given room = refused 19 at
 judged (wellFormed x) w given room =
     onBits (bitsFault 0 (decode w) given)
     (withRoom (leb (length (x .sorts)) room)
-    (evaluated (falseAssertions (valueAt (values w given)) (decode w)))
+    (Evaluated (falseAssertions (valueAt (termValues w given)) (decode w)))
     (refused 20 room))
 
 -- The answer for a list, bits, and room for that many values.
-abbrev pub answer : List ℕ → List ℕ → ℕ → Answer
+abbrev pub answer : List ℕ → List ℕ → ℕ → Evaluation
 answer w given room = judged (outcome w) w given room
 
 -- The value slice after: every term's number, and on refusal what was there.
-abbrev pub written : Answer → List ℕ → List ℕ → List ℕ → List ℕ
-written (evaluated n) w given slice = overwrite slice 0 (map valueNumber (values w given))
-written (refused number place) w given slice = slice
+abbrev pub written : Evaluation → List ℕ → List ℕ → List ℕ → List ℕ
+written (Evaluated n) w given slice = overwrite slice 0 (map valueNumber (termValues w given))
+written (Refused fault) w given slice = slice

@@ -1,19 +1,19 @@
 -- The evaluator goes by what is written so far: numbers and sorts of earlier terms alone make the number of a term.
 use Rattle.bitvec.specs.Laws.{bv2nat-nat2bv, length-nat2bv}
-use Rattle.bitvec.specs.Bits.{bv2nat, nat2bv}
+use Rattle.bitvec.specs.Bits.{bv2nat}
 use Rattle.eval.specs.AssignedLaws.{Gives, first, rest}
-use mathlib.Core.Path.{_≡_, refl, sym, ap, ap₂, _∙_, subst}
-use mathlib.Core.Bool.{Bool, cond}
+use mathlib.Core.Path.{_≡_, refl, sym, ap, _∙_}
+use mathlib.Core.Bool.{cond}
 use mathlib.Core.List.{List, [], _∷_, _++_, map, append-assoc, append-nil}
-use Prim.Native.Nat.{ℕ, zero, suc, _+_, _≤_, _<_, suc-le-suc, _^_}
+use Prim.Native.Nat.{ℕ, zero, suc, _+_, _≤_, _<_, _^_}
 use native.Mathlib.Nat.{le-of-suc-le-suc, mod-eq-of-lt}
 use native.Mathlib.Omega.{arith}
 use lib.ListN.{length, getD, set, length-map, drop, List·getD-append}
-use lib.Seq.{sets, sets-eq, getD-at, drop-append-seam}
+use lib.Seq.{sets, sets-eq}
 use lib.Dec.{eqb}
 use Rattle.engine.specs.Call.{Term, Call, Name}
 use Rattle.engine.specs.Call as c
-use Rattle.engine.specs.Meaning.{Value, bool, valueAt, denote, argumentsOf, All, Assignment, run, bits}
+use Rattle.engine.specs.Meaning.{Value, valueAt, denote, argumentsOf, All, Assignment, run, bits}
 use Rattle.engine.specs.Laws.{All-map, run-append, run-keeps, length-snoc, length-run}
 use Rattle.engine.specs.Sorts.{Sort, sortAt, sortOf, WellSorted, Context, start, after, Formed, OfSort}
 use Rattle.engine.specs.SortLaws.{Sorted, args-earlier, sorted-snoc, denote-sort, there}
@@ -88,11 +88,10 @@ term-number slice sorts l s given t g room agrees h =
     (args-earlier sorts t h))
     ∙ value-is g given t h
 
--- Where a list is evaluated up to a call: the calls done and to do, what the calls done leave, and what is written and counted.
+-- Where a list is evaluated up to a call: the calls done, which leave a context, and to do, and what is written and counted.
 pub record Evaluating (cs : List Call) (ρ : Assignment) (slice₀ slice : List ℕ) (given : List ℕ) (todo : List Call)
-    (terms falses : ℕ) : Type 0 where
+    (terms falses : ℕ) (context : Context) : Type 0 where
   pub done : List Call
-  pub context : Context
   pub split : cs ≡ done ++ todo
   pub formed : Formed context todo
   pub sorted : Sorted (context .sorts) (run ρ [] done)
@@ -102,11 +101,10 @@ pub record Evaluating (cs : List Call) (ρ : Assignment) (slice₀ slice : List 
   pub judged : falses + falseAssertions (valueAt (run ρ [] cs)) todo ≡ falseAssertions (valueAt (run ρ [] cs)) cs
 
 pub evaluating-start : (cs : List Call) (ρ : Assignment) (slice given : List ℕ) → Formed start cs → Gives ρ cs given
-    → Evaluating cs ρ slice slice given cs 0 0
+    → Evaluating cs ρ slice slice given cs 0 0 start
 unfolding run overwrite
 evaluating-start cs ρ slice given f g = record {
   done = [];
-  context = start;
   split = refl;
   formed = f;
   sorted = record { many = refl; each = λ k h. absurd (omega arith) };
@@ -129,18 +127,17 @@ fits ρ cs done todo room e h =
     omega arith
 
 module _ {cs : List Call} {ρ : Assignment} {slice₀ slice given given′ : List ℕ} {terms falses : ℕ} {call : Call}
-    {todo : List Call} (e : Evaluating cs ρ slice₀ slice given (call ∷ todo) terms falses) (s : Sort) (v : Value) where
+    {todo : List Call} {context : Context} (e : Evaluating cs ρ slice₀ slice given (call ∷ todo) terms falses context) (s : Sort) (v : Value) where
   -- A call that makes a term of a sort and a value: its number is written.
   pub evaluating-made : run ρ (run ρ [] (e .done)) (call ∷ []) ≡ run ρ [] (e .done) ++ (v ∷ [])
-      → after (e .context) call .sorts ≡ e .context .sorts ++ (s ∷ []) → OfSort s v → Gives ρ todo given′
+      → after (context) call .sorts ≡ context .sorts ++ (s ∷ []) → OfSort s v → Gives ρ todo given′
       → falseAssertions (valueAt (run ρ [] cs)) (call ∷ todo) ≡ falseAssertions (valueAt (run ρ [] cs)) todo
-      → Evaluating cs ρ slice₀ (set slice terms (valueNumber v)) given′ todo (terms + 1) falses
+      → Evaluating cs ρ slice₀ (set slice terms (valueNumber v)) given′ todo (terms + 1) falses (after context call)
   evaluating-made more sorts of-sort gives same =
       let l = run ρ [] (e .done) in
       let grown = run-more ρ (e .done) call v more in
       record {
         done = e .done ++ (call ∷ []);
-        context = after (e .context) call;
         split = e .split ∙ sym (append-assoc (e .done) (call ∷ []) todo);
         formed = e .formed .2;
         sorted = rw (grown, sorts) (sorted-snoc (e .sorted) s v of-sort);
@@ -151,29 +148,29 @@ module _ {cs : List Call} {ρ : Assignment} {slice₀ slice given given′ : Lis
       }
 
 -- A term, a declaration, an assertion and check, each from the slice and the sorts so far.
-module _ {cs : List Call} {ρ : Assignment} {slice₀ slice given : List ℕ} {terms falses : ℕ} {todo : List Call} where
-  pub evaluating-term : (t : Term) (s : ℕ → Sort) (g : ℕ) (e : Evaluating cs ρ slice₀ slice given (c.term t ∷ todo) terms falses)
-      → length (run ρ [] cs) ≤ length slice₀ → ((k : ℕ) → k < length (e .context .sorts) → s k ≡ sortAt (e .context .sorts) k)
+module _ {cs : List Call} {ρ : Assignment} {slice₀ slice given : List ℕ} {terms falses : ℕ} {todo : List Call} {context : Context} where
+  pub evaluating-term : (t : Term) (s : ℕ → Sort) (g : ℕ) (e : Evaluating cs ρ slice₀ slice given (c.term t ∷ todo) terms falses context)
+      → length (run ρ [] cs) ≤ length slice₀ → ((k : ℕ) → k < length (context .sorts) → s k ≡ sortAt (context .sorts) k)
       → Evaluating cs ρ slice₀ (set slice terms (valueBy s (λ k. getD slice k 0) g (c.term t))) given todo (terms + 1) falses
+      (after context (c.term t))
   unfolding run Gives falseAssertions
   evaluating-term t s g e room agrees =
       let l = run ρ [] (e .done) in
       let number : valueBy s (λ k. getD slice k 0) g (c.term t) ≡ valueNumber (denote (valueAt l) t) =
       rw (e .written)
-      (term-number slice₀ (e .context .sorts) l s g t (e .sorted)
+      (term-number slice₀ (context .sorts) l s g t (e .sorted)
       (fits ρ cs (e .done) (c.term t ∷ todo) (length slice₀) (e .split) room) agrees (e .formed .1 .0)) in
       rw number
-      (evaluating-made e (sortOf (e .context .sorts) t) (denote (valueAt l) t) refl refl
+      (evaluating-made e (sortOf (context .sorts) t) (denote (valueAt l) t) refl refl
       (denote-sort (e .sorted) t (e .formed .1 .0)) (e .gives) refl)
 
-  pub evaluating-check : (e : Evaluating cs ρ slice₀ slice given (c.check ∷ todo) terms falses)
-      → Evaluating cs ρ slice₀ slice given todo terms falses
+  pub evaluating-check : (e : Evaluating cs ρ slice₀ slice given (c.check ∷ todo) terms falses context)
+      → Evaluating cs ρ slice₀ slice given todo terms falses (after context c.check)
   unfolding run Gives falseAssertions
   evaluating-check e =
       let same : run ρ [] (e .done ++ (c.check ∷ [])) ≡ run ρ [] (e .done) = run-append ρ [] (e .done) (c.check ∷ []) in
       record {
         done = e .done ++ (c.check ∷ []);
-        context = after (e .context) c.check;
         split = e .split ∙ sym (append-assoc (e .done) (c.check ∷ []) todo);
         formed = e .formed .2;
         sorted = rw same (e .sorted);
@@ -183,8 +180,9 @@ module _ {cs : List Call} {ρ : Assignment} {slice₀ slice given : List ℕ} {t
         judged = e .judged;
       }
 
-  pub evaluating-declare : (n : Name) (w : ℕ) (e : Evaluating cs ρ slice₀ slice given (c.declare n w ∷ todo) terms falses)
+  pub evaluating-declare : (n : Name) (w : ℕ) (e : Evaluating cs ρ slice₀ slice given (c.declare n w ∷ todo) terms falses context)
       → first given < 2 ^ w → Evaluating cs ρ slice₀ (set slice terms (first given)) (rest given) todo (terms + 1) falses
+      (after context (c.declare n w))
   unfolding run Gives falseAssertions
   evaluating-declare n w e low =
       let number : first given ≡ valueNumber (bits (ρ n)) =
@@ -193,15 +191,16 @@ module _ {cs : List Call} {ρ : Assignment} {slice₀ slice given : List ℕ} {t
       (evaluating-made e w (bits (ρ n)) refl refl
       (e .formed .1 .1, ap length (e .gives .0) ∙ length-nat2bv w (first given)) (e .gives .1) refl)
 
-  pub evaluating-assert : (k : ℕ) (e : Evaluating cs ρ slice₀ slice given (c.assert k ∷ todo) terms falses)
+  pub evaluating-assert : (k : ℕ) (e : Evaluating cs ρ slice₀ slice given (c.assert k ∷ todo) terms falses context)
       → length (run ρ [] cs) ≤ length slice₀
       → Evaluating cs ρ slice₀ slice given todo terms (falses + cond (eqb (getD slice k 0) 0) 1 0)
+      (after context (c.assert k))
   unfolding run Gives falseAssertions
   evaluating-assert k e room =
       let l = run ρ [] (e .done) in
       let same : run ρ [] (e .done ++ (c.assert k ∷ [])) ≡ l = run-append ρ [] (e .done) (c.assert k ∷ []) in
       let known : k < length l =
-      (let m = e .sorted .many in let h = there (e .context .sorts) k (let z = e .formed .1 .0 in omega arith) in omega arith) in
+      (let m = e .sorted .many in let h = there (context .sorts) k (let z = e .formed .1 .0 in omega arith) in omega arith) in
       let last : valueAt (run ρ [] cs) k ≡ valueAt l k =
       ap (λ (d : List Call). valueAt (run ρ [] d) k) (e .split)
       ∙ ap (λ (r : List Value). valueAt r k) (run-append ρ [] (e .done) (c.assert k ∷ todo))
@@ -212,7 +211,6 @@ module _ {cs : List Call} {ρ : Assignment} {slice₀ slice given : List ℕ} {t
       ∙ ap valueNumber (sym last) in
       record {
         done = e .done ++ (c.assert k ∷ []);
-        context = e .context;
         split = e .split ∙ sym (append-assoc (e .done) (c.assert k ∷ []) todo);
         formed = e .formed .2;
         sorted = rw same (e .sorted);
@@ -224,9 +222,9 @@ module _ {cs : List Call} {ρ : Assignment} {slice₀ slice given : List ℕ} {t
 
 -- At the end, every term's number is written and every false assertion counted.
 pub evaluating-end : (cs : List Call) (ρ : Assignment) (slice₀ slice given : List ℕ) (terms falses : ℕ)
-    → Evaluating cs ρ slice₀ slice given [] terms falses
+    (context : Context) → Evaluating cs ρ slice₀ slice given [] terms falses context
     → (slice ≡ overwrite slice₀ 0 (numbers (run ρ [] cs))) × (falses ≡ falseAssertions (valueAt (run ρ [] cs)) cs)
 unfolding falseAssertions
-evaluating-end cs ρ slice₀ slice given terms falses e =
+evaluating-end cs ρ slice₀ slice given terms falses context e =
     let all : e .done ≡ cs = sym (e .split ∙ append-nil (e .done)) in
     (e .written ∙ ap (λ (d : List Call). overwrite slice₀ 0 (numbers (run ρ [] d))) all, (let j = e .judged in omega arith))

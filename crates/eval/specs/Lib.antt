@@ -1,8 +1,7 @@
-pub mod Tables
-pub mod Sums
-pub mod TableLaws
-pub mod Checking
 pub mod Evaluated
 pub mod Values
+pub mod Records
 pub mod AssignedLaws
 pub mod Evaluating
+pub mod RecordLaws
+pub mod Answers

@@ -1,12 +1,12 @@
 -- The evaluator's numbers: the number of each term, from the numbers and the sorts of its arguments, is that of its value.
 use Rattle.logic.specs.Table.{tab}
 use Rattle.engine.specs.Encode.{Op, callOf, fromDigits}
-use mathlib.Core.Path.{_≡_, refl, sym, ap, ap₂, _∙_, subst}
+use mathlib.Core.Path.{_≡_, refl, sym, ap, _∙_, subst}
 use mathlib.Core.Bool.{Bool, true, false, cond, not, _&&_}
 use mathlib.Core.List.{List, [], _∷_, map}
-use Prim.Native.Nat.{ℕ, zero, suc, _+_, _≤_, _<_, _-_}
+use Prim.Native.Nat.{ℕ, suc, _≤_, _-_}
 use native.Mathlib.Omega.{arith}
-use lib.ListN.{length, getD}
+use lib.ListN.{length}
 use lib.Dec.{eqb}
 use Rattle.bitvec.specs.Bits.{Bits, bit, bv2nat, nat2bv}
 use Rattle.bitvec.specs.Ops as bv
@@ -160,61 +160,43 @@ module _ {sorts : List Sort} {l : List Value} (g : Sorted sorts l) (given : ℕ)
       (at-b .1 ∙ h .1) (denoteCompare o)))
 
 -- The number of an operation's term, from the payloads of its first two arguments and the numbers and sorts of the terms that
--- its arguments refer to; that of an and or a literal is handed over.
-abbrev pub valueOf : Op → ℕ → ℕ → ℕ → ℕ → ℕ → ℕ → ℕ → Sort → Sort → Sort → ℕ
-valueOf o.boolLit list given a b va vb vc sa sb sc = bit (eqb a 1)
-valueOf o.boolIte list given a b va vb vc sa sb sc = cond (eqb va 1) vb vc
-valueOf o.not list given a b va vb vc sa sb sc = cond (eqb va 1) 0 1
-valueOf o.and list given a b va vb vc sa sb sc = list
-valueOf o.lit list given a b va vb vc sa sb sc = list
-valueOf o.equal list given a b va vb vc sa sb sc = bit (eqb va vb)
-valueOf o.ite list given a b va vb vc sa sb sc = cond (eqb va 1) vb vc
-valueOf o.concat list given a b va vb vc sa sb sc = concatAt sa va sb vb
-valueOf o.extract list given a b va vb vc sa sb sc = extractAt sc a b vc
-valueOf o.bvnot list given a b va vb vc sa sb sc = atWidth sa (bv.bvnot (nat2bv sa va))
-valueOf (o.op2 op) list given a b va vb vc sa sb sc = atWidth sa (denoteOp op (nat2bv sa va) (nat2bv sa vb))
-valueOf (o.compare op) list given a b va vb vc sa sb sc = bit (holdsAt sa (denoteCompare op (nat2bv sa va) (nat2bv sa vb)))
-valueOf o.declare list given a b va vb vc sa sb sc = given
-valueOf o.assert list given a b va vb vc sa sb sc = 0
-valueOf o.check list given a b va vb vc sa sb sc = 0
-valueOf o.unknown list given a b va vb vc sa sb sc = 0
+-- its arguments refer to. Those of an and of all arguments and of a literal are handed over, as is that of a declared name.
+abbrev pub valueOf : Op → ℕ → ℕ → ℕ → ℕ → ℕ → ℕ → ℕ → ℕ → Sort → Sort → Sort → ℕ
+valueOf o.boolLit all literal given a b va vb vc sa sb sc = bit (eqb a 1)
+valueOf o.boolIte all literal given a b va vb vc sa sb sc = cond (eqb va 1) vb vc
+valueOf o.not all literal given a b va vb vc sa sb sc = cond (eqb va 1) 0 1
+valueOf o.and all literal given a b va vb vc sa sb sc = all
+valueOf o.lit all literal given a b va vb vc sa sb sc = literal
+valueOf o.equal all literal given a b va vb vc sa sb sc = bit (eqb va vb)
+valueOf o.ite all literal given a b va vb vc sa sb sc = cond (eqb va 1) vb vc
+valueOf o.concat all literal given a b va vb vc sa sb sc = concatAt sa va sb vb
+valueOf o.extract all literal given a b va vb vc sa sb sc = extractAt sc a b vc
+valueOf o.bvnot all literal given a b va vb vc sa sb sc = atWidth sa (bv.bvnot (nat2bv sa va))
+valueOf (o.op2 op) all literal given a b va vb vc sa sb sc = atWidth sa (denoteOp op (nat2bv sa va) (nat2bv sa vb))
+valueOf (o.compare op) all literal given a b va vb vc sa sb sc = bit (holdsAt sa (denoteCompare op (nat2bv sa va) (nat2bv sa vb)))
+valueOf o.declare all literal given a b va vb vc sa sb sc = given
+valueOf o.assert all literal given a b va vb vc sa sb sc = 0
+valueOf o.check all literal given a b va vb vc sa sb sc = 0
+valueOf o.unknown all literal given a b va vb vc sa sb sc = 0
 
--- What is handed over for an and and a literal.
-abbrev pub listOf : (ℕ → ℕ) → Op → ℕ → (ℕ → ℕ) → ℕ
-listOf v o.and m p = andNumber v (tab m p)
-listOf v o.lit m p = bv2nat (nat2bv (p 0) (fromDigits (tab (m - 1) (λ i. p (suc i)))))
-listOf v o.boolLit m p = 0
-listOf v o.boolIte m p = 0
-listOf v o.not m p = 0
-listOf v o.equal m p = 0
-listOf v o.ite m p = 0
-listOf v o.concat m p = 0
-listOf v o.extract m p = 0
-listOf v o.bvnot m p = 0
-listOf v (o.op2 op) m p = 0
-listOf v (o.compare op) m p = 0
-listOf v o.declare m p = 0
-listOf v o.assert m p = 0
-listOf v o.check m p = 0
-listOf v o.unknown m p = 0
-
--- The number of a record's term, by its operation and payloads p.
-pub value-of : (s : ℕ → Sort) (v : ℕ → ℕ) (given : ℕ) (op : Op) (m : ℕ) (p : ℕ → ℕ)
-    → valueOf op (listOf v op m p) given (p 0) (p 1) (v (p 0)) (v (p 1)) (v (p 2)) (s (p 0)) (s (p 1)) (s (p 2))
+-- The number of a record's term, by its operation, payloads p and literal.
+pub value-of : (s : ℕ → Sort) (v : ℕ → ℕ) (given : ℕ) (op : Op) (m : ℕ) (p : ℕ → ℕ) (literal : ℕ)
+    → (op ≡ o.lit → literal ≡ bv2nat (nat2bv (p 0) (fromDigits (tab (m - 1) (λ i. p (suc i))))))
+    → valueOf op (andNumber v (tab m p)) literal given (p 0) (p 1) (v (p 0)) (v (p 1)) (v (p 2)) (s (p 0)) (s (p 1)) (s (p 2))
     ≡ valueBy s v given (callOf op m p)
-value-of s v given o.boolLit m p = refl
-value-of s v given o.boolIte m p = refl
-value-of s v given o.not m p = refl
-value-of s v given o.and m p = refl
-value-of s v given o.lit m p = refl
-value-of s v given o.equal m p = refl
-value-of s v given o.ite m p = refl
-value-of s v given o.concat m p = refl
-value-of s v given o.extract m p = refl
-value-of s v given o.bvnot m p = refl
-value-of s v given (o.op2 op) m p = refl
-value-of s v given (o.compare op) m p = refl
-value-of s v given o.declare m p = refl
-value-of s v given o.assert m p = refl
-value-of s v given o.check m p = refl
-value-of s v given o.unknown m p = refl
+value-of s v given o.boolLit m p literal h = refl
+value-of s v given o.boolIte m p literal h = refl
+value-of s v given o.not m p literal h = refl
+value-of s v given o.and m p literal h = refl
+value-of s v given o.lit m p literal h = h refl
+value-of s v given o.equal m p literal h = refl
+value-of s v given o.ite m p literal h = refl
+value-of s v given o.concat m p literal h = refl
+value-of s v given o.extract m p literal h = refl
+value-of s v given o.bvnot m p literal h = refl
+value-of s v given (o.op2 op) m p literal h = refl
+value-of s v given (o.compare op) m p literal h = refl
+value-of s v given o.declare m p literal h = refl
+value-of s v given o.assert m p literal h = refl
+value-of s v given o.check m p literal h = refl
+value-of s v given o.unknown m p literal h = refl

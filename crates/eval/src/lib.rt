@@ -1,396 +1,60 @@
-// The checker of a call list (fault 19) and its evaluator (fault 20). Both are total on every list of words.
+// The evaluator of a call list (faults 19 and 20), total on every list of words.
 use call_list::Operation;
+use checker::CallList;
+use checker::Wrong;
 use engine::BinaryOp;
 use engine::Compare;
-use engine::Origin;
-use logic::Term;
+use logic::Fault;
 ghost use mathlib.Core.Path.{_≡_};
-ghost use mathlib.Core.Bool.{Bool, _&&_, not, cond};
-ghost use Prim.Native.Nat.{ℕ, suc, _+_, _*_, _<_, _≤_, _^_, min};
+ghost use mathlib.Core.Bool.{Bool, cond};
+ghost use Prim.Native.Nat.{_+_, _<_, _≤_, _^_};
 ghost use lib.ListN.{length, getD, set};
-ghost use lib.Dec.{eqb, ltb, leb};
-ghost use Rattle.logic.specs.Word.{kindOf, payloadOf};
-ghost use Rattle.engine.specs.Encode.{operationAt, countAt, argumentAt, callAt};
-ghost use Rattle.engine.specs.WellFormed.{firstFailing, outcome};
-ghost use Rattle.engine.specs.Structure.{capped, originBy, guarded, sortOfTerm, originOf};
-ghost use Rattle.call_list.specs.Operations.{opFrom, isDeclare};
-ghost use Rattle.eval.specs.Tables.{wordSort, recordSort, standsBy, wrongAs, slotOf, knownBy, againBy, headBy, onWrong, faultBy, noteSort, noteName, isCheck, seenNext, checkedAs};
-ghost use Rattle.eval.specs.Checking.{Checked};
-ghost use Rattle.eval.specs.Values.{valueOf};
+ghost use lib.Dec.{eqb, ltb};
 ghost use Rattle.bitvec.specs.Bits.{bit, nat2bv};
 ghost use Rattle.bitvec.specs.Words.{atWidth, holdsAt};
+ghost use Rattle.engine.specs.Encode.{decode};
 ghost use Rattle.engine.specs.Meaning.{denoteOp, denoteCompare};
 ghost use Rattle.engine.specs.Emit.{binaryOf, compareOf};
+ghost use Rattle.terms.specs.Sort.{payloads};
+ghost use Rattle.logic.specs.Table.{tab};
+ghost use Rattle.call_list.specs.Operations.{opFrom};
+ghost use Rattle.checker.specs.Tables.{wrongAs, noteSort};
+ghost use Rattle.eval.specs.Values.{andNumber, valueOf};
+ghost use Rattle.eval.specs.Records.{numberIn, sortBelow, literalValue, recordValue, wrongBits, falseOf, valuesNext, progressNext};
+ghost use Rattle.eval.specs.Evaluated.{bitsFault, valueNumber, falseAssertions, termValues, refused, answer, written};
+ghost use Rattle.eval.specs.RecordLaws.{Evaluable};
+ghost use Rattle.engine.specs.Emit.{overwrite};
+ghost use Rattle.engine.specs.Meaning.{valueAt};
+ghost use mathlib.Core.List.{map};
 
-// What checking a call list answers: how many terms it makes and names it declares, or the first place at fault.
-pub enum CallList {
-    WellFormed { terms: usize, declared: usize },
-    Malformed(usize),
+// What evaluating a call list answers: how many assertions are false, or the fault.
+pub enum Evaluation {
+    Evaluated(usize),
+    Refused(Fault),
 }
 
-// The place of a fault of a record.
-pub enum Wrong {
-    None,
-    At(usize),
-}
-
-// The number at a place of a table, 0 past its end.
-fn entry(table: &[u8], at: usize) -> u32
-    ensures { λ r. ⌜ r ≡ getD (now (table .entry)) at 0 ⌝ }
-{
-    if at < table.len() {
-        table[at] as u32
-    } else {
-        0
-    }
-}
-
-// A sum of sorts, none above 64.
-fn capped_sum(a: u32, b: u32) -> u32
-    ensures { λ r. ⌜ r ≡ capped (a + b) ⌝ }
-{
-    if 65 <= a {
-        return 65;
-    }
-    if 65 <= b {
-        return 65;
-    }
-    if 65 <= a + b { 65 } else { a + b }
-}
-
-// An origin that goes by terms earlier than k.
-fn earlier_origin(k: u32, origin: Origin) -> Origin
-    ensures { λ r. ⌜ r ≡ guarded k origin ⌝ }
-{
-    match origin {
-        Origin::Given(s) => Origin::Given(s),
-        Origin::Same(a) => {
-            if a.0 < k {
-                return Origin::Same(a);
-            }
-            Origin::Given(65)
-        }
-        Origin::Joined(a, b) => {
-            if a.0 < k {
-                if b.0 < k {
-                    return Origin::Joined(a, b);
-                }
-                return Origin::Given(65);
-            }
-            Origin::Given(65)
-        }
-    }
-}
-
-// What is known of the sort of a term: its sort, if the table of the first terms has it, else what its record says.
-fn term_origin(calls: &[u32], sorts: &[u8], k: u32) -> Origin
-    ensures { λ r. ⌜ r ≡ originBy (now (sorts .entry)) (now (calls .entry)) k ⌝ }
-{
-    if (k as usize) < sorts.len() {
-        return Origin::Given(entry(sorts, k as usize));
-    }
-    earlier_origin(
-        k,
-        call_list::origin_at(calls, call_list::place_of_term(calls, Term(k))),
-    )
-}
-
-// The sort of a term, through the terms that it goes by. Of a join the second is looked up and the first gone on with, so that
-// no calls nest deeper than joins do: in a well-formed list 63 times.
-fn term_sort(calls: &[u32], sorts: &[u8], term: u32) -> u32
-    ensures { λ r. ⌜ r ≡ sortOfTerm (now (sorts .entry)) (now (calls .entry)) term ⌝ }
-{
-    let mut k = term;
-    let mut total = 0;
-    loop {
-        match term_origin(calls, sorts, k) {
-            Origin::Given(s) => {
-                return capped_sum(total, s);
-            }
-            Origin::Same(a) => {
-                k = a.0;
-            }
-            Origin::Joined(a, b) => {
-                total = capped_sum(total, term_sort(calls, sorts, b.0));
-                k = a.0;
-            }
-        }
-    }
-}
-
-// The sort of the term that a word refers to, if it refers to one of the terms so far.
-fn word_sort(calls: &[u32], sorts: &[u8], terms: usize, word: u32) -> u32
-    ensures { λ r. ⌜ r ≡ wordSort (now (sorts .entry)) (now (calls .entry)) terms word ⌝ }
-{
-    if logic::kind(word) == 4 {
-        let k = logic::payload(word);
-        if (k as usize) < terms {
-            return term_sort(calls, sorts, k);
-        }
-        return 65;
-    }
-    65
-}
-
-// The sort of the term that the record at a place makes.
-fn record_sort(calls: &[u32], sorts: &[u8], at: usize) -> u32
-    ensures { λ r. ⌜ r ≡ recordSort (now (sorts .entry)) (now (calls .entry)) at ⌝ }
-{
-    match call_list::origin_at(calls, at) {
-        Origin::Given(s) => capped_sum(0, s),
-        Origin::Same(a) => term_sort(calls, sorts, a.0),
-        Origin::Joined(a, b) => capped_sum(
-            term_sort(calls, sorts, a.0),
-            term_sort(calls, sorts, b.0),
-        ),
-    }
-}
-
-// The place of the first of n arguments of a record that may not stand where it does.
-fn wrong_from(
-    calls: &[u32],
-    sorts: &[u8],
-    terms: usize,
-    at: usize,
-    operation: Operation,
-    n: usize,
-) -> Wrong
-    requires { ⌜ (at + n < length (now calls)) × (opFrom operation ≡ operationAt (now calls) at) ⌝ }
-    ensures { λ r. ⌜ r ≡ wrongAs (onWrong (firstFailing (standsBy (now (sorts .entry)) (now (calls .entry)) terms at) 0 n) (λ i. at + 1 + i)) ⌝ }
-{
-    let first = logic::word_at(calls, at + 1);
-    let mut before = logic::word_at(calls, at);
-    let mut sort_before = word_sort(calls, sorts, terms, before);
-    let mut i = 0;
-    while i < n {
-        let word = logic::word_at(calls, at + 1 + i);
-        let sort = word_sort(calls, sorts, terms, word);
-        if call_list::admitted(
-            call_list::argument(operation, i),
-            first,
-            before,
-            word,
-            sort_before,
-            sort,
-        ) {
-            before = word;
-            sort_before = sort;
-            i += 1;
-        } else {
-            return Wrong::At(at + 1 + i);
-        }
-    }
-    Wrong::None
-}
-
-// Where a name of an index below 65,536 stands in the table of names.
-fn name_slot(letter: u32, index: u32, suffix: u32) -> usize
-    requires { ⌜ (letter ≤ 2) × (index < 65536) × (suffix ≤ 2) ⌝ }
-    ensures { λ r. ⌜ r ≡ slotOf letter index suffix ⌝ }
-{
-    ((letter * 3 + suffix) * 65536 + index) as usize
-}
-
-// Whether three words spell a name that a record before a place declares: from the table, beyond it by the records.
-fn name_known(calls: &[u32], names: &[u8], at: usize, letter: u32, index: u32, suffix: u32) -> bool
-    ensures { λ r. ⌜ r ≡ knownBy (now (names .entry)) (now (calls .entry)) at letter index suffix ⌝ }
-{
-    if call_list::number_at_most(letter, 2) {
-        if call_list::number_at_most(suffix, 2) {
-            if call_list::number_at_most(index, 65535) {
-                let slot = name_slot(
-                    logic::payload(letter),
-                    logic::payload(index),
-                    logic::payload(suffix),
-                );
-                return entry(names, slot) == 1;
-            }
-            return call_list::declared_before(calls, at, letter, index, suffix);
-        }
-        return false;
-    }
-    false
-}
-
-// Whether the record at a place declares a name again.
-fn declares_again(calls: &[u32], names: &[u8], at: usize, operation: Operation) -> bool
-    requires { ⌜ (at < length (now calls)) × (opFrom operation ≡ operationAt (now calls) at) ⌝ }
-    ensures { λ r. ⌜ r ≡ againBy (now (names .entry)) (now (calls .entry)) at ⌝ }
-{
-    if call_list::is_declare(operation) {
-        let letter = logic::word_at(calls, at + 1);
-        let index = logic::word_at(calls, at + 2);
-        let suffix = logic::word_at(calls, at + 3);
-        return name_known(calls, names, at, letter, index, suffix);
-    }
-    false
-}
-
-// Whether the head of the record at a place stands: a head, whole, of an operation with its count, no name declared again.
-fn head_stands(calls: &[u32], names: &[u8], at: usize, operation: Operation, n: u32) -> bool
-    requires { ⌜ (at < length (now calls)) × (opFrom operation ≡ operationAt (now calls) at) × (n ≡ countAt (now calls) at) ⌝ }
-    ensures { λ r. ⌜ r ≡ headBy (now (names .entry)) (now (calls .entry)) at ⌝ }
-{
-    if logic::kind(logic::word_at(calls, at)) == 2 {
-        if (n as usize) < calls.len() - at {
-            if call_list::count_fits(operation, n, logic::word_at(calls, at + 1)) {
-                if declares_again(calls, names, at, operation) {
-                    return false;
-                }
-                return true;
-            }
-            return false;
-        }
-        return false;
-    }
-    false
-}
-
-// The place of the first fault of the record at a place, after the records before it.
-fn record_fault(calls: &[u32], sorts: &[u8], names: &[u8], terms: usize, at: usize) -> Wrong
-    requires { ⌜ at < length (now calls) ⌝ }
-    ensures { λ r. ⌜ r ≡ wrongAs (faultBy (now (sorts .entry)) (now (names .entry)) (now (calls .entry)) terms at) ⌝ }
-{
-    let operation = call_list::operation_at(calls, at);
-    let n = call_list::count_at(calls, at);
-    if head_stands(calls, names, at, operation, n) {
-        wrong_from(calls, sorts, terms, at, operation, n as usize)
-    } else {
-        Wrong::At(at)
-    }
-}
-
-// A number stored at a place of a table; past its end nothing changes.
-fn put_byte(table: &mut [u8], at: usize, value: u32)
-    requires { ⌜ value < 256 ⌝ }
-    ensures { λ _. ⌜ now (table .exit) ≡ set (now (table .entry)) at value ⌝ }
-{
-    if at < table.len() {
-        table[at] = value as u8;
-    }
-}
-
-// The sort of the term that a record makes goes into the table of sorts.
-fn note_sort(calls: &[u32], sorts: &mut [u8], at: usize, terms: usize)
-    ensures { λ _. ⌜ now (sorts .exit) ≡ noteSort (now (sorts .entry)) (now (calls .entry)) at terms ⌝ }
-{
-    if call_list::makes_term(call_list::operation_at(calls, at)) {
-        let sort = record_sort(calls, sorts, at);
-        put_byte(sorts, terms, sort);
-    }
-}
-
-// The name that a record declares goes into the table of names.
-fn note_name(calls: &[u32], names: &mut [u8], at: usize)
-    requires { ⌜ at < length (now calls) ⌝ }
-    ensures { λ _. ⌜ now (names .exit) ≡ noteName (now (names .entry)) (now (calls .entry)) at ⌝ }
-{
-    if call_list::is_declare(call_list::operation_at(calls, at)) {
-        let letter = logic::payload(logic::word_at(calls, at + 1));
-        let index = logic::word_at(calls, at + 2);
-        let suffix = logic::payload(logic::word_at(calls, at + 3));
-        if call_list::number_at_most(index, 65535) {
-            let low = logic::payload(index);
-            put_byte(
-                names,
-                (letter as usize * 3 + suffix as usize) * 65536 + low as usize,
-                1,
-            );
-        }
-    }
-}
-
-// How far a list is read: the place, the terms and names so far, and whether check was called.
-pub struct Seen {
+// How far a list is evaluated: the place, the terms and names so far, and the false assertions.
+pub struct Progress {
     pub at: usize,
     pub terms: usize,
     pub declared: usize,
-    pub checked: bool,
+    pub falses: usize,
 }
 
-fn number(holds: bool) -> usize
-    ensures { λ r. ⌜ r ≡ bit holds ⌝ }
+// The number at a place, 0 past the end.
+fn number_at(numbers: &[u64], at: usize) -> u64
+    ensures { λ r. ⌜ r ≡ getD (now (numbers .entry)) at 0 ⌝ }
 {
-    if holds { 1 } else { 0 }
+    if at < numbers.len() { numbers[at] } else { 0 }
 }
 
-fn is_check(operation: Operation) -> bool
-    ensures { λ r. ⌜ r ≡ isCheck (opFrom operation) ⌝ }
+// A number stored at a place; past the end nothing changes.
+fn put_number(numbers: &mut [u64], at: usize, number: u64)
+    ensures { λ _. ⌜ now (numbers .exit) ≡ set (now (numbers .entry)) at number ⌝ }
 {
-    match operation {
-        Operation::BoolLit => false,
-        Operation::BoolIte => false,
-        Operation::Not => false,
-        Operation::And => false,
-        Operation::Lit => false,
-        Operation::Equal => false,
-        Operation::Ite => false,
-        Operation::Concat => false,
-        Operation::Extract => false,
-        Operation::BvNot => false,
-        Operation::Binary(_) => false,
-        Operation::Compare(_) => false,
-        Operation::Declare => false,
-        Operation::Assert => false,
-        Operation::Check => true,
-        Operation::Unknown => true,
+    if at < numbers.len() {
+        numbers[at] = number;
     }
-}
-
-// The same after the record at its place.
-fn after_record(calls: &[u32], seen: Seen) -> Seen
-    requires { ⌜ (seen .at < length (now calls)) × (seen .terms ≤ seen .at) × (seen .declared ≤ seen .at) ⌝ }
-    ensures { λ r. ⌜ r ≡ seenNext (now (calls .entry)) seen ⌝ }
-{
-    let operation = call_list::operation_at(calls, seen.at);
-    let n = call_list::count_at(calls, seen.at);
-    Seen {
-        at: seen.at + 1 + n as usize,
-        terms: seen.terms + number(call_list::makes_term(operation)),
-        declared: seen.declared + number(call_list::is_declare(operation)),
-        checked: is_check(operation),
-    }
-}
-
-// The check with its tables: sorts of the first terms, and names; the table of names starts all zeros.
-fn check_tables(calls: &[u32], sorts: &mut [u8], names: &mut [u8]) -> CallList
-    requires { ⌜ (589824 ≤ length (now names)) × ((k : ℕ) → getD (now names) k 0 ≡ 0) ⌝ }
-    ensures { λ r. ⌜ Checked (now (calls .entry)) (now (sorts .exit)) r ⌝ }
-{
-    let mut seen = Seen {
-        at: 0,
-        terms: 0,
-        declared: 0,
-        checked: false,
-    };
-    while seen.at < calls.len() {
-        if seen.checked {
-            return CallList::Malformed(seen.at);
-        }
-        match record_fault(calls, sorts, names, seen.terms, seen.at) {
-            Wrong::At(place) => {
-                return CallList::Malformed(place);
-            }
-            Wrong::None => {
-                note_sort(calls, sorts, seen.at, seen.terms);
-                note_name(calls, names, seen.at);
-                seen = after_record(calls, seen);
-            }
-        }
-    }
-    CallList::WellFormed {
-        terms: seen.terms,
-        declared: seen.declared,
-    }
-}
-
-// Whether a call list is well formed, and where it is not (fault 19).
-pub fn check(calls: &[u32]) -> CallList
-    ensures { λ r. ⌜ r ≡ checkedAs (outcome (now (calls .entry))) ⌝ }
-{
-    let mut sorts = [0u8; 65536];
-    let mut names = [0u8; 589824];
-    check_tables(calls, &mut sorts, &mut names)
 }
 
 // A choice by a Bool's number, its negation, and the number of an equality.
@@ -433,11 +97,12 @@ pub fn compare_value(op: Compare, width: u32, s: u64, t: u64) -> bool
     }
 }
 
-// The number of the term of an operation, but for and and literals, whose number is handed over: from the payloads of its first
-// two arguments, and the numbers and sorts of the terms that its arguments refer to.
+// The number of the term of an operation, from the payloads of its first two arguments and the numbers and sorts of the terms
+// that its arguments refer to. Those of an and of all arguments and of a literal are handed over, as is that of a declared name.
 pub fn value_of(
     operation: Operation,
-    list: u64,
+    all: u64,
+    literal: u64,
     given: u64,
     a: u32,
     b: u32,
@@ -448,14 +113,14 @@ pub fn value_of(
     sb: u32,
     sc: u32,
 ) -> u64
-    ensures { λ r. ⌜ r ≡ valueOf (opFrom operation) list given a b va vb vc sa sb sc ⌝ }
+    ensures { λ r. ⌜ r ≡ valueOf (opFrom operation) all literal given a b va vb vc sa sb sc ⌝ }
 {
     match operation {
         Operation::BoolLit => flag_number(a == 1),
         Operation::BoolIte => chosen(va, vb, vc),
         Operation::Not => chosen(va, 0, 1),
-        Operation::And => list,
-        Operation::Lit => list,
+        Operation::And => all,
+        Operation::Lit => literal,
         Operation::Equal => flag_number(va == vb),
         Operation::Ite => chosen(va, vb, vc),
         Operation::Concat => bitvec::concat(sa, va, sb, vb),
@@ -467,5 +132,234 @@ pub fn value_of(
         Operation::Assert => 0,
         Operation::Check => 0,
         Operation::Unknown => 0,
+    }
+}
+
+// The number of an and of n arguments: 1 if all of theirs are.
+fn and_value(calls: &[u32], values: &[u64], at: usize, n: usize) -> u64
+    requires { ⌜ at + n < 2 ^ 63 ⌝ }
+    ensures { λ r. ⌜ r ≡ andNumber (numberIn (now (values .entry))) (tab n (payloads (now (calls .entry)) at)) ⌝ }
+{
+    let mut i = 0;
+    while i < n {
+        let term = logic::payload(logic::word_at(calls, at + 1 + i));
+        if number_at(values, term as usize) == 1 {
+            i += 1;
+        } else {
+            return 0;
+        }
+    }
+    1
+}
+
+// The number of the literal at a place.
+fn literal_value(calls: &[u32], at: usize) -> u64
+    ensures { λ r. ⌜ r ≡ literalValue (now (calls .entry)) at ⌝ }
+{
+    bitvec::reduce(
+        terms::argument(calls, at, 0),
+        terms::literal_number(calls, at),
+    )
+}
+
+// The sort of a term, of so many so far.
+fn sort_below(calls: &[u32], sorts: &[u8], terms: usize, k: u32) -> u32
+    ensures { λ r. ⌜ r ≡ sortBelow (now (sorts .entry)) (now (calls .entry)) terms k ⌝ }
+{
+    if (k as usize) < terms {
+        checker::term_sort(calls, sorts, k)
+    } else {
+        65
+    }
+}
+
+// The number of the term that the record at a place makes, from the numbers and sorts of the terms before it.
+fn record_value(
+    calls: &[u32],
+    values: &[u64],
+    sorts: &[u8],
+    terms: usize,
+    given: u64,
+    at: usize,
+) -> u64
+    requires { ⌜ at < length (now calls) ⌝ }
+    ensures { λ r. ⌜ r ≡ recordValue (now (sorts .entry)) (now (values .entry)) (now (calls .entry)) terms given at ⌝ }
+{
+    let operation = call_list::operation_at(calls, at);
+    let a = terms::argument(calls, at, 0);
+    let b = terms::argument(calls, at, 1);
+    let c = terms::argument(calls, at, 2);
+    value_of(
+        operation,
+        and_value(calls, values, at, call_list::count_at(calls, at) as usize),
+        literal_value(calls, at),
+        given,
+        a,
+        b,
+        number_at(values, a as usize),
+        number_at(values, b as usize),
+        number_at(values, c as usize),
+        sort_below(calls, sorts, terms, a),
+        sort_below(calls, sorts, terms, b),
+        sort_below(calls, sorts, terms, c),
+    )
+}
+
+// How many false assertions an operation is: 1 for an assertion of a term whose number is 0.
+fn false_of(operation: Operation, value: u64) -> usize
+    ensures { λ r. ⌜ r ≡ falseOf (opFrom operation) value ⌝ }
+{
+    match operation {
+        Operation::BoolLit => 0,
+        Operation::BoolIte => 0,
+        Operation::Not => 0,
+        Operation::And => 0,
+        Operation::Lit => 0,
+        Operation::Equal => 0,
+        Operation::Ite => 0,
+        Operation::Concat => 0,
+        Operation::Extract => 0,
+        Operation::BvNot => 0,
+        Operation::Binary(_) => 0,
+        Operation::Compare(_) => 0,
+        Operation::Declare => 0,
+        Operation::Assert => checker::number(value == 0),
+        Operation::Check => 0,
+        Operation::Unknown => 0,
+    }
+}
+
+// How far a list is evaluated after the record at its place, with so many false assertions.
+fn progress_after(calls: &[u32], done: Progress, falses: usize) -> Progress
+    requires { ⌜ (done .at < length (now calls)) × (done .terms ≤ done .at) × (done .declared ≤ done .at) ⌝ }
+    ensures { λ r. ⌜ r ≡ progressNext (now (calls .entry)) done falses ⌝ }
+{
+    let operation = call_list::operation_at(calls, done.at);
+    let n = call_list::count_at(calls, done.at);
+    Progress {
+        at: done.at + 1 + n as usize,
+        terms: done.terms + checker::number(call_list::makes_term(operation)),
+        declared: done.declared + checker::number(call_list::is_declare(operation)),
+        falses: falses,
+    }
+}
+
+// The number of the term that a record makes goes into the slice, and its sort into the table.
+fn write_value(
+    calls: &[u32],
+    values: &mut [u64],
+    sorts: &mut [u8],
+    terms: usize,
+    given: u64,
+    at: usize,
+)
+    requires { ⌜ at < length (now calls) ⌝ }
+    ensures { λ _. ⌜ (now (values .exit) ≡ valuesNext (now (sorts .entry)) (now (values .entry)) (now (calls .entry)) terms given at)
+        × (now (sorts .exit) ≡ noteSort (now (sorts .entry)) (now (calls .entry)) at terms) ⌝ }
+{
+    if call_list::makes_term(call_list::operation_at(calls, at)) {
+        let value = record_value(calls, values, sorts, terms, given, at);
+        put_number(values, terms, value);
+        checker::note_sort(calls, sorts, at, terms);
+    }
+}
+
+fn refusal(number: u32, place: usize) -> Evaluation
+    ensures { λ r. ⌜ r ≡ refused number place ⌝ }
+{
+    Evaluation::Refused(Fault {
+        number: number,
+        place: place,
+    })
+}
+
+// Whether a number fits a width.
+fn fits_width(number: u64, width: u32) -> bool
+    ensures { λ r. ⌜ r ≡ ltb number (2 ^ width) ⌝ }
+{
+    if width < 64 {
+        number < 1 << width
+    } else {
+        true
+    }
+}
+
+// Whether the record at a place declares a name whose bits are missing or above its width.
+fn wrong_bits(calls: &[u32], bits: &[u64], declared: usize, at: usize) -> bool
+    ensures { λ r. ⌜ r ≡ wrongBits (now (calls .entry)) (now (bits .entry)) declared at ⌝ }
+{
+    if call_list::is_declare(call_list::operation_at(calls, at)) {
+        if declared < bits.len() {
+            if fits_width(bits[declared], terms::argument(calls, at, 3)) {
+                return false;
+            }
+            return true;
+        }
+        return true;
+    }
+    false
+}
+
+// The term number of the first declaration whose bits are missing or above its width (fault 20).
+fn bits_fault(calls: &[u32], bits: &[u64]) -> Wrong
+    ensures { λ r. ⌜ r ≡ wrongAs (bitsFault 0 (decode (now (calls .entry))) (now (bits .entry))) ⌝ }
+{
+    let mut seen = Progress {
+        at: 0,
+        terms: 0,
+        declared: 0,
+        falses: 0,
+    };
+    while seen.at < calls.len() {
+        if wrong_bits(calls, bits, seen.declared, seen.at) {
+            return Wrong::At(seen.terms);
+        }
+        seen = progress_after(calls, seen, 0);
+    }
+    Wrong::None
+}
+
+// The numbers of all terms go into the slice, and how many assertions are false is counted; with a table of the sorts.
+fn evaluate_records(calls: &[u32], bits: &[u64], values: &mut [u64], sorts: &mut [u8]) -> usize
+    requires { ⌜ Evaluable (now calls) (now bits) (now values) ⌝ }
+    ensures { λ r. ⌜ (now (values .exit) ≡ overwrite (now (values .entry)) 0 (map valueNumber (termValues (now (calls .entry)) (now (bits .entry)))))
+        × (r ≡ falseAssertions (valueAt (termValues (now (calls .entry)) (now (bits .entry)))) (decode (now (calls .entry)))) ⌝ }
+{
+    let mut done = Progress {
+        at: 0,
+        terms: 0,
+        declared: 0,
+        falses: 0,
+    };
+    while done.at < calls.len() {
+        let operation = call_list::operation_at(calls, done.at);
+        let asserted = number_at(values, terms::argument(calls, done.at, 0) as usize);
+        let falses = done.falses + false_of(operation, asserted);
+        let given = number_at(bits, done.declared);
+        write_value(calls, values, sorts, done.terms, given, done.at);
+        done = progress_after(calls, done, falses);
+    }
+    done.falses
+}
+
+// The number of every term under the bits of the declared names, and how many assertions are false (faults 19 and 20).
+pub fn evaluate(calls: &[u32], bits: &[u64], values: &mut [u64]) -> Evaluation
+    ensures { λ r. ⌜ (r ≡ answer (now (calls .entry)) (now (bits .entry)) (length (now (values .entry))))
+        × (now (values .exit) ≡ written r (now (calls .entry)) (now (bits .entry)) (now (values .entry))) ⌝ }
+{
+    match checker::check(calls) {
+        CallList::Malformed(at) => refusal(19, at),
+        CallList::WellFormed { terms, declared: _ } => match bits_fault(calls, bits) {
+            Wrong::At(k) => refusal(20, k),
+            Wrong::None => {
+                let room = values.len();
+                if terms <= room {
+                    let mut sorts = [0u8; 524288];
+                    Evaluation::Evaluated(evaluate_records(calls, bits, values, &mut sorts))
+                } else {
+                    refusal(20, room)
+                }
+            }
+        },
     }
 }

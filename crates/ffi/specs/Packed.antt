@@ -1,9 +1,13 @@
--- Answers packed into one word of 64 bits: bits 63 to 48 the fault number (0: none), bits 47 to 0 the place, or for an accepted list base + added.
+-- Answers packed into one word of 64 bits: bits 63 to 48 the fault number (0: none), bits 47 to 0 its place or what the entry says.
 use mathlib.Core.Path.{_≡_}
 use mathlib.Core.List.{List}
 use Prim.Native.Nat.{ℕ, _+_, _*_, _%_, _^_}
 use lib.ListN.{length}
 use Rattle.logic.specs.declared.Fault.{Fault}
+use Rattle.eval.specs.declared.Evaluation.{Evaluation}
+use Rattle.eval.specs.declared.Evaluation.the-variants as eval
+use Rattle.eval.specs.declared.Evaluation.the-variants.{Evaluated}
+use Rattle.eval.specs.Evaluated as evaluated
 use Rattle.script.specs.declared.Written.{Written}
 use Rattle.script.specs.declared.Written.the-variants as script
 use Rattle.script.specs.declared.Written.the-variants.{Bytes}
@@ -15,13 +19,23 @@ use Rattle.answer.specs.Reply.{answerOf, replyTo, tableAfter}
 use Rattle.design_list.specs.declared.DesignRead.{DesignRead}
 use Rattle.design_list.specs.declared.DesignRead.the-variants.{Accepted, Refused}
 
-abbrev pub packed : DesignRead → ℕ
-packed (Accepted x) = x .base + x .added
-packed (Refused e) = e .number % 2 ^ 16 * 2 ^ 48 + e .place % 2 ^ 48
-
 -- A refusal of any entry.
 abbrev pub packedFault : Fault → ℕ
 packedFault e = e .number % 2 ^ 16 * 2 ^ 48 + e .place % 2 ^ 48
+
+-- The list reader's answer: below the fault number base + added.
+abbrev pub packed : DesignRead → ℕ
+packed (Accepted x) = x .base + x .added
+packed (Refused e) = packedFault e
+
+-- The evaluator's answer: below the fault number the number of false assertions.
+abbrev pub packedEvaluation : Evaluation → ℕ
+packedEvaluation (Evaluated n) = n % 2 ^ 48
+packedEvaluation (eval.Refused e) = packedFault e
+
+pub record PackedEvaluation (calls bits before after : List ℕ) (r : ℕ) : Type 0 where
+  pub answers : r ≡ packedEvaluation (evaluated.answer calls bits (length before))
+  pub writes : after ≡ evaluated.written (evaluated.answer calls bits (length before)) calls bits before
 
 -- The writer's answer: below the fault number the number of bytes.
 abbrev pub packedWritten : Written → ℕ

@@ -1,12 +1,12 @@
 -- A refusal of `read` has a number of at most 13 and a place of at most 16,384, so packing it loses nothing.
-use Prim.Native.Nat.{ℕ, zero, suc, _+_, _-_, _*_, _/_, _%_, _^_, _<_, _≤_, max}
-use mathlib.Core.Path.{_≡_, refl, sym, ap, _∙_}
+use Prim.Native.Nat.{ℕ, zero, suc, _+_, _-_, _/_, _%_, _^_, _<_, _≤_, max}
+use mathlib.Core.Path.{_≡_, refl}
 use mathlib.Core.Bool.{Bool, true, false, cond}
 use mathlib.Core.List.{List}
 use native.Mathlib.Omega.{arith}
 use lib.ListN.{length, getD, List·getD-eq-default}
 use lib.Dec.{ltb, leb, eqb}
-use borrow.Author.Tests.{ltb-true, ltb-false, leb-true, eqb-true}
+use borrow.Author.Tests.{ltb-true, ltb-false, leb-true}
 use Rattle.logic.specs.Word.{kindOf, payloadOf}
 use Rattle.logic.specs.declared.Fault.{Fault}
 use Rattle.cell.specs.Operation.{operationOf, numbersOf, fieldsOf}
@@ -29,7 +29,7 @@ use Rattle.cell_reader.specs.declared.Leading.{Leading}
 use Rattle.cell_reader.specs.declared.Leading.the-variants as L
 use Rattle.cell_reader.specs.declared.Record.{Record}
 use Rattle.cell_reader.specs.declared.Record.the-variants as R
-use Rattle.cell.specs.Design.{Placed, NetPair}
+use Rattle.cell.specs.Design.{Placed}
 use Rattle.cell_reader.specs.Parse.{numberIn, cellAt}
 use Rattle.design_list.specs.declared.Header.{Header}
 use Rattle.design_list.specs.declared.Opening.{Opening}

@@ -1,11 +1,19 @@
 // The C interface: each entry over slices of words, its answer packed into a number.
 use answer::Answer;
 use design_list::DesignRead;
+use eval::Evaluation;
 use logic::Fault;
 use script::Written;
 ghost use mathlib.Core.Path.{_≡_};
 ghost use Rattle.design_list.specs.Read.{read, answer};
-ghost use Rattle.ffi.specs.Packed.{packed, packedFault, PackedScript, PackedAnswer};
+ghost use Rattle.ffi.specs.Packed.{packed, packedFault, PackedEvaluation, PackedScript, PackedAnswer};
+
+// A refusal, packed: its number above its place.
+fn packed_fault(fault: Fault) -> u64
+    ensures { λ r. ⌜ r ≡ packedFault fault ⌝ }
+{
+    (fault.number % 65536) as u64 * 281474976710656 + (fault.place % 281474976710656) as u64
+}
 
 // Reads a design list: the fault's number and place, or 0 and the number of slots.
 #[no_mangle]
@@ -13,17 +21,21 @@ pub extern "C" fn vm_read(list: &[u32]) -> u64
     ensures { λ r. ⌜ r ≡ packed (answer (read (now (list .entry)))) ⌝ }
 {
     match design_list::read_design(list) {
-        DesignRead::Refused(f) => (f.number % 65536) as u64 * 281474976710656
-            + (f.place % 281474976710656) as u64,
+        DesignRead::Refused(f) => packed_fault(f),
         DesignRead::Accepted(x) => x.base as u64 + x.added as u64,
     }
 }
 
-// A refusal, packed: its number above its place.
-fn packed_fault(fault: Fault) -> u64
-    ensures { λ r. ⌜ r ≡ packedFault fault ⌝ }
+// Evaluates a call list under the bits of its declared names into a slice: the fault's number and place, or 0 and the number of
+// false assertions.
+#[no_mangle]
+pub extern "C" fn vm_evaluate(calls: &[u32], bits: &[u64], values: &mut [u64]) -> u64
+    ensures { λ r. ⌜ PackedEvaluation (now (calls .entry)) (now (bits .entry)) (now (values .entry)) (now (values .exit)) r ⌝ }
 {
-    (fault.number % 65536) as u64 * 281474976710656 + (fault.place % 281474976710656) as u64
+    match eval::evaluate(calls, bits, values) {
+        Evaluation::Refused(f) => packed_fault(f),
+        Evaluation::Evaluated(n) => (n % 281474976710656) as u64,
+    }
 }
 
 // Writes the script of a call list and its recorded marks: the fault's number and place, or 0 and the number of bytes.

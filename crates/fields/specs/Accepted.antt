@@ -1,6 +1,6 @@
 -- What is known of the words that a field reader let pass.
 use Prim.Native.Nat.{ℕ, zero, suc, _+_, _-_, _<_, _≤_, _/_, _%_}
-use mathlib.Core.Path.{_≡_, refl, sym, ap, _∙_}
+use mathlib.Core.Path.{_≡_, refl}
 use mathlib.Core.List.{List}
 use mathlib.Core.Bool.{Bool, true, false, cond}
 use native.Mathlib.Omega.{arith}
@@ -9,17 +9,14 @@ use lib.ListN.{getD, length}
 use lib.Dec.{ltb, leb, eqb}
 use borrow.Author.Tests.{ltb-true, leb-true, eqb-true}
 use Rattle.logic.specs.Word.{kindOf, payloadOf}
-use Rattle.logic.specs.declared.Fault.{Fault}
 use Rattle.cell.specs.Operation.{operationOf}
 use Rattle.cell.specs.declared.Operation.{Operation}
 use Rattle.cell.specs.declared.Decoded.{Decoded}
 use Rattle.cell.specs.declared.Decoded.the-variants as D
-use Rattle.fields.specs.declared.Number.{Number}
 use Rattle.fields.specs.declared.Number.the-variants as N
 use Rattle.fields.specs.declared.Scan.{Scan}
 use Rattle.fields.specs.declared.Scan.the-variants.{Clean, Refused}
 use Rattle.fields.specs.declared.Bit.the-variants as B
-use Rattle.fields.specs.declared.Head.{Head}
 use Rattle.fields.specs.declared.Head.the-variants as H
 use Rattle.fields.specs.Field.{fault, onClean, isConstant, isKnown, numberAt, netAt, bitAt, scanBit, constantAt, scanMany, endsAt}
 use Rattle.fields.specs.Head.{recordOf, onKnown, headAt}

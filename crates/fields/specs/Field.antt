@@ -2,7 +2,7 @@
 -- constant 8, net 6. Then leftover 5". Each definition answers what stands at a place, or the first fault met there.
 use Prim.Native.Nat.{ℕ, zero, suc, _+_, _-_}
 use mathlib.Core.List.{List}
-use mathlib.Core.Bool.{Bool, true, false, cond}
+use mathlib.Core.Bool.{Bool, true, cond}
 use lib.ListN.{getD}
 use lib.Dec.{ltb, leb, eqb}
 use Rattle.logic.specs.Word.{kindOf, payloadOf}

@@ -1,5 +1,5 @@
 -- Laws of `scanMany`: what a loop that counts down needs at its end, at a turn and at a fault; and the same for the three loops over patterns.
-use Prim.Native.Nat.{ℕ, zero, suc, _+_, _-_, _<_, _≤_}
+use Prim.Native.Nat.{ℕ, zero, suc, _-_, _<_, _≤_}
 use mathlib.Core.Path.{_≡_, refl, ap, _∙_}
 use mathlib.Core.List.{List}
 use native.Mathlib.Numerals.{sub-one}

@@ -1,11 +1,10 @@
 -- Document 01, "Words", Match: per pattern #alternates and its constants, n for each alternate; alternates ≤ 64.
 use Prim.Native.Nat.{ℕ}
 use mathlib.Core.List.{List}
-use Rattle.logic.specs.declared.Fault.{Fault}
 use Rattle.fields.specs.declared.Number.{Number}
 use Rattle.fields.specs.declared.Number.the-variants as N
 use Rattle.fields.specs.declared.Scan.{Scan}
-use Rattle.fields.specs.declared.Scan.the-variants.{Clean, Refused}
+use Rattle.fields.specs.declared.Scan.the-variants.{Refused}
 use Rattle.fields.specs.Field.{numberAt, constantAt, scanMany}
 
 abbrev pub onNumber : Number → (ℕ → ℕ → Scan) → Scan

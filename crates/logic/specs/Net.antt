@@ -7,7 +7,6 @@ use borrow.Author.Tests.{ne-eqb, eqb-true, eqb-false}
 use lib.Dec.{ltb, eqb}
 use Rattle.logic.specs.declared.Trit.{Trit}
 use Rattle.logic.specs.declared.Trit.the-variants.{Zero, One, Undef}
-use Rattle.logic.specs.declared.Slot.{Slot}
 use Rattle.logic.specs.declared.Driver.{Driver}
 use Rattle.logic.specs.declared.Driver.the-variants.{Constant, Output, NoNet}
 

@@ -1,6 +1,8 @@
-// Reads call lists from standard input, each as its length and its words, little-endian, and writes a line for each:
-// `well formed TERMS NAMES` or `malformed at PLACE`.
-use eval::CallList;
+// Reads call lists from standard input, each as its length and its words, little-endian, then the number of its bits and each as
+// two words, low first, and the room for values. Writes a line for each: `well formed TERMS NAMES` or `malformed at PLACE`, then
+// `evaluated FALSE` or `refused FAULT at PLACE`, then what the values are after, which were all 7777; of more than 64 a digest.
+use checker::CallList;
+use eval::Evaluation;
 use libc::STDIN_FILENO;
 use libc::STDOUT_FILENO;
 
@@ -46,9 +48,35 @@ fn load(words: &mut [u32], n: usize) {
     }
 }
 
-// The line for a list.
-fn show(list: &[u32]) {
-    match eval::check(list) {
+// The next word, or 0 at the end.
+fn word_or_zero() -> u32 {
+    match next_word() {
+        Next::Word(word) => word,
+        Next::End => 0,
+    }
+}
+
+// The number of two words, stored at a place, if there is such a place.
+fn store(numbers: &mut [u64], at: usize, low: u32, high: u32) {
+    if at < numbers.len() {
+        numbers[at] = low as u64 + high as u64 * 4294967296;
+    }
+}
+
+// The next n numbers of the input, stored from the start on.
+fn load_numbers(numbers: &mut [u64], n: usize) {
+    let mut at: usize = 0;
+    while at < n {
+        let low = word_or_zero();
+        let high = word_or_zero();
+        store(numbers, at, low, high);
+        at += 1;
+    }
+}
+
+// What the checker says.
+fn show_check(list: &[u32]) {
+    match checker::check(list) {
         CallList::WellFormed { terms, declared } => {
             io::write_all(STDOUT_FILENO, b"well formed ");
             io::print_decimal(STDOUT_FILENO, terms as u64);
@@ -60,14 +88,76 @@ fn show(list: &[u32]) {
             io::print_decimal(STDOUT_FILENO, place as u64);
         }
     }
+}
+
+// What the evaluator answers.
+fn show_evaluation(evaluation: Evaluation) {
+    match evaluation {
+        Evaluation::Evaluated(n) => {
+            io::write_all(STDOUT_FILENO, b"; evaluated ");
+            io::print_decimal(STDOUT_FILENO, n as u64);
+        }
+        Evaluation::Refused(fault) => {
+            io::write_all(STDOUT_FILENO, b"; refused ");
+            io::print_decimal(STDOUT_FILENO, fault.number as u64);
+            io::write_all(STDOUT_FILENO, b" at ");
+            io::print_decimal(STDOUT_FILENO, fault.place as u64);
+        }
+    }
+}
+
+// One number of many: three times the digest so far and the next value.
+fn digest(values: &[u64]) -> u64 {
+    let mut sum: u64 = 0;
+    let mut at: usize = 0;
+    while at < values.len() {
+        let twice = std::num::wrapping_add_u64(sum, sum);
+        let thrice = std::num::wrapping_add_u64(twice, sum);
+        sum = std::num::wrapping_add_u64(thrice, values[at]);
+        at += 1;
+    }
+    sum
+}
+
+// The values, or their digest.
+fn show_values(values: &[u64]) {
+    if 64 < values.len() {
+        io::write_all(STDOUT_FILENO, b"; digest ");
+        io::print_decimal(STDOUT_FILENO, digest(values));
+        return;
+    }
+    io::write_all(STDOUT_FILENO, b";");
+    let mut at: usize = 0;
+    while at < values.len() {
+        io::write_all(STDOUT_FILENO, b" ");
+        io::print_decimal(STDOUT_FILENO, values[at]);
+        at += 1;
+    }
+}
+
+// The line for a list.
+fn show(list: &[u32], bits: &[u64], values: &mut [u64]) {
+    show_check(list);
+    show_evaluation(eval::evaluate(list, bits, values));
+    show_values(values);
     io::write_all(STDOUT_FILENO, b"\n");
 }
 
-// A list of n words, read and answered.
-fn read_list(words: &mut [u32], n: usize) {
-    load(words, n);
-    if n <= words.len() {
-        show(&words[..n]);
+// A list of n words, read with its bits and room, and answered.
+fn read_list(n: usize) {
+    let mut words = room();
+    let mut bits = [0u64; 16400];
+    let mut values = [7777u64; 16400];
+    load(&mut words, n);
+    let m = word_or_zero() as usize;
+    load_numbers(&mut bits, m);
+    let v = word_or_zero() as usize;
+    if n <= 16400 {
+        if m <= 16400 {
+            if v <= 16400 {
+                show(&words[..n], &bits[..m], &mut values[..v]);
+            }
+        }
     }
 }
 
@@ -76,9 +166,7 @@ fn turn() -> bool {
     match next_word() {
         Next::End => false,
         Next::Word(length) => {
-            let n = length as usize;
-            let mut words = room();
-            read_list(&mut words, n);
+            read_list(length as usize);
             true
         }
     }

@@ -1,14 +1,14 @@
 -- The script's last lines: whether there is a check, and the names asked.
 use mathlib.Core.Path.{_≡_, refl, sym, ap, _∙_}
-use mathlib.Core.Bool.{Bool, true, false, cond, _||_}
+use mathlib.Core.Bool.{Bool, true, false, _||_}
 use mathlib.Core.List.{List, [], _∷_, _++_, map, append-assoc, append-nil}
-use Prim.Native.Nat.{ℕ, zero, suc, _+_, _-_, _%_, _<_, _≤_}
+use Prim.Native.Nat.{ℕ, suc, _+_, _-_, _<_, _≤_}
 use native.Mathlib.Numerals.{add-one}
 use native.Mathlib.Omega.{arith}
 use lib.Dec.{eqb}
 use lib.ListN.{length, drop, getD, drop-of-length-le}
 use lib.Seq.{drop-cons}
-use borrow.Author.Tests.{eq-eqb, ne-eqb}
+use borrow.Author.Tests.{ne-eqb}
 use Rattle.engine.specs.Call.{Name, Call}
 use Rattle.engine.specs.Call as c
 use Rattle.engine.specs.Sorts.{Context, start, after, leaves}
@@ -17,7 +17,6 @@ use Rattle.engine.specs.Encode as o
 use Rattle.engine.specs.Steps.{calls-end, calls-step}
 use Rattle.text.specs.Bytes.{ascii}
 use Rattle.text.specs.Names.{nameText, spelling, namesOfMark, bothNames, askedFrom, asked}
-use Rattle.terms.specs.Made.{leaves-append}
 use Rattle.terms.specs.Find.{firstCalls, Reached, reached-start, reached-next, first-more, split, madeAt}
 use Rattle.terms.specs.Sort.{payloads}
 use Rattle.script.specs.Shape.{shapeOf}

@@ -1,5 +1,5 @@
 -- Document 01, fault 2 in the writer: a recorded mark above 2, or one whose names the calls do not declare.
-use mathlib.Core.Path.{_≡_, refl, sym, ap, _∙_}
+use mathlib.Core.Path.{_≡_, refl, ap}
 use mathlib.Core.Bool.{Bool, true, false, cond, _&&_}
 use mathlib.Core.List.{List, [], _∷_}
 use Prim.Native.Nat.{ℕ, zero, suc, _+_, _<_, _≤_}
@@ -8,7 +8,7 @@ use native.Mathlib.Omega.{arith}
 use lib.Dec.{eqb, ltb, eqb·suc-zero}
 use lib.ListN.{length, drop, getD, drop-of-length-le}
 use lib.Seq.{drop-cons}
-use borrow.Author.Tests.{eq-eqb, ne-eqb, lt-ltb, le-ltb, ltb-true, ltb-false}
+use borrow.Author.Tests.{ne-eqb, lt-ltb}
 use Rattle.engine.specs.Call.{Name, Call}
 use Rattle.engine.specs.Call as c
 use Rattle.engine.specs.Encode.{Op, letterNumber, suffixNumber, letters, suffixes, operationAt, countAt, callOf, callAt}

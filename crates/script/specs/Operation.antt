@@ -1,6 +1,6 @@
 -- The names of the operations, one after the other in one text.
 use mathlib.Core.Path.{_≡_, refl, sym, ap, _∙_}
-use mathlib.Core.Bool.{Bool, true, false, _&&_}
+use mathlib.Core.Bool.{Bool, true, _&&_}
 use mathlib.Core.List.{List, [], _∷_, map}
 use Prim.Native.Nat.{ℕ, zero, suc, _+_, _-_, _<_, _≤_}
 use native.Mathlib.Nat.{le-of-suc-le-suc}
@@ -11,7 +11,7 @@ use borrow.Author.Tests.{leb-true}
 use Rattle.engine.specs.Meaning.{all}
 use Rattle.engine.specs.Tests.{left-of, right-of}
 use Rattle.logic.specs.Table.{tab}
-use Rattle.engine.specs.Encode.{Op, operations, opOf, unknown}
+use Rattle.engine.specs.Encode.{operations, opOf, unknown}
 use Rattle.text.specs.Bytes.{ascii}
 use Rattle.script.specs.Shape.{operationText}
 

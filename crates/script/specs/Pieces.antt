@@ -2,25 +2,23 @@
 use mathlib.Core.Path.{_≡_, refl, sym, ap, _∙_}
 use mathlib.Core.Bool.{Bool, true, false, cond}
 use mathlib.Core.List.{List, [], _∷_, _++_, append-assoc, append-nil}
-use Prim.Native.Nat.{ℕ, zero, suc, _+_, _-_, _/_, _%_, _<_, _≤_}
+use Prim.Native.Nat.{ℕ, zero, suc, _+_, _-_, _/_, _%_}
 use native.Mathlib.Numerals.{add-one, sub-one}
 use native.Mathlib.Omega.{arith}
 use lib.Dec.{eqb}
-use lib.ListN.{length, getD}
+use lib.ListN.{getD}
 use borrow.Author.Tests.{ne-eqb, eqb-true, eqb-false}
 use Rattle.logic.specs.Word.{payloadOf}
 use Rattle.logic.specs.Table.{tab}
 use Rattle.bitvec.specs.Bits.{bit, odd, nat2bv}
 use Rattle.engine.specs.Call as c
-use Rattle.engine.specs.Encode.{opOf, letters, suffixes, operationAt, countAt, callAt}
+use Rattle.engine.specs.Encode.{opOf, letters, suffixes, operationAt, countAt}
 use Rattle.text.specs.Bytes.{ascii, decimal}
 use Rattle.text.specs.Names.{nameText}
-use Rattle.terms.specs.declared.Found.{Found}
 use Rattle.terms.specs.declared.Found.the-variants as found
-use Rattle.terms.specs.Made.{made}
 use Rattle.terms.specs.Find.{firstCalls, FoundIn}
 use Rattle.terms.specs.Sort.{payloads}
-use Rattle.script.specs.Text.{numbered, spelledAs, reference, sortText, bitsText, extractText, spaced, applied, conjunction}
+use Rattle.script.specs.Text.{numbered, reference, sortText, bitsText, extractText, spaced, applied, conjunction}
 use Rattle.script.specs.Shape.{shapeOf, nameOf, spelled-by}
 
 -- A number that is neither 1 nor 2 is the first letter, and no suffix.

@@ -1,9 +1,7 @@
 -- The line of a record: what the code writes at a place, after some records.
-use mathlib.Core.Path.{_≡_, refl, sym, ap, _∙_}
-use mathlib.Core.Bool.{Bool, true, false, cond}
-use mathlib.Core.List.{List, [], _∷_, _++_}
-use Prim.Native.Nat.{ℕ, zero, suc, _+_, _-_, _%_, _<_, _≤_}
-use lib.Dec.{eqb}
+use mathlib.Core.Path.{_≡_, _∙_}
+use mathlib.Core.List.{List}
+use Prim.Native.Nat.{ℕ, _-_, _%_, _≤_}
 use lib.ListN.{length, getD}
 use borrow.Author.Tests.{ne-eqb}
 use Rattle.logic.specs.Word.{payloadOf}
@@ -13,7 +11,7 @@ use Rattle.terms.specs.Find.{firstCalls}
 use Rattle.terms.specs.Sort.{payloads}
 use Rattle.script.specs.Text.{reference, applied, line}
 use Rattle.script.specs.Pieces.{argumentTexts}
-use Rattle.script.specs.Literal.{LiteralFits}
+use Rattle.terms.specs.Literal.{LiteralFits}
 use Rattle.text.specs.Bytes.{ascii}
 use Rattle.script.specs.Shape.{shapeOf, arityOf, operationText, nameOf, bodyBy, defineLine, declareLine, assertLine, lineBy, line-by}
 

@@ -1,10 +1,9 @@
 -- Document 01, "Examples": the script of a call list, line by line, as its example has it. A line depends on the calls before it:
 -- how many terms they make, of which sorts, and under which names.
-use mathlib.Core.Path.{_≡_, refl, sym, ap, _∙_}
-use mathlib.Core.Bool.{Bool, true, false, cond}
+use mathlib.Core.Path.{_≡_}
+use mathlib.Core.Bool.{Bool, true, false}
 use mathlib.Core.List.{List, [], _∷_, _++_, map, append-assoc, append-nil}
 use Prim.Native.Nat.{ℕ, zero, suc, _+_}
-use Prim.Native.String.{String}
 use lib.ListN.{length, getD}
 use Rattle.bitvec.specs.Bits.{Bits, bit}
 use Rattle.engine.specs.Call.{Name, BinaryOp, Compare, Term, Call}

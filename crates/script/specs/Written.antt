@@ -1,22 +1,20 @@
 -- Document 01, the writer: 19, then 2, then 15 at the room needed; on refusal nothing is written, on success nothing past the text.
-use mathlib.Core.Path.{_≡_, refl, sym, ap, _∙_}
-use mathlib.Core.Bool.{Bool, true, false, cond}
-use mathlib.Core.List.{List, [], _∷_, _++_}
+use mathlib.Core.Path.{_≡_, refl, ap, _∙_}
+use mathlib.Core.Bool.{cond}
+use mathlib.Core.List.{List, _++_}
 use mathlib.Core.Option.{Option, some, none}
-use Prim.Native.Nat.{ℕ, zero, suc, _+_, _-_, _^_, _<_, _≤_}
+use Prim.Native.Nat.{ℕ, _+_, _-_, _^_, _<_, _≤_}
 use native.Mathlib.Omega.{arith}
 use lib.Dec.{ltb}
 use lib.ListN.{length, drop}
 use borrow.Author.Tests.{lt-ltb, le-ltb}
-use Rattle.logic.specs.declared.Fault.{Fault}
-use Rattle.engine.specs.Call.{Call}
 use Rattle.engine.specs.Encode.{decode}
 use Rattle.engine.specs.Sorts.{Context}
 use Rattle.engine.specs.WellFormed.{Outcome, malformedAt, placeOf, outcome, wellFormed, malformed}
-use Rattle.eval.specs.Tables.{checkedAs}
-use Rattle.eval.specs.declared.CallList.the-variants.{WellFormed, Malformed}
+use Rattle.checker.specs.Tables.{checkedAs}
+use Rattle.checker.specs.declared.CallList.the-variants.{WellFormed, Malformed}
 use Rattle.text.specs.Names.{asked}
-use Rattle.text.specs.Write.{capped, overwrite, overwrite-fits, Wrote}
+use Rattle.text.specs.Write.{capped, overwrite-fits, Wrote}
 use Rattle.script.specs.declared.Mark.{Mark}
 use Rattle.script.specs.declared.Mark.the-variants.{Fine, Bad}
 use Rattle.script.specs.declared.Written.{Written}

@@ -1,6 +1,6 @@
 // The script writer: a call list and the names that its recorded marks ask for, as SMT-LIB text in a lent slice of bytes. Each function
 // writes a piece from a place on and gives the next place; past the slice's end it only counts.
-use eval::CallList;
+use checker::CallList;
 use logic::Fault;
 use terms::Found;
 ghost use mathlib.Core.Path.{_≡_};
@@ -9,8 +9,8 @@ ghost use mathlib.Core.List.{_∷_, [], _++_, map};
 ghost use Prim.Native.Nat.{_+_, _-_, _≤_, _<_};
 ghost use lib.ListN.{length, getD, take, drop};
 ghost use Rattle.engine.specs.Call as c;
-ghost use Rattle.engine.specs.Encode.{opOf, letters, suffixes, countAt, callAt, decode};
-ghost use Rattle.script.specs.Literal.{LiteralFits, digitOr, literalNumber};
+ghost use Rattle.engine.specs.Encode.{opOf, letters, suffixes, callAt, decode};
+ghost use Rattle.terms.specs.Literal.{LiteralFits, literalNumber};
 ghost use Rattle.script.specs.Record.{shapeAt, bodyAt, defineAt, declareAt, assertAt, lineAt, Ready};
 ghost use Rattle.terms.specs.Made.{made};
 ghost use Rattle.engine.specs.Sorts as sorts;
@@ -356,26 +356,6 @@ fn put_sort(text: &mut [u8], at: usize, sort: u32) -> usize
     text::put_byte(text, closing, b')')
 }
 
-// The 16-bit number j of a literal, or 0 past the last.
-fn digit(calls: &[u32], head: usize, j: u32) -> u64
-    requires { ⌜ j < 4 ⌝ }
-    ensures { λ r. ⌜ (r ≡ digitOr (payloads (now (calls .entry)) head) (countAt (now (calls .entry)) head) j) × (r < 65536) ⌝ }
-{
-    if j + 1 < terms::count(calls, head) {
-        return (terms::argument(calls, head, j + 1) % 65536) as u64;
-    }
-    0
-}
-
-// The number of a literal of at most 64 bits.
-fn literal_number(calls: &[u32], head: usize) -> u64
-    requires { ⌜ LiteralFits (now calls) head ⌝ }
-    ensures { λ r. ⌜ r ≡ literalNumber (now (calls .entry)) head ⌝ }
-{
-    let low = digit(calls, head, 0) + 65536 * digit(calls, head, 1);
-    low + 4294967296 * digit(calls, head, 2) + 281474976710656 * digit(calls, head, 3)
-}
-
 // Writes a literal, #b and every digit.
 fn put_literal(text: &mut [u8], at: usize, calls: &[u32], head: usize) -> usize
     requires { ⌜ LiteralFits (now calls) head ⌝ }
@@ -385,7 +365,7 @@ fn put_literal(text: &mut [u8], at: usize, calls: &[u32], head: usize) -> usize
     put_bits(
         text,
         digits,
-        literal_number(calls, head),
+        terms::literal_number(calls, head),
         terms::argument(calls, head, 0),
     )
 }
@@ -737,7 +717,7 @@ fn write_marked(calls: &[u32], recorded: &[u8], text: &mut [u8]) -> Written
 pub fn write_script(calls: &[u32], recorded: &[u8], text: &mut [u8]) -> Written
     ensures { λ r. ⌜ Scripted (now (calls .entry)) (now (recorded .entry)) (now (text .entry)) (now (text .exit)) r (written (now (calls .entry)) (now (recorded .entry)) (length (now (text .entry)))) ⌝ }
 {
-    match eval::check(calls) {
+    match checker::check(calls) {
         CallList::Malformed(place) => Written::Refused(Fault { number: 19, place }),
         CallList::WellFormed {
             terms: _,

@@ -2,24 +2,23 @@
 use mathlib.Core.Path.{_≡_, refl, sym, ap, _∙_, subst}
 use mathlib.Core.Bool.{Bool, true, false, _||_}
 use mathlib.Core.List.{List, [], _∷_, List·Memᴰ·head, List·Memᴰ·tail}
-use mathlib.Core.Option.{Option, none}
-use Prim.Native.Nat.{ℕ, zero, suc, _+_, _<_, _≤_}
+use mathlib.Core.Option.{Option}
+use Prim.Native.Nat.{ℕ, zero, suc, _+_}
 use native.Mathlib.Omega.{arith}
 use lib.ListN.{length, getD, drop}
 use borrow.Author.Tests.{eq-eqb}
-use Rattle.cell.specs.Design.{Design, total}
+use Rattle.cell.specs.Design.{Design}
 use Rattle.engine.specs.Call.{Name, Call}
 use Rattle.engine.specs.Call as c
 use Rattle.engine.specs.Encode.{decode, letterNumber, suffixNumber}
-use Rattle.engine.specs.WellFormed.{malformedAt, placeOf}
+use Rattle.engine.specs.WellFormed.{placeOf}
 use Rattle.design_list.specs.Read.{read, accepted}
-use Rattle.smt.specs.Prog.{Age, curr, past, Half, isUndef, isOne}
+use Rattle.smt.specs.Prog.{Age, curr, past, isUndef, isOne}
 use Rattle.smt.specs.Emit.{netName}
 use Rattle.design.specs.Requirement3.{declaredNames, IsDeclared, Declared}
 use Rattle.design.specs.Verified.{callWords, marks}
 use Rattle.design.specs.Required.{never-malformed}
 use Rattle.design.specs.Marks.{Marked, list-marked}
-use Rattle.text.specs.Names.{bothNames, namesOfMark}
 use Rattle.script.specs.Ending.{any}
 use Rattle.script.specs.Marks.{declaresName, declared, allDeclared, markStands, badMark, mark-fine, marks-done}
 use Rattle.script.specs.Written.{scriptOf, roomFor, onFormed, marked, marked-fine, written}

@@ -1,20 +1,19 @@
 -- Records by their number: where record j begins, and the calls before it.
 use mathlib.Core.Path.{_≡_, refl, sym, ap, _∙_}
 use mathlib.Core.Bool.{Bool, true, false, cond}
-use mathlib.Core.List.{List, [], _∷_, _++_, map, append-assoc, append-nil}
-use Prim.Native.Nat.{ℕ, zero, suc, _+_, _-_, _<_, _≤_, _%_, _^_, min}
+use mathlib.Core.List.{List, [], _∷_, _++_, map, append-nil}
+use Prim.Native.Nat.{ℕ, zero, suc, _+_, _-_, _<_, _≤_, _^_, min}
 use native.Mathlib.Nat.{le-refl, le-trans, zero-add, suc-add}
 use native.Mathlib.Numerals.{add-one}
 use native.Mathlib.Omega.{arith}
 use lib.Dec.{ltb}
 use lib.ListN.{length, getD, replicate, length-append, List·getD-append, List·getD-map, getD-replicate}
 use lib.Seq.{getD-append-add}
-use borrow.Author.Tests.{lt-ltb, le-ltb, ltb-true, ltb-false}
-use Rattle.logic.specs.Word.{payloadOf}
+use borrow.Author.Tests.{lt-ltb, ltb-true, ltb-false}
 use Rattle.engine.specs.Call.{Call}
 use Rattle.engine.specs.Call as c
-use Rattle.engine.specs.Sorts.{Sort, noSort, sortAt}
-use Rattle.engine.specs.Encode.{Op, operations, opOf, makesTerm, callOf, operationAt, countAt, nextAt, callAt, callsFrom, unknown}
+use Rattle.engine.specs.Sorts.{noSort, sortAt}
+use Rattle.engine.specs.Encode.{operations, opOf, makesTerm, operationAt, countAt, nextAt, callAt, callsFrom, unknown}
 use Rattle.engine.specs.Steps.{calls-end, calls-step}
 use Rattle.terms.specs.Made.{made, makes, sortsOf, sortOfCall, makes-operation, made-append, made-here, sort-here, made-past, sort-past}
 use Rattle.terms.specs.declared.Found.{Found}

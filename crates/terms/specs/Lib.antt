@@ -1,3 +1,4 @@
 pub mod Made
 pub mod Find
 pub mod Sort
+pub mod Literal

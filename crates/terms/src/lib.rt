@@ -1,12 +1,13 @@
 // The terms of a call list: the record that makes a term, and its sort. Only the first records of the list are looked at.
 ghost use mathlib.Core.Path.{_≡_};
-ghost use Prim.Native.Nat.{suc, _+_, _-_, _<_, _^_, _/_, _%_};
-ghost use lib.ListN.{length, getD};
+ghost use Prim.Native.Nat.{suc, _+_, _-_, _<_, _/_, _%_};
+ghost use lib.ListN.{getD};
 ghost use Rattle.logic.specs.Word.{payloadOf};
 ghost use Rattle.engine.specs.Encode.{makesTerm, opOf, countAt, argumentAt, nextAt, callAt};
 ghost use Rattle.engine.specs.Sorts.{sortAt};
 ghost use Rattle.terms.specs.Made.{sortsOf, sortOfCall};
-ghost use Rattle.terms.specs.Sort.{ruleOf, capped, PlainSort};
+ghost use Rattle.terms.specs.Sort.{ruleOf, capped, PlainSort, payloads};
+ghost use Rattle.terms.specs.Literal.{digitOr, fourDigits};
 ghost use Rattle.terms.specs.Find.{madeAt, FoundIn, firstCalls, word};
 
 // Where a term's record begins, and how many records come before it.
@@ -203,4 +204,23 @@ pub fn sort_of_record(calls: &[u32], records: usize, at: usize) -> u32
         }
         _ => plain_sort(calls, at, rule),
     }
+}
+
+// The 16-bit number j of a literal, or 0 past the last.
+fn digit(calls: &[u32], head: usize, j: u32) -> u64
+    requires { ⌜ j < 4 ⌝ }
+    ensures { λ r. ⌜ (r ≡ digitOr (payloads (now (calls .entry)) head) (countAt (now (calls .entry)) head) j) × (r < 65536) ⌝ }
+{
+    if j + 1 < count(calls, head) {
+        return (argument(calls, head, j + 1) % 65536) as u64;
+    }
+    0
+}
+
+// The number of the literal at a place: that of its first four 16-bit numbers.
+pub fn literal_number(calls: &[u32], head: usize) -> u64
+    ensures { λ r. ⌜ r ≡ fourDigits (now (calls .entry)) head ⌝ }
+{
+    let low = digit(calls, head, 0) + 65536 * digit(calls, head, 1);
+    low + 4294967296 * digit(calls, head, 2) + 281474976710656 * digit(calls, head, 3)
 }

@@ -1,18 +1,18 @@
 -- The equations of a design, for values of any type: trits, or the bits of an assignment. A rule says which values a
 -- cell at a slot gives its outputs, of the current values of all slots.
 use mathlib.Core.Path.{_≡_}
-use mathlib.Core.Bool.{Bool, true, false}
+use mathlib.Core.Bool.{true}
 use mathlib.Core.List.{List, [], _∷_, map, List·Memᴰ}
 use Prim.Native.Nat.{ℕ, _-_}
 use lib.ListN.{length, getD}
-use Rattle.logic.specs.Net.{Net, slot}
+use Rattle.logic.specs.Net.{slot}
 use Rattle.cell.specs.Cell.{Cell, outputLen}
 use Rattle.cell.specs.Cell as c
 use Rattle.cell.specs.Design.{Design, Placed, NetPair}
 use Rattle.rules.specs.CellRule.{outputs}
 use Rattle.rules.specs.Reads.{currentReads}
 use Rattle.working_out.specs.System.{workOut}
-use Rattle.working_out.specs.Reading.{Each, cellOf, readsPast, source, asserted, nodeOf, Pair, ofVoid, pairOf}
+use Rattle.working_out.specs.Reading.{Each, cellOf, readsPast, source, asserted, nodeOf, ofVoid, pairOf}
 use Rattle.working_out.specs.Laid.{Shaped}
 use Rattle.working_out.specs.Loop.{bufOf, nodeCell, order}
 

@@ -12,7 +12,7 @@ use native.Mathlib.Nat.{add-zero, add-suc}
 use native.Mathlib.Decide.{ℕ-discrete}
 use lib.Dec.{eqb, eqb→eq}
 use Rattle.working_out.specs.Order.{option, isSome, none-of, not-true, not-false, eqb-same}
-use Rattle.working_out.specs.Order.{lowest, Found, lowest-some, lowest-none, Twice, pigeon}
+use Rattle.working_out.specs.Order.{lowest, Found, lowest-some, lowest-none, pigeon}
 
 -- One more that is done.
 unfoldable pub mark : (ℕ → Bool) → ℕ → ℕ → Bool

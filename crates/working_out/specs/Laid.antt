@@ -1,11 +1,11 @@
 -- What the list reader guarantees of an accepted list (document 01, "Words" and faults 6, 7, 9, 11, 12, 13): the layout
 -- on which reading nets and working out rely.
-use mathlib.Core.Path.{_≡_, refl}
-use mathlib.Core.Bool.{Bool, true, false}
+use mathlib.Core.Path.{_≡_}
+use mathlib.Core.Bool.{false}
 use mathlib.Core.List.{List, [], _∷_, _++_}
 use Prim.Native.Nat.{ℕ, _+_, _≤_, _<_}
 use Rattle.logic.specs.Net.{Net, constant, slot, payloadOfNet}
-use Rattle.cell.specs.Cell.{Cell, Control, FlipFlop, outputLen, slotsOf}
+use Rattle.cell.specs.Cell.{Cell, outputLen, slotsOf}
 use Rattle.cell.specs.Cell as c
 use Rattle.cell.specs.Design.{Design, Placed, NetPair, total}
 pub use Rattle.rules.specs.Shape.{Shaped}

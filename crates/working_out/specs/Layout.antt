@@ -1,13 +1,13 @@
 -- Laws of the layout of an accepted list: the cell that a slot belongs to holds it, and is the cell of each slot that
 -- it holds; the first slot of a node belongs to the node.
 use mathlib.Core.Path.{_≡_, refl, sym, ap, _∙_}
-use mathlib.Core.Bool.{Bool, true, false, not, cond, _&&_, false≢true, true≢false}
+use mathlib.Core.Bool.{Bool, true, false, cond, _&&_, false≢true, true≢false}
 use mathlib.Core.Option.{Option, none, some}
 use mathlib.Core.List.{List, [], _∷_}
-use Prim.Native.Nat.{ℕ, _+_, _-_, _≤_, _<_, max}
+use Prim.Native.Nat.{ℕ, _+_, _-_, _≤_, _<_}
 use native.Mathlib.Omega.{arith}
 use native.Mathlib.Decide.{decLt}
-use lib.Dec.{T, eqb, ltb, leb, leb→le, le→leb, nleb→lt, ltb→lt, lt→ltb, nltb→le}
+use lib.Dec.{ltb, leb, le→leb, ltb→lt, lt→ltb}
 use Rattle.logic.specs.Net.{Net}
 use Rattle.cell.specs.Cell.{Cell, outputLen, slotsOf}
 use Rattle.cell.specs.Cell as c
@@ -15,7 +15,7 @@ use Rattle.cell.specs.Design.{Design, Placed, total}
 use Rattle.working_out.specs.Order.{none≢some, some-inj, true-of}
 use Rattle.working_out.specs.System.{Owned}
 use Rattle.working_out.specs.Reading.{Each, isIn, cellIn, cellOf, Role, void, given, dff, other, role, isVoid}
-use Rattle.working_out.specs.Reading.{replacement, isNone, sourceBy, source, nodeOf}
+use Rattle.working_out.specs.Reading.{replacement, sourceBy, source, nodeOf}
 use Rattle.working_out.specs.Laid.{Run, Laid}
 
 in-true : (p : Placed) (i : ℕ) → p .slot ≤ i → i < p .slot + slotsOf (p .cell) → isIn p i ≡ true

@@ -1,7 +1,6 @@
 -- Document 01, "Reading nets": a current loop is a cycle of current reads among asserted cells, each taken whole and
 -- named by its first slot, and replaced Voids.
-use mathlib.Core.Path.{_≡_, refl}
-use mathlib.Core.Bool.{Bool, true, false, cond}
+use mathlib.Core.Bool.{Bool, cond}
 use mathlib.Core.Option.{Option, none, some}
 use mathlib.Core.List.{List, [], _∷_}
 use Prim.Native.Nat.{ℕ}

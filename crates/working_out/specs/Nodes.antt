@@ -1,21 +1,20 @@
 -- Laws of nodes: each is an asserted cell or a replaced Void, its slots are those of its outputs, and all its slots
 -- have one rule.
 use mathlib.Core.Path.{_≡_, refl, sym, ap, _∙_}
-use mathlib.Core.Bool.{Bool, true, false, not, cond, false≢true, true≢false}
+use mathlib.Core.Bool.{Bool, true, false, not, false≢true, true≢false}
 use mathlib.Core.Option.{Option, none, some}
-use mathlib.Core.List.{List, [], _∷_}
-use Prim.Native.Nat.{ℕ, _+_, _≤_, _<_, max}
+use Prim.Native.Nat.{ℕ, _+_, _≤_, _<_}
 use native.Mathlib.Omega.{arith}
 use lib.Dec.{eqb}
 use Rattle.logic.specs.Net.{Net}
-use Rattle.cell.specs.Cell.{Cell, outputLen, slotsOf}
+use Rattle.cell.specs.Cell.{outputLen, slotsOf}
 use Rattle.cell.specs.Cell as c
 use Rattle.cell.specs.Design.{Design, Placed, total}
 use Rattle.working_out.specs.Order.{eqb-false}
 use Rattle.working_out.specs.Reading.{cellOf, Role, void, given, dff, other, role, isVoid, replacement, sourceBy}
 use Rattle.working_out.specs.Reading.{source, assertedBy, asserted, nodeOf}
 use Rattle.working_out.specs.Laid.{Laid, CellLaid, Shaped}
-use Rattle.working_out.specs.Layout.{Located, Belongs, belongs, belongs-low, at, void-one, node-first}
+use Rattle.working_out.specs.Layout.{Located, belongs, belongs-low, at, void-one, node-first}
 use Rattle.working_out.specs.Layout.{source-some, source-same, each-at}
 use Rattle.working_out.specs.Loop.{bufOf, ruleCell, nodeCell}
 

@@ -1,7 +1,7 @@
 -- Document 01, "Reading nets": which slots read their past trit, which nets are sources, which Voids are replaced, and
 -- which flip-flops are joined. Every slot that is no source belongs to a node: an asserted cell, or a replaced Void.
 use mathlib.Core.Path.{_≡_}
-use mathlib.Core.Bool.{Bool, true, false, not, cond, _&&_, _||_}
+use mathlib.Core.Bool.{Bool, true, false, not, cond, _&&_}
 use mathlib.Core.Option.{Option, none, some}
 use mathlib.Core.List.{List, [], _∷_, _++_}
 use Prim.Native.Nat.{ℕ, _+_}

@@ -1,8 +1,8 @@
 -- Laws of net replacements: what replaces a Void's slot, looked up, is what the list's pair of that slot says. Froms
 -- ascend, so that a slot has one pair.
-use mathlib.Core.Path.{_≡_, refl, sym, ap, _∙_}
-use mathlib.Core.Bool.{Bool, true, false, not, cond, _&&_, false≢true, true≢false}
-use mathlib.Core.Option.{Option, none, some}
+use mathlib.Core.Path.{_≡_, refl, ap}
+use mathlib.Core.Bool.{Bool, true, false, not, cond, _&&_, false≢true}
+use mathlib.Core.Option.{some}
 use mathlib.Core.List.{List, [], _∷_}
 use Prim.Native.Nat.{ℕ, _+_, _<_}
 use native.Mathlib.Omega.{arith}
@@ -10,7 +10,7 @@ use lib.Dec.{eqb→eq}
 use Rattle.working_out.specs.Order.{eqb-same}
 use Rattle.logic.specs.Net.{Net, constant, slot, payloadOfNet}
 use Rattle.cell.specs.Design.{Design, NetPair}
-use Rattle.working_out.specs.Reading.{Each, cellOf, role, isVoid, isDff, sameNet, replacementIn, Pair, equal}
+use Rattle.working_out.specs.Reading.{Each, cellOf, role, isVoid, isDff, sameNet, replacementIn, equal}
 use Rattle.working_out.specs.Reading.{ofVoid, ofDffs, ordinary, netRole, pairOf}
 use Rattle.working_out.specs.Laid.{Ascending}
 

@@ -4,27 +4,27 @@
 use mathlib.Core.Path.{_≡_, refl, sym, ap, _∙_}
 use mathlib.Core.Logic.{_↔_}
 use mathlib.Core.Bool.{Bool, true, false}
-use mathlib.Core.Option.{Option, none, some}
-use mathlib.Core.List.{List, [], _∷_, map, List·Memᴰ}
-use Prim.Native.Nat.{ℕ, zero, suc, _+_, _-_, _≤_, _<_}
+use mathlib.Core.Option.{some}
+use mathlib.Core.List.{List, [], _∷_, map}
+use Prim.Native.Nat.{ℕ, zero, suc, _+_, _-_, _<_}
 use native.Mathlib.Omega.{arith}
 use native.Mathlib.Nat.{add-zero}
 use lib.ListN.{length, getD}
-use Rattle.logic.specs.Net.{Net, slot}
+use Rattle.logic.specs.Net.{slot}
 use Rattle.logic.specs.Table.{tab, tab-ext, as-tab, map-tab}
-use Rattle.cell.specs.Cell.{Cell, outputLen, slotsOf}
-use Rattle.cell.specs.Design.{Design, Placed, NetPair, total}
+use Rattle.cell.specs.Cell.{outputLen}
+use Rattle.cell.specs.Design.{Design, total}
 use Rattle.rules.specs.CellRule.{outputs}
 use Rattle.working_out.specs.Graph as g
 use Rattle.working_out.specs.System as s
-use Rattle.working_out.specs.System.{Keeps, Local, Solves, start}
-use Rattle.working_out.specs.Reading.{Each, cellOf, role, isVoid, replacement, sourceBy, source, asserted, nodeOf}
+use Rattle.working_out.specs.System.{Keeps, Solves, start}
+use Rattle.working_out.specs.Reading.{Each, cellOf, source, nodeOf}
 use Rattle.working_out.specs.Laid.{Laid}
-use Rattle.working_out.specs.Layout.{Belongs, belongs, belongs-low, at, owned, node-first, source-none}
-use Rattle.working_out.specs.Layout.{source-some, none-source, each-at, at-each, void-one, Located}
-use Rattle.working_out.specs.Replaced.{OfPair, OfSlot, slot-of-pairs, pairs-of-slot}
-use Rattle.working_out.specs.Nodes.{Kind, ofCell, ofReplaced, kind, node-void, void-node, replaced, node-asserted}
-use Rattle.working_out.specs.Nodes.{node-shaped, node-plain, same-node, inside, outputs-belong, cell-node}
+use Rattle.working_out.specs.Layout.{belongs, belongs-low, at, owned, node-first, source-none}
+use Rattle.working_out.specs.Layout.{none-source, each-at, at-each}
+use Rattle.working_out.specs.Replaced.{OfSlot, slot-of-pairs, pairs-of-slot}
+use Rattle.working_out.specs.Nodes.{Kind, ofCell, ofReplaced, kind, node-void, node-asserted}
+use Rattle.working_out.specs.Nodes.{node-shaped, same-node, inside, outputs-belong, cell-node}
 use Rattle.working_out.specs.Nodes.{void-is-node}
 use Rattle.working_out.specs.Loop.{bufOf, nodeCell, current, reads, Loop, order, hasLoop}
 use Rattle.working_out.specs.Equations.{Rule, CellShown, Solution, Wide, slotRule, workedOutBy, CellKeeps}

@@ -1,17 +1,16 @@
 -- A system of equations over slots, for any type of values: a slot is a source, or belongs to a node, named by its
 -- first slot. Working out fills the nodes in the order of their reads. It solves the equations; and a relation that
 -- every equation keeps holds between two solutions: equality (there is one solution), or refinement (it is monotone).
-use mathlib.Core.Path.{_≡_, refl, sym, ap, _∙_}
+use mathlib.Core.Path.{_≡_, refl, sym, _∙_}
 use mathlib.Core.Logic.{_≢_}
 use mathlib.Core.Bool.{Bool, true, false, not, cond, _&&_, _||_, false≢true, true≢false}
 use mathlib.Core.Option.{Option, none, some}
 use mathlib.Core.List.{List, [], _∷_, List·Memᴰ, List·Memᴰ·head, List·Memᴰ·tail}
 use Prim.Native.Nat.{ℕ, _<_}
-use native.Mathlib.Omega.{arith}
 use native.Mathlib.Decide.{ℕ-discrete}
 use lib.Dec.{eqb, eqb→eq}
 use Rattle.working_out.specs.Order.{option, none≢some, some-inj, eqb-same}
-use Rattle.working_out.specs.Graph.{mark, mark-same, mark-other, mark-keeps, Ready, Ordered}
+use Rattle.working_out.specs.Graph.{mark, mark-other, mark-keeps, Ready, Ordered}
 
 -- Does an element of a list pass a test?
 unfoldable pub any : (ℕ → Bool) → List ℕ → Bool

@@ -1,14 +1,13 @@
 -- For an accepted list without a current loop: working out ends with a trit on every node, solves the design's
 -- equations, is the only solution, and turning given Xs into 0 or 1 changes no trit that was 0 or 1.
 use mathlib.Core.Path.{_≡_, refl}
-use mathlib.Core.Bool.{Bool, true, false, false≢true}
+use mathlib.Core.Bool.{true, false, false≢true}
 use mathlib.Core.List.{[], _∷_}
 use Prim.Native.Nat.{ℕ, _+_}
-use lib.ListN.{length}
 use Rattle.logic.specs.Net.{slot}
 use Rattle.logic.specs.Table.{length-tab}
 use Rattle.logic.specs.declared.Trit.{Trit}
-use Rattle.logic.specs.declared.Trit.the-variants.{Zero, One, Undef}
+use Rattle.logic.specs.declared.Trit.the-variants.{Undef}
 use Rattle.cell.specs.Cell.{Cell, outputLen}
 use Rattle.cell.specs.Cell as c
 use Rattle.cell.specs.Design.{Design, NetPair}
@@ -16,7 +15,7 @@ use Rattle.rules.specs.CellRule.{Trits, outputs, read}
 use Rattle.rules.specs.Refine.{Refines, refine-at}
 use Rattle.rules.specs.Shape.{cellRule-length}
 use Rattle.rules.specs.Local.{cellRule-monotone, cellRule-local}
-use Rattle.working_out.specs.Reading.{Each, each-map, readsPast, source, asserted, Pair, ofVoid, pairOf}
+use Rattle.working_out.specs.Reading.{Each, each-map, readsPast, source, asserted, ofVoid, pairOf}
 use Rattle.working_out.specs.Laid.{Laid}
 use Rattle.working_out.specs.Loop.{hasLoop}
 use Rattle.working_out.specs.Equations.{Wide, CellKeeps, CellLocal}

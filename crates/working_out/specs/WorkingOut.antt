@@ -2,7 +2,7 @@
 -- all have theirs gets them: what its rule gives, or for a Void its replacement's `to` as read.
 use Prim.Native.Nat.{ℕ}
 use Rattle.logic.specs.declared.Trit.{Trit}
-use Rattle.logic.specs.declared.Trit.the-variants.{Zero, One, Undef}
+use Rattle.logic.specs.declared.Trit.the-variants.{Undef}
 use Rattle.cell.specs.Cell.{outputLen}
 use Rattle.cell.specs.Design.{Design}
 use Rattle.rules.specs.CellRule.{Trits, outputs, cellRule}

@@ -1,10 +1,9 @@
 -- `answer::bad_mark` meets its contract. The loop's invariant: the first bad mark is the first from `slot` on.
 -- The measure is the number of marks left. Assumes nothing.
 use borrow.Author.Needs.{needs}
-use Prim.Native.Nat.{_-_, _≤_, _<_}
-use mathlib.Core.Path.{_≡_, refl, sym, ap, _∙_}
-use native.Mathlib.Omega.{arith}
-use lib.ListN.{length, drop, getD}
+use Prim.Native.Nat.{_-_}
+use mathlib.Core.Path.{_≡_, refl, sym, _∙_}
+use lib.ListN.{length, drop}
 use Rattle.answer.specs.Reply.{badMark}
 use Rattle.answer.specs.Model.{mark-bad, mark-fine, marks-done}
 use Rattle.answer.proofs.bad_mark.Statement.{statement}

@@ -1,5 +1,4 @@
 -- `answer::is_parenthesis` meets its contract: its tests are those of `parenthesis`, in the same order. Assumes nothing.
-use borrow.Author.Needs.{needs}
 use borrow.Author.Tests.{eq-eqb, ne-eqb}
 use Rattle.answer.proofs.is_parenthesis.Statement.{statement}
 use Rattle.answer.proofs.is_parenthesis.Tie as tie

@@ -1,5 +1,4 @@
 -- `answer::is_white` meets its contract: its tests are those of `white`, in the same order. Assumes nothing.
-use borrow.Author.Needs.{needs}
 use borrow.Author.Tests.{eq-eqb, ne-eqb}
 use Rattle.answer.proofs.is_white.Statement.{statement}
 use Rattle.answer.proofs.is_white.Tie as tie

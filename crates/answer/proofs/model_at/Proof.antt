@@ -1,7 +1,7 @@
 -- `answer::model_at` meets its contract: with nothing asked the text ends, otherwise a list is read. Assumes nothing.
 use borrow.Author.Needs.{needs}
 use mathlib.Core.List.{[]}
-use mathlib.Core.Path.{_≡_, sym, _∙_}
+use mathlib.Core.Path.{sym, _∙_}
 use Rattle.answer.specs.Model.{model-none, model-some, nothing-table}
 use Rattle.answer.proofs.model_at.Statement.{statement}
 use Rattle.answer.proofs.model_at.Tie as tie

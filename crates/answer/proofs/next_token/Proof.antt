@@ -1,12 +1,10 @@
 -- `answer::next_token` meets its contract: past the white space stands the end, a parenthesis or a run. Assumes nothing.
 use borrow.Author.Needs.{needs}
-use mathlib.Core.Path.{_≡_, sym, _∙_}
+use mathlib.Core.Path.{sym, _∙_}
 use native.Mathlib.Omega.{arith}
 use Rattle.answer.specs.Place.{tokens-none, tokens-parenthesis, tokens-run, run-inside, run-after}
-use Prim.Native.Nat.{_+_, _≤_, _<_}
-use native.Mathlib.Numerals.{add-one}
+use Prim.Native.Nat.{_+_, _≤_}
 use lib.ListN.{length}
-use Rattle.answer.specs.Place.{runEnd}
 use Rattle.answer.proofs.next_token.Statement.{statement}
 use Rattle.answer.proofs.next_token.Tie as tie
 

@@ -1,10 +1,9 @@
 -- `answer::nothing_asked` meets its contract. The loop's invariant: the names asked are those from `slot` on.
 -- The measure is the number of marks left. Assumes nothing.
 use borrow.Author.Needs.{needs}
-use Prim.Native.Nat.{_-_, _≤_, _<_}
+use Prim.Native.Nat.{_-_}
 use mathlib.Core.Path.{_≡_, refl, sym, ap, _∙_}
-use native.Mathlib.Omega.{arith}
-use lib.ListN.{length, drop, getD}
+use lib.ListN.{length, drop}
 use Rattle.text.specs.Names.{askedFrom}
 use Rattle.answer.specs.Entries.{nothing}
 use Rattle.answer.specs.Model.{asked-one, asked-two, asked-none, asked-done}

@@ -1,7 +1,7 @@
 -- `answer::read_answer` meets its contract: the marks, the room and the text are tested in this order, and the table is written only
 -- after all of the text was found good. Assumes nothing.
 use borrow.Author.Needs.{needs}
-use mathlib.Core.Path.{_≡_, refl, sym, ap, _∙_}
+use mathlib.Core.Path.{refl, sym, ap, _∙_}
 use Rattle.answer.specs.Model.{reply-marks, reply-room, reply-text, read-as, table-written}
 use Rattle.answer.specs.Reply.{satisfied}
 use Rattle.text.specs.Names.{asked}

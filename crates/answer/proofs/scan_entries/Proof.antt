@@ -1,10 +1,9 @@
 -- `answer::scan_entries` meets its contract. The loop's invariant: reading goes on from `slot` and `at` as it does from the start.
 -- The measure is the number of marks left. Assumes nothing.
 use borrow.Author.Needs.{needs}
-use Prim.Native.Nat.{_-_, _≤_, _<_}
-use mathlib.Core.Path.{_≡_, refl, sym, ap, _∙_}
-use native.Mathlib.Omega.{arith}
-use lib.ListN.{length, drop, getD}
+use Prim.Native.Nat.{_-_}
+use mathlib.Core.Path.{_≡_, refl, ap, _∙_}
+use lib.ListN.{length, drop}
 use Rattle.answer.specs.Place.{tokensFrom}
 use Rattle.answer.specs.Step.{entries}
 use Rattle.answer.specs.Entries.{forget, entries-turn, entries-fault, entries-done}

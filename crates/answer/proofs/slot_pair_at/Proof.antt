@@ -1,7 +1,7 @@
 -- `answer::slot_pair_at` meets its contract: the name is spelled into 24 bytes, which hold any, and its pair is read. Assumes nothing.
 use borrow.Author.Needs.{needs}
 use native.Mathlib.Omega.{arith}
-use mathlib.Core.Path.{_≡_, sym}
+use mathlib.Core.Path.{sym}
 use lib.Seq.{length-take-le}
 use Rattle.text.specs.Names.{spelling-length}
 use Rattle.text.specs.Write.{start-inside, start-bytes}

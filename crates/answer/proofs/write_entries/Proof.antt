@@ -1,10 +1,9 @@
 -- `answer::write_entries` meets its contract. The loop's invariant: what is left to write from `slot` on completes the table.
 -- The measure is the number of marks left. Assumes nothing.
 use borrow.Author.Needs.{needs}
-use Prim.Native.Nat.{_-_, _≤_, _<_}
-use mathlib.Core.Path.{_≡_, refl, sym, ap, _∙_}
-use native.Mathlib.Omega.{arith}
-use lib.ListN.{length, drop, getD}
+use Prim.Native.Nat.{_-_}
+use mathlib.Core.Path.{_≡_, refl, sym, _∙_}
+use lib.ListN.{length, drop}
 use Rattle.text.specs.Write.{overwrite}
 use Rattle.answer.specs.Place.{tokensFrom}
 use Rattle.answer.specs.Step.{written}

@@ -1,9 +1,7 @@
 -- `answer_test::cases` is safe and ends: the start of the next case rises. Assumes nothing.
 use borrow.Author.Needs.{needs}
-use native.Mathlib.Omega.{arith}
-use Prim.Native.Nat.{_-_, _≤_, _<_}
+use Prim.Native.Nat.{_-_}
 use lib.ListN.{length}
-use mathlib.Core.Path.{_≡_}
 use Rattle.answer_test.proofs.cases.Statement.{statement}
 use Rattle.answer_test.proofs.cases.Tie as tie
 

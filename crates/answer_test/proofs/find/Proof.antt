@@ -1,9 +1,7 @@
 -- `answer_test::find` meets its contract. The loop's invariant: the place lies between the start and the end. Assumes nothing.
 use borrow.Author.Needs.{needs}
-use native.Mathlib.Omega.{arith}
-use Prim.Native.Nat.{_-_, _≤_, _<_}
+use Prim.Native.Nat.{_-_, _≤_}
 use lib.ListN.{length}
-use mathlib.Core.Path.{_≡_}
 use Rattle.answer_test.proofs.find.Statement.{statement}
 use Rattle.answer_test.proofs.find.Tie as tie
 

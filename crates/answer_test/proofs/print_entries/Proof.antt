@@ -1,9 +1,6 @@
 -- `answer_test::print_entries` ends: the number of entries left falls. Assumes nothing.
 use borrow.Author.Needs.{needs}
-use native.Mathlib.Omega.{arith}
-use Prim.Native.Nat.{_-_, _≤_, _<_}
-use lib.ListN.{length}
-use mathlib.Core.Path.{_≡_}
+use Prim.Native.Nat.{_-_, _≤_}
 use Rattle.answer_test.proofs.print_entries.Statement.{statement}
 use Rattle.answer_test.proofs.print_entries.Tie as tie
 

@@ -1,6 +1,5 @@
 -- `call_list::origin_at` meets its contract: the sort depends on three payloads, and past the end on none. Assumes nothing.
 use native.Mathlib.Omega.{arith}
-use mathlib.Core.Path.{_∙_, ap}
 use borrow.Author.Needs.{needs}
 use Rattle.call_list.specs.Operations.{origin-past, origin-call}
 use Rattle.call_list.proofs.origin_at.Statement.{statement}

@@ -1,7 +1,7 @@
 -- `engine::term_words` meets its contract: after i turns the references of the first i terms are written. The measure is how
 -- many terms are left. Assumes nothing.
 use Prim.Native.Nat.{_≤_, _-_, _<_, _^_}
-use mathlib.Core.Path.{_≡_, refl, sym, _∙_, subst}
+use mathlib.Core.Path.{_≡_, refl, _∙_}
 use mathlib.Core.List.{map}
 use borrow.Author.Needs.{needs}
 use native.Mathlib.Omega.{arith}

@@ -1,6 +1,5 @@
 -- `ffi::vm_answer` meets its contract: the reader's answer is packed as the definition says. Assumes nothing.
 use borrow.Author.Needs.{needs}
-use mathlib.Core.Path.{_≡_, refl, sym, ap, _∙_}
 use Rattle.ffi.proofs.vm_answer.Statement.{statement}
 use Rattle.ffi.proofs.vm_answer.Tie as tie
 

@@ -6,29 +6,38 @@ use borrow.Author.Needs.{needs}
 use Rattle.ffi.proofs.vm_read.Statement.{statement}
 use Rattle.ffi.proofs.vm_read.Tie as tie
 
-add-result-2 : tie.Need-add-result-2
-add-result-2 c =
+read-design-requires : tie.Need-read-design-requires
+read-design-requires c κs = search needs
+
+enum-known-f : tie.Need-enum-known-f
+enum-known-f c = search needs
+
+packed-fault-requires : tie.Need-packed-fault-requires
+packed-fault-requires c κs = search needs
+
+enum-known-x : tie.Need-enum-known-x
+enum-known-x c = search needs
+
+add-result : tie.Need-add-result
+add-result c =
     omega (arith, table-low _ (sym (c .before .before .before .read-design .ensures) ∙ c .before .x .given .1))
 
 returns : tie.Need-returns
 returns c =
-    let at-f = c .before .before .before in
-    let at-read-design = at-f .before .before in
-    rw (
-      ← at-read-design .read-design .ensures,
-      at-f .f .given .1,
-    )
+    let told = c .before .before in
+    rw (← told .before .before .read-design .ensures, told .f .given .1, c .packed-fault .ensures)
 
 returns-2 : tie.Need-returns-2
-returns-2 c =
-    rw (
-      ← c .before .before .before .read-design .ensures,
-      c .before .x .given .1,
-    )
+returns-2 c = rw (← c .before .before .before .read-design .ensures, c .before .x .given .1)
 
 pub vm-read-spec : {M : Type 1} → statement M
 vm-read-spec =
     tie.close
     (tie.spec
-    (λ c κs. search needs) (λ c. search needs) (λ c. search needs) (λ c. search needs) (λ c. search needs)
-    (λ c. search needs) add-result-2 returns returns-2)
+    read-design-requires
+    enum-known-f
+    packed-fault-requires
+    enum-known-x
+    add-result
+    returns
+    returns-2)

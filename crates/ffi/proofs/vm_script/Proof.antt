@@ -1,6 +1,5 @@
 -- `ffi::vm_script` meets its contract: the writer's answer is packed as the definition says. Assumes nothing.
 use borrow.Author.Needs.{needs}
-use mathlib.Core.Path.{_≡_, refl, sym, ap, _∙_}
 use Rattle.ffi.proofs.vm_script.Statement.{statement}
 use Rattle.ffi.proofs.vm_script.Tie as tie
 

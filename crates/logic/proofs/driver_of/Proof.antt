@@ -2,7 +2,6 @@
 -- at least 2. Assumes nothing.
 use borrow.Author.Tests.{lt-ltb, le-ltb, eq-eqb, ne-eqb}
 use borrow.Author.Needs.{needs}
-use native.Mathlib.Omega.{arith}
 use Rattle.logic.proofs.driver_of.Statement.{statement}
 use Rattle.logic.proofs.driver_of.Tie as tie
 

@@ -1,7 +1,7 @@
 -- `script::declares_here` meets its contract: shape, letter, index and suffix are tested in this order. Assumes nothing.
 use borrow.Author.Needs.{needs}
 use borrow.Author.Tests.{eq-eqb, ne-eqb}
-use mathlib.Core.Path.{_≡_, sym, _∙_}
+use mathlib.Core.Path.{sym, _∙_}
 use Rattle.script.specs.Record.{shape-at}
 use Rattle.script.specs.Marks.{declares-at, letter-low, suffix-low}
 use Rattle.script.proofs.declares_here.Statement.{statement}

@@ -1,7 +1,7 @@
 -- `script::first_asked` meets its contract. The loop's invariant: the marks before `slot` ask for nothing.
 -- The measure is the number of marks left. Assumes nothing.
 use borrow.Author.Needs.{needs}
-use Prim.Native.Nat.{_-_, _≤_, _<_}
+use Prim.Native.Nat.{_-_}
 use mathlib.Core.Path.{_≡_, refl, _∙_}
 use native.Mathlib.Omega.{arith}
 use lib.ListN.{length, drop}

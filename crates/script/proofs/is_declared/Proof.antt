@@ -1,7 +1,7 @@
 -- `script::is_declared` meets its contract. The loop's invariant: no record before `head` declares the name.
 -- The measure is what is left of the list. Assumes nothing.
 use borrow.Author.Needs.{needs}
-use Prim.Native.Nat.{ℕ, _-_, _≤_, _<_}
+use Prim.Native.Nat.{ℕ, _-_}
 use mathlib.Core.Path.{_≡_, sym, _∙_}
 use native.Mathlib.Omega.{arith}
 use lib.ListN.{length}

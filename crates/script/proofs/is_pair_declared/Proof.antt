@@ -1,6 +1,5 @@
 -- `script::is_pair_declared` meets its contract: x first, then y. Assumes nothing.
 use borrow.Author.Needs.{needs}
-use mathlib.Core.Path.{_≡_, sym, _∙_}
 use Rattle.script.proofs.is_pair_declared.Statement.{statement}
 use Rattle.script.proofs.is_pair_declared.Tie as tie
 

@@ -1,5 +1,4 @@
 -- `script::letter_byte` meets its contract: any number but 1 and 2 is the first letter's. Assumes nothing.
-use borrow.Author.Needs.{needs}
 use Rattle.script.specs.Pieces.{letter-first}
 use Rattle.script.proofs.letter_byte.Statement.{statement}
 use Rattle.script.proofs.letter_byte.Tie as tie

@@ -1,5 +1,4 @@
 -- `script::low_number` meets its contract: its tests are those of `lowNumber`. Assumes nothing.
-use borrow.Author.Needs.{needs}
 use borrow.Author.Tests.{eq-eqb, ne-eqb}
 use Rattle.script.proofs.low_number.Statement.{statement}
 use Rattle.script.proofs.low_number.Tie as tie

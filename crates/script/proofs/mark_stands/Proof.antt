@@ -1,6 +1,6 @@
 -- `script::mark_stands` meets its contract: each mark has its own law. Assumes nothing.
 use borrow.Author.Needs.{needs}
-use mathlib.Core.Path.{_≡_, sym, _∙_}
+use mathlib.Core.Path.{sym, _∙_}
 use Rattle.script.specs.Marks.{stands-current, stands-past, stands-none}
 use Rattle.script.proofs.mark_stands.Statement.{statement}
 use Rattle.script.proofs.mark_stands.Tie as tie

@@ -1,8 +1,8 @@
 -- `script::put_arguments` meets its contract. The loop's invariant: the arguments before `i` are written, and the place is the one after them.
 -- The measure is the number of arguments left. Assumes nothing.
 use borrow.Author.Needs.{needs}
-use Prim.Native.Nat.{_-_, _≤_, _<_, _^_}
-use mathlib.Core.Path.{_≡_, refl, sym, _∙_}
+use Prim.Native.Nat.{_-_, _≤_}
+use mathlib.Core.Path.{_≡_, refl, _∙_}
 use native.Mathlib.Omega.{arith}
 use lib.ListN.{length}
 use Rattle.text.specs.Write.{Wrote, wrote-none, wrote-then}

@@ -1,7 +1,6 @@
 -- `script::put_body` meets its contract: each shape has its own function. Assumes nothing.
 use borrow.Author.Needs.{needs}
-use mathlib.Core.Path.{_≡_, sym, _∙_}
-use borrow.Author.Tests.{ne-eqb}
+use mathlib.Core.Path.{sym, _∙_}
 use Rattle.script.specs.Record.{shape-at}
 use Rattle.script.specs.Record.{body-applied}
 use Rattle.script.proofs.put_body.Statement.{statement}

@@ -1,6 +1,6 @@
 -- `script::put_ending` meets its contract: values are asked for after a check. Assumes nothing.
 use borrow.Author.Needs.{needs}
-use mathlib.Core.Path.{_≡_, sym, _∙_}
+use mathlib.Core.Path.{sym, _∙_}
 use Rattle.script.proofs.put_ending.Statement.{statement}
 use Rattle.script.proofs.put_ending.Tie as tie
 

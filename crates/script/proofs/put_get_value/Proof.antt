@@ -1,10 +1,8 @@
 -- `script::put_get_value` meets its contract: the first slot asked for names the letter. Assumes nothing.
 use borrow.Author.Needs.{needs}
-use mathlib.Core.Path.{_≡_}
 use borrow.Author.Tests.{eq-eqb, ne-eqb}
 use native.Mathlib.Omega.{arith}
 use Rattle.engine.specs.Call as call
-use Rattle.text.specs.Names.{namesOfMark, bothNames}
 use Rattle.text.specs.Write.{wrote-none}
 use Rattle.script.specs.Ending.{value-none, value-some}
 use Rattle.script.proofs.put_get_value.Statement.{statement}

@@ -1,6 +1,7 @@
 -- `script::put_literal` meets its contract: #b, then the bits. Assumes nothing.
 use borrow.Author.Needs.{needs}
 use Rattle.text.specs.Write.{wrote-then}
+use Rattle.terms.specs.Literal.{four-digits}
 use Rattle.script.proofs.put_literal.Statement.{statement}
 use Rattle.script.proofs.put_literal.Tie as tie
 
@@ -28,7 +29,12 @@ returns c =
     let opened = digits .before .before .before .before .before .before in
     let start = opened .before .before .before .before .before in
     let short = start .good .0 .0 in
-    wrote-then short (opened .put-bytes .ensures) (rw (digits .before .argument .ensures, digits .before .before .literal-number .ensures) at (digits .put-bits .ensures))
+    wrote-then short (opened .put-bytes .ensures)
+    (rw (
+      digits .before .argument .ensures,
+      digits .before .before .literal-number .ensures,
+      four-digits (start .args .calls .now) (start .args .head) (start .pre),
+    ) at (digits .put-bits .ensures))
 
 pub put-literal-spec : {M : Type 1} → statement M
 put-literal-spec =

@@ -1,13 +1,13 @@
 -- `script::put_records` meets its contract. The loop's invariant: the walk has come to `head`, past `records` records that make `term` terms,
 -- and their lines are written. The measure is what is left of the list. Assumes nothing.
 use borrow.Author.Needs.{needs}
-use Prim.Native.Nat.{_-_, _+_, _≤_, _<_, _^_}
-use mathlib.Core.Path.{_≡_, refl, sym, ap, _∙_}
+use Prim.Native.Nat.{_-_, _+_, _≤_}
+use mathlib.Core.Path.{_≡_, refl, ap, _∙_}
 use mathlib.Core.List.{[]}
 use native.Mathlib.Omega.{arith}
 use lib.ListN.{length}
 use Rattle.engine.specs.Sorts.{Context}
-use Rattle.engine.specs.Encode.{nextAt, decode}
+use Rattle.engine.specs.Encode.{nextAt}
 use Rattle.terms.specs.Find.{firstCalls, madeAt, made-low, word}
 use Rattle.text.specs.Write.{Wrote, wrote-none, wrote-then}
 use Rattle.script.specs.Text.{lines}

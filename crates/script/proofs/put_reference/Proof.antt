@@ -1,6 +1,6 @@
 -- `script::put_reference` meets its contract: a term that was found is written by its name if it was declared. Assumes nothing.
 use borrow.Author.Needs.{needs}
-use mathlib.Core.Path.{_≡_, sym, _∙_}
+use mathlib.Core.Path.{sym, _∙_}
 use Rattle.script.specs.Pieces.{reference-none, reference-declared, reference-numbered}
 use Rattle.script.proofs.put_reference.Statement.{statement}
 use Rattle.script.proofs.put_reference.Tie as tie

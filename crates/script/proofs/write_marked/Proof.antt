@@ -1,11 +1,10 @@
 -- `script::write_marked` meets its contract: the marks, then the room, which a dry run counts; only then the text is written.
 -- Assumes nothing.
 use borrow.Author.Needs.{needs}
-use Prim.Native.Nat.{_≤_, _<_, _+_}
+use Prim.Native.Nat.{_≤_}
 use mathlib.Core.Path.{_≡_, refl, sym, _∙_}
 use native.Mathlib.Omega.{arith}
 use lib.ListN.{length}
-use Rattle.text.specs.Write.{Wrote}
 use Rattle.script.specs.Written.{scriptOf, marked-bad, marked-fine, room-short, room-enough, whole-text}
 use Rattle.script.proofs.write_marked.Statement.{statement}
 use Rattle.script.proofs.write_marked.Tie as tie

@@ -1,6 +1,6 @@
 -- `script::write_script` meets its contract: the list is checked first; a well-formed one is written. Assumes nothing.
 use borrow.Author.Needs.{needs}
-use mathlib.Core.Path.{_≡_, refl, sym, _∙_}
+use mathlib.Core.Path.{refl, sym, _∙_}
 use Rattle.script.specs.Written.{is-formed, written-formed, written-malformed}
 use Rattle.script.proofs.write_script.Statement.{statement}
 use Rattle.script.proofs.write_script.Tie as tie

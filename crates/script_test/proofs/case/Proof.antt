@@ -1,11 +1,11 @@
 -- `script_test::case` is safe. The loop's invariant: `i` words were read, up to a place in the input. Assumes nothing.
 use borrow.Author.Needs.{needs}
-use mathlib.Core.Path.{_≡_, refl, sym, _∙_}
+use mathlib.Core.Path.{_≡_, sym}
 use native.Mathlib.Omega.{arith}
-use Prim.Native.Nat.{_-_, _≤_, _<_}
+use Prim.Native.Nat.{_-_, _≤_}
 use lib.ListN.{length}
 use lib.Seq.{length-take-le}
-use lib.Seq.{length-take-le, length-front}
+use lib.Seq.{length-take-le}
 use Rattle.script_test.proofs.case.Statement.{statement}
 use Rattle.script_test.proofs.case.Tie as tie
 

@@ -1,10 +1,8 @@
 -- `script_test::main` is safe and ends: the place of the next case rises. Assumes nothing.
 use borrow.Author.Needs.{needs}
-use mathlib.Core.Path.{_≡_, refl, sym, _∙_}
-use native.Mathlib.Omega.{arith}
-use Prim.Native.Nat.{_-_, _≤_, _<_}
+use mathlib.Core.Path.{_≡_}
+use Prim.Native.Nat.{_-_, _≤_}
 use lib.ListN.{length}
-use lib.Seq.{length-take-le, length-front}
 use Rattle.script_test.proofs.main.Statement.{statement}
 use Rattle.script_test.proofs.main.Tie as tie
 

@@ -1,9 +1,7 @@
 -- `script_test::print_script` is safe: the bytes written are in the text. Assumes nothing.
 use borrow.Author.Needs.{needs}
-use mathlib.Core.Path.{_≡_, refl, sym, _∙_}
-use native.Mathlib.Omega.{arith}
-use Prim.Native.Nat.{_-_, _≤_, _<_}
-use lib.ListN.{length}
+use mathlib.Core.Path.{sym}
+use Prim.Native.Nat.{_-_}
 use lib.Seq.{length-take-le}
 use Rattle.script_test.proofs.print_script.Statement.{statement}
 use Rattle.script_test.proofs.print_script.Tie as tie

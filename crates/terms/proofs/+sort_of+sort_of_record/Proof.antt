@@ -5,7 +5,7 @@ use Prim.Native.Nat.{ℕ, _<_}
 use borrow.Fn.Kinds.{In}
 use borrow.Fn.PlainCycle.{Measures, is, falls, and}
 use Prim.Native.Nat.{_*_, _+_}
-use mathlib.Core.Path.{_≡_, refl, sym, ap, _∙_}
+use mathlib.Core.Path.{sym, ap, _∙_}
 use native.Mathlib.Omega.{arith}
 use Rattle.terms.specs.Sort.{capped, capped-sum, record-sort}
 use Rattle.engine.specs.Sorts.{sortAt}

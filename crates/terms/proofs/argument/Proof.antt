@@ -1,9 +1,7 @@
 -- `terms::argument` meets its contract: past the list's end every word is 0. Assumes nothing.
 use borrow.Author.Needs.{needs}
 use native.Mathlib.Omega.{arith}
-use mathlib.Core.Path.{sym, ap}
 use lib.ListN.{List·getD-eq-default}
-use Rattle.logic.specs.Word.{payloadOf}
 use Prim.Native.Nat.{_≤_, _+_}
 use lib.ListN.{length}
 use Rattle.terms.proofs.argument.Statement.{statement}

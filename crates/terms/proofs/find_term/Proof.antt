@@ -1,10 +1,9 @@
 -- `terms::find_term` meets its contract. The loop's invariant: `i` records were passed, which make `seen` terms, and the term is none of them.
 -- The measure is the number of records left. Assumes nothing.
 use borrow.Author.Needs.{needs}
-use Prim.Native.Nat.{_-_, _≤_, _<_, _+_, _^_}
-use mathlib.Core.Path.{_≡_, sym}
+use Prim.Native.Nat.{_-_, _≤_, _<_, _+_}
+use mathlib.Core.Path.{_≡_}
 use native.Mathlib.Omega.{arith}
-use lib.ListN.{length}
 use Rattle.terms.specs.Find.{Reached, reached-start, reached-next, found-here, found-end, found-none}
 use Rattle.terms.specs.Find.{made-low}
 use Rattle.engine.specs.Encode.{nextAt}

@@ -1,5 +1,4 @@
 -- `terms::makes_term` meets its contract: operations below 22 make terms. Assumes nothing.
-use borrow.Author.Needs.{needs}
 use mathlib.Core.Path.{sym}
 use Rattle.terms.specs.Find.{operation-makes}
 use Rattle.terms.proofs.makes_term.Statement.{statement}

@@ -1,6 +1,6 @@
 -- `terms::plain_sort` meets its contract: its arms are those of `sortBy` that look at no other term. Assumes nothing.
 use borrow.Author.Needs.{needs}
-use borrow.Author.Tests.{eq-eqb, ne-eqb}
+use borrow.Author.Tests.{ne-eqb}
 use borrow.Author.Tests.{ne-eqb}
 use Rattle.terms.proofs.plain_sort.Statement.{statement}
 use Rattle.terms.proofs.plain_sort.Tie as tie

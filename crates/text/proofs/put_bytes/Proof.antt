@@ -1,7 +1,7 @@
 -- `text::put_bytes` meets its contract. The loop's invariant: the bytes before `i` are written, and the place is the one after them.
 -- The measure is the number of bytes left. Assumes nothing.
 use borrow.Author.Needs.{needs}
-use Prim.Native.Nat.{_≤_, _-_, _<_, _^_}
+use Prim.Native.Nat.{_≤_, _-_, _<_}
 use mathlib.Core.Path.{_≡_, refl, _∙_}
 use native.Mathlib.Omega.{arith}
 use lib.ListN.{length, take}

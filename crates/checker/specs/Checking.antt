@@ -1,0 +1,194 @@
+-- The check, record by record: what holds between two records, and what the answer is where it ends.
+use native.Mathlib.Nat.{le-refl}
+use Rattle.checker.specs.declared.Wrong.the-variants.{None, At}
+use mathlib.Core.Path.{_≡_, refl, sym, ap, ap₂, _∙_, subst}
+use mathlib.Core.Bool.{Bool, true, false, not, _&&_}
+use mathlib.Core.List.{List}
+use mathlib.Core.Option.{Option, some, none}
+use Prim.Native.Nat.{ℕ, zero, suc, _+_, _-_, _≤_, _<_}
+use native.Mathlib.Omega.{arith}
+use lib.ListN.{length, getD, set, length-set, replicate, length-replicate}
+use Rattle.bitvec.specs.Bits.{bit}
+use Rattle.engine.specs.Call.{Call}
+use Rattle.engine.specs.Call as c
+use Rattle.engine.specs.Sorts.{Context, start, after}
+use Rattle.engine.specs.Encode.{Op, makesTerm, operationAt, countAt, callOf, callAt}
+use Rattle.engine.specs.Encode as o
+use Rattle.engine.specs.WellFormed.{declares, headStands, wellFormed, readFrom, outcome}
+use Rattle.engine.specs.Steps.{read-end, read-step, read-head}
+use Rattle.call_list.specs.Operations.{isDeclare, declares-of}
+use Rattle.checker.specs.declared.CallList.{CallList}
+use Rattle.checker.specs.declared.CallList.the-variants.{WellFormed, Malformed}
+use Rattle.checker.specs.declared.Seen.{Seen}
+use Rattle.checker.specs.Tables.{checkedAs, isCheck, seenNext, noteSort, noteName, faultBy, pickList, atMost, wrongAs}
+use Rattle.checker.specs.TableLaws.{ReadTo, NamesTo, names-none, names-next, sorts-more, fault-none, fault-some}
+
+-- The answer of the check, and the table of sorts that it leaves for a well-formed list.
+pub record Checked (w table : List ℕ) (answer : CallList) : Type 0 where
+  pub is : answer ≡ checkedAs (outcome w)
+  pub tabled : (y : Context) → outcome w ≡ wellFormed y → ReadTo w (length w) y table (length (y .sorts))
+
+-- Nothing is read at first.
+pub read-start : (w table : List ℕ) → ReadTo w 0 start table 0
+read-start w table = record {
+  records = 0;
+  passes = (refl, refl);
+  within = omega arith;
+  tabled = λ k h l. absurd (omega arith);
+  counts = refl;
+}
+
+-- Between two records: what the calls so far leave, as the tables and counts have it, and what remains to be read.
+pub record Checking (w table names : List ℕ) (s : Seen) : Type 0 where
+  pub context : Context
+  pub fuel : ℕ
+  pub read : ReadTo w (s .at) context table (s .terms)
+  pub named : NamesTo names (context .names)
+  pub room : 589824 ≤ length names
+  pub declared : s .declared ≡ length (context .names)
+  pub checked : s .checked ≡ context .checked
+  pub enough : length w - s .at ≤ fuel
+  pub rest : outcome w ≡ readFrom fuel w (s .at) context
+  pub few-terms : s .terms ≤ s .at
+  pub few-names : s .declared ≤ s .at
+
+abbrev pub nothingSeen : Seen
+nothingSeen = record { at = 0; terms = 0; declared = 0; checked = false }
+
+pub checking-start : (w table names : List ℕ) → 589824 ≤ length names → ((k : ℕ) → getD names k 0 ≡ 0)
+    → Checking w table names nothingSeen
+checking-start w table names room zeros = record {
+  context = start;
+  fuel = length w;
+  read = read-start w table;
+  named = names-none names zeros;
+  room = room;
+  declared = refl;
+  checked = refl;
+  enough = omega arith;
+  rest = refl;
+  few-terms = omega arith;
+  few-names = omega arith;
+}
+
+-- What a call does to the names and the check.
+names-grow : (x : Context) (call : Call) → length (after x call .names) ≡ length (x .names) + bit (declares call)
+names-grow x (c.term t) = omega arith
+names-grow x (c.declare name w) = omega arith
+names-grow x (c.assert k) = omega arith
+names-grow x c.check = omega arith
+
+check-after : (x : Context) (op : Op) (n : ℕ) (p : ℕ → ℕ) → x .checked ≡ false → isCheck op ≡ after x (callOf op n p) .checked
+check-after x o.boolLit n p e = sym e
+check-after x o.boolIte n p e = sym e
+check-after x o.not n p e = sym e
+check-after x o.and n p e = sym e
+check-after x o.lit n p e = sym e
+check-after x o.equal n p e = sym e
+check-after x o.ite n p e = sym e
+check-after x o.concat n p e = sym e
+check-after x o.extract n p e = sym e
+check-after x o.bvnot n p e = sym e
+check-after x (o.op2 op) n p e = sym e
+check-after x (o.compare op) n p e = sym e
+check-after x o.declare n p e = sym e
+check-after x o.assert n p e = sym e
+check-after x o.check n p e = refl
+check-after x o.unknown n p e = refl
+
+pub bit-low : (b : Bool) → bit b ≤ 1
+bit-low true = omega arith
+bit-low false = omega arith
+
+note-length : (b : Bool) (names : List ℕ) (i : ℕ) → length (pickList b (set names i 1) names) ≡ length names
+note-length true names i = length-set names i 1
+note-length false names i = refl
+
+module _ {w table names : List ℕ} {s : Seen} (k : Checking w table names s) (inside : s .at < length w) where
+  some-fuel : {P : Type 0} → ((n : ℕ) → k .fuel ≡ suc n → P) → P
+  some-fuel f = go (k .fuel) (k .enough) f
+    where
+      go : {P : Type 0} (n : ℕ) → length w - s .at ≤ n → ((m : ℕ) → n ≡ suc m → P) → P
+      go zero h f = absurd (omega arith)
+      go (suc n) h f = f n refl
+
+  -- Nothing may follow check.
+  pub checked-fault : s .checked ≡ true → Malformed (s .at) ≡ checkedAs (outcome w)
+  checked-fault e =
+      some-fuel (λ n f.
+      let falls : headStands (k .context) w (s .at) ≡ false = rw (sym (k .checked) ∙ e) in
+      sym (ap checkedAs (k .rest ∙ ap (λ (m : ℕ). readFrom m w (s .at) (k .context)) f ∙ read-head n w (s .at) (k .context) inside falls)))
+
+  module _ (open-list : s .checked ≡ false) where
+    unchecked : k .context .checked ≡ false
+    unchecked = sym (k .checked) ∙ open-list
+
+    pub record-wrong : (p : ℕ) → faultBy table names w (s .terms) (s .at) ≡ some p → Malformed p ≡ checkedAs (outcome w)
+    record-wrong p e =
+        some-fuel (λ n f.
+        sym (ap checkedAs (k .rest ∙ ap (λ (m : ℕ). readFrom m w (s .at) (k .context)) f
+        ∙ fault-some (k .read) names (k .named) inside unchecked p n e)))
+
+    pub record-right : faultBy table names w (s .terms) (s .at) ≡ none
+        → Checking w (noteSort table w (s .at) (s .terms)) (noteName names w (s .at)) (seenNext w s)
+    record-right e =
+        some-fuel (λ n f.
+        let right = fault-none (k .read) names (k .named) inside unchecked e in
+        record {
+          context = after (k .context) (callAt w (s .at));
+          fuel = n;
+          read = sorts-more (k .read) right;
+          named = names-next names w (s .at) (k .context) right (k .room) (k .named);
+          room = rw (note-length (isDeclare (operationAt w (s .at)) && atMost (getD w (s .at + 2) 0) 65535) names _) (k .room);
+          declared =
+              ap₂ _+_ (k .declared) (ap bit (sym (declares-of (operationAt w (s .at)) (countAt w (s .at)) _)))
+              ∙ sym (names-grow (k .context) (callAt w (s .at)));
+          checked = check-after (k .context) (operationAt w (s .at)) (countAt w (s .at)) _ unchecked;
+          enough = omega (arith, k .enough, f);
+          rest =
+              k .rest ∙ ap (λ (m : ℕ). readFrom m w (s .at) (k .context)) f
+              ∙ read-step n w (s .at) (k .context) inside (right .head) (right .arguments);
+          few-terms = omega (arith, k .few-terms, bit-low (makesTerm (operationAt w (s .at))));
+          few-names = omega (arith, k .few-names, bit-low (isDeclare (operationAt w (s .at))));
+        })
+
+-- At the end.
+pub checked-end : {w table names : List ℕ} {s : Seen} → Checking w table names s → length w ≤ s .at
+    → Checked w table (WellFormed (s .terms) (s .declared))
+checked-end {w} {table} {names} {s} k end =
+    let all : outcome w ≡ wellFormed (k .context) = k .rest ∙ read-end (k .fuel) w (s .at) (k .context) end in
+    record {
+      is = rw all (ap₂ WellFormed (k .read .counts) (k .declared));
+      tabled = λ y e.
+          let same : k .context ≡ y = cc in
+          let at-end : s .at ≡ length w = omega (arith, k .read .within) in
+          subst (λ (z : Context). ReadTo w (length w) z table (length (z .sorts))) same
+          (subst (λ (n : ℕ). ReadTo w (length w) (k .context) table n) (k .read .counts)
+          (subst (λ (n : ℕ). ReadTo w n (k .context) table (s .terms)) at-end (k .read)));
+    }
+
+-- A refusal says nothing of the table.
+pub checked-wrong : {w table : List ℕ} {p : ℕ} → Malformed p ≡ checkedAs (outcome w) → Checked w table (Malformed p)
+checked-wrong {w} {table} {p} e =
+    record { is = e; tabled = λ y f. absurd (let z : Malformed p ≡ checkedAs (wellFormed y) = rw f at e in never y z) }
+  where
+    never : (y : Context) → Malformed p ≡ checkedAs (wellFormed y) → ⊥
+    never y z = let q : _≡_ {A = ℕ} 0 1 = cc in omega arith
+
+-- The answer of `record_fault`, read back.
+pub wrong-at : (o : Option ℕ) {p : ℕ} → wrongAs o ≡ At p → o ≡ some p
+wrong-at none e = absurd (let z : _≡_ {A = ℕ} 0 1 = cc in omega arith)
+wrong-at (some i) e = cc
+
+pub wrong-none : (o : Option ℕ) → wrongAs o ≡ None → o ≡ none
+wrong-none none e = refl
+wrong-none (some i) e = absurd (let z : _≡_ {A = ℕ} 0 1 = cc in omega arith)
+
+-- A table of zeros.
+pub zeros-room : (n : ℕ) → n ≤ length {A = ℕ} (replicate n 0)
+zeros-room n = rw (length-replicate {A = ℕ} n 0) (le-refl n)
+
+pub zeros-all : (n k : ℕ) → _≡_ {A = ℕ} (getD (replicate n 0) k 0) 0
+zeros-all zero k = refl
+zeros-all (suc n) zero = refl
+zeros-all (suc n) (suc k) = zeros-all n k

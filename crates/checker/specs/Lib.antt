@@ -1,0 +1,4 @@
+pub mod Tables
+pub mod Sums
+pub mod TableLaws
+pub mod Checking

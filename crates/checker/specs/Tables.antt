@@ -1,0 +1,139 @@
+-- The checker's tables: the sorts of the first terms and the names declared so far, and what it reads from them.
+use mathlib.Core.Bool.{Bool, true, false, not, cond, _&&_}
+use mathlib.Core.List.{List}
+use mathlib.Core.Option.{Option, some, none}
+use Prim.Native.Nat.{ℕ, _+_, _-_, _*_, min}
+use lib.ListN.{length, getD, set}
+use lib.Dec.{eqb, leb, ltb}
+use Rattle.logic.specs.Word.{kindOf, payloadOf}
+use Rattle.engine.specs.Sorts.{Sort, noSort, start, after}
+use Rattle.bitvec.specs.Bits.{bit}
+use Rattle.checker.specs.declared.Seen.{Seen}
+use Rattle.engine.specs.Encode.{Op, makesTerm, operationAt, countAt, argumentAt, nextAt, callAt, callOf}
+use Rattle.engine.specs.WellFormed.{
+  isNumber,
+  countFits,
+  argumentOf,
+  admits,
+  declares,
+  firstFailing,
+  Outcome,
+  wellFormed,
+  malformed,
+  outcome,
+}
+use Rattle.engine.specs.Structure.{originOf, sortFrom, sortOfTerm, declaredBefore}
+use Rattle.call_list.specs.Operations.{isDeclare}
+use Rattle.checker.specs.declared.Wrong.{Wrong}
+use Rattle.checker.specs.declared.Wrong.the-variants.{None, At}
+use Rattle.checker.specs.declared.CallList.{CallList}
+use Rattle.checker.specs.declared.CallList.the-variants.{WellFormed, Malformed}
+
+-- The answer of the checker: how many terms and names, or the place.
+abbrev pub checkedAs : Outcome → CallList
+checkedAs (wellFormed x) = WellFormed (length (x .sorts)) (length (x .names))
+checkedAs (malformed at) = Malformed at
+
+abbrev pub pickList : Bool → List ℕ → List ℕ → List ℕ
+pickList true a b = a
+pickList false a b = b
+
+-- ---- sorts
+
+-- The sort of the term that a word refers to, of `terms` terms so far.
+abbrev pub wordSort : List ℕ → List ℕ → ℕ → ℕ → Sort
+wordSort table w terms word =
+    cond (eqb (kindOf word) 4 && ltb (payloadOf word) terms) (sortOfTerm table w (payloadOf word)) noSort
+
+-- The sort of the term that the record at a place makes.
+abbrev pub recordSort : List ℕ → List ℕ → ℕ → Sort
+recordSort table w at = sortFrom (sortOfTerm table w) (originOf (callAt w at))
+
+-- Argument i of the record at a place may stand there.
+abbrev pub standsBy : List ℕ → List ℕ → ℕ → ℕ → ℕ → Bool
+standsBy table w terms at i =
+    admits (argumentOf (operationAt w at) i) (argumentAt w at 0) (getD w (at + i) 0) (argumentAt w at i)
+    (wordSort table w terms (getD w (at + i) 0)) (wordSort table w terms (argumentAt w at i))
+
+abbrev pub wrongBy : List ℕ → List ℕ → ℕ → ℕ → Option ℕ
+wrongBy table w terms at = firstFailing (standsBy table w terms at) 0 (countAt w at)
+
+abbrev pub wrongAs : Option ℕ → Wrong
+wrongAs none = None
+wrongAs (some i) = At i
+
+-- ---- names
+
+-- The place in the table of a name of an index below 65,536.
+abbrev pub slotOf : ℕ → ℕ → ℕ → ℕ
+slotOf letter index suffix = (letter * 3 + suffix) * 65536 + index
+
+abbrev pub atMost : ℕ → ℕ → Bool
+atMost word bound = isNumber word && leb (payloadOf word) bound
+
+-- Three words spell a name declared before a place: from the table, beyond it by the records.
+abbrev pub knownBy : List ℕ → List ℕ → ℕ → ℕ → ℕ → ℕ → Bool
+knownBy names w at letter index suffix =
+    cond (atMost letter 2)
+    (cond (atMost suffix 2)
+    (cond (atMost index 65535)
+    (eqb (getD names (slotOf (payloadOf letter) (payloadOf index) (payloadOf suffix)) 0) 1)
+    (declaredBefore w (min at (length w)) letter index suffix))
+    false)
+    false
+
+abbrev pub againBy : List ℕ → List ℕ → ℕ → Bool
+againBy names w at =
+    cond (isDeclare (operationAt w at))
+    (knownBy names w at (getD w (at + 1) 0) (getD w (at + 2) 0) (getD w (at + 3) 0)) false
+
+-- The head of the record at a place stands.
+abbrev pub headBy : List ℕ → List ℕ → ℕ → Bool
+headBy names w at =
+    cond (eqb (kindOf (getD w at 0)) 2)
+    (cond (ltb (countAt w at) (length w - at))
+    (cond (countFits (operationAt w at) (countAt w at) (getD w (at + 1) 0)) (not (againBy names w at)) false)
+    false)
+    false
+
+-- The place of the first fault of a record.
+abbrev pub onWrong : Option ℕ → (ℕ → ℕ) → Option ℕ
+onWrong none f = none
+onWrong (some i) f = some (f i)
+
+abbrev pub pickPlace : Bool → Option ℕ → Option ℕ → Option ℕ
+pickPlace true a b = a
+pickPlace false a b = b
+
+abbrev pub faultBy : List ℕ → List ℕ → List ℕ → ℕ → ℕ → Option ℕ
+faultBy sorts names w terms at =
+    pickPlace (headBy names w at) (onWrong (wrongBy sorts w terms at) (λ i. at + 1 + i)) (some at)
+
+-- ---- what a record adds
+
+-- The sort of its term, if it makes one.
+abbrev pub noteSort : List ℕ → List ℕ → ℕ → ℕ → List ℕ
+noteSort table w at terms =
+    pickList (makesTerm (operationAt w at)) (set table terms (recordSort table w at)) table
+
+-- The name that it declares, of an index below 65,536.
+abbrev pub noteName : List ℕ → List ℕ → ℕ → List ℕ
+noteName names w at =
+    pickList (isDeclare (operationAt w at) && atMost (getD w (at + 2) 0) 65535)
+    (set names
+    (slotOf (payloadOf (getD w (at + 1) 0)) (payloadOf (getD w (at + 2) 0)) (payloadOf (getD w (at + 3) 0))) 1)
+    names
+
+-- Whether an operation is the check, or none that a list can have.
+abbrev pub isCheck : Op → Bool
+isCheck op = after start (callOf op 0 (λ i. 0)) .checked
+
+-- How far a list is read, after the record at its place.
+abbrev pub seenNext : List ℕ → Seen → Seen
+seenNext w s =
+    record {
+      at = nextAt w (s .at);
+      terms = s .terms + bit (makesTerm (operationAt w (s .at)));
+      declared = s .declared + bit (isDeclare (operationAt w (s .at)));
+      checked = isCheck (operationAt w (s .at));
+    }

@@ -1,0 +1,127 @@
+-- `eval::evaluate_records` meets its contract: between two records what is written and counted is that of the calls so far. The
+-- measure is how many words are left. Assumes nothing.
+use borrow.Author.Needs.{needs}
+use Prim.Native.Nat.{_-_}
+use mathlib.Core.Path.{_≡_, refl, ap, _∙_}
+use native.Mathlib.Omega.{arith}
+use lib.ListN.{length}
+use Rattle.call_list.specs.Operations.{opFrom}
+use Rattle.eval.specs.declared.Progress.{Progress}
+use Rattle.eval.specs.RecordLaws.{false-low, EvaluatedTo, evaluated-start, evaluated-next, evaluated-end}
+use Rattle.eval.proofs.evaluate_records.Statement.{statement}
+use Rattle.eval.proofs.evaluate_records.Tie as tie
+
+abbrev Inv-loop : tie.InvT-loop
+Inv-loop calls bits values₀ sorts₀ done₀ values sorts done =
+    (length values ≡ length values₀) × (length sorts ≡ length sorts₀) × EvaluatedTo calls bits values₀ sorts values done
+
+abbrev μ-loop : tie.MeasureT-loop
+μ-loop calls bits values₀ sorts₀ done₀ values sorts done = length calls - done .at
+
+loop-holds : tie.Need-loop-holds Inv-loop μ-loop
+loop-holds c =
+    let start = c .before .before .before .before in (refl, refl, evaluated-start (start .args .sorts .now) (start .pre))
+
+operation-at-requires : tie.Need-operation-at-requires Inv-loop μ-loop
+operation-at-requires c κs = search needs
+
+argument-requires : tie.Need-argument-requires Inv-loop μ-loop
+argument-requires c κs = search needs
+
+cast-number-at : tie.Need-cast-number-at Inv-loop μ-loop
+cast-number-at c = search needs
+
+number-at-requires : tie.Need-number-at-requires Inv-loop μ-loop
+number-at-requires c κs = search needs
+
+false-of-requires : tie.Need-false-of-requires Inv-loop μ-loop
+false-of-requires c κs = search needs
+
+add-falses : tie.Need-add-falses Inv-loop μ-loop
+add-falses c =
+    let inside = c .before .before .before .before .before .before in
+    let state = inside .before .before .loop in
+    omega (
+      arith,
+      inside .if1 .taken,
+      state .inv .2 .few-falses,
+      c .before .false-of .ensures,
+      false-low (opFrom (c .before .before .before .before .before .operation-at .result)) (c .before .before .number-at .result),
+    )
+
+number-at-requires-2 : tie.Need-number-at-requires-2 Inv-loop μ-loop
+number-at-requires-2 c κs = search needs
+
+write-value-requires : tie.Need-write-value-requires Inv-loop μ-loop
+write-value-requires c κs = c .before .before .before .before .before .before .before .before .before .if1 .taken
+
+progress-after-requires : tie.Need-progress-after-requires Inv-loop μ-loop
+progress-after-requires c κs =
+    let written = c .before .before .before .before in
+    let counted = written .before .before .before .before .before in
+    let read = counted .before in
+    let inside = read .before .before .before .before in
+    let state = inside .before .before .loop in
+    (inside .if1 .taken, state .inv .2 .few-terms, state .inv .2 .few-names)
+
+loop-less : tie.Need-loop-less Inv-loop μ-loop
+loop-less c =
+    let written = c .before .before .before .before .before in
+    let counted = written .before .before .before .before .before in
+    let read = counted .before in
+    let inside = read .before .before .before .before in
+    let state = inside .before .before .loop in
+    omega (arith, inside .if1 .taken, ap (λ (done : Progress). done .at) (c .progress-after .ensures))
+
+loop-again : tie.Need-loop-again Inv-loop μ-loop
+loop-again c =
+    let written = c .before .before .before .before .before in
+    let counted = written .before .before .before .before .before in
+    let read = counted .before in
+    let inside = read .before .before .before .before in
+    let state = inside .before .before .loop in (
+      written .write-value .kept .1 .0 ∙ state .inv .0,
+      written .write-value .kept .1 .1 .0 ∙ state .inv .1,
+      rw (
+        c .progress-after .ensures,
+        written .write-value .ensures .0,
+        written .write-value .ensures .1,
+        written .before .before .before .number-at2 .ensures,
+        counted .false-of .ensures,
+        read .number-at .ensures,
+        read .before .argument .ensures,
+        read .before .before .before .operation-at .ensures,
+      )
+          (evaluated-next (state .inv .2) (inside .if1 .taken)),
+    )
+
+same-length : tie.Need-same-length Inv-loop μ-loop
+same-length c = c .before .before .loop .inv .0
+
+same-length-2 : tie.Need-same-length-2 Inv-loop μ-loop
+same-length-2 c = c .before .before .loop .inv .1
+
+returns : tie.Need-returns Inv-loop μ-loop
+returns c = evaluated-end (c .before .before .loop .inv .2) (c .if1 .left)
+
+pub evaluate-records-spec : {M : Type 1} → statement M
+evaluate-records-spec =
+    tie.close
+    (tie.spec
+    Inv-loop
+    μ-loop
+    loop-holds
+    operation-at-requires
+    argument-requires
+    cast-number-at
+    number-at-requires
+    false-of-requires
+    add-falses
+    number-at-requires-2
+    write-value-requires
+    progress-after-requires
+    loop-less
+    loop-again
+    same-length
+    same-length-2
+    returns)

@@ -1,0 +1,67 @@
+-- `eval::wrong_bits` meets its contract: each way out has what its tests say. Assumes nothing.
+use mathlib.Core.Path.{sym, ap, _∙_}
+use borrow.Author.Tests.{lt-ltb, le-ltb}
+use Rattle.call_list.specs.Operations.{isDeclare}
+use borrow.Author.Needs.{needs}
+use Rattle.eval.proofs.wrong_bits.Statement.{statement}
+use Rattle.eval.proofs.wrong_bits.Tie as tie
+
+operation-at-requires : tie.Need-operation-at-requires
+operation-at-requires c κs = search needs
+
+is-declare-requires : tie.Need-is-declare-requires
+is-declare-requires c κs = search needs
+
+mul-fits-width : tie.Need-mul-fits-width
+mul-fits-width c = search needs
+
+shared-slice-read-fits-width : tie.Need-shared-slice-read-fits-width
+shared-slice-read-fits-width c = search needs
+
+argument-requires : tie.Need-argument-requires
+argument-requires c κs = search needs
+
+fits-width-requires : tie.Need-fits-width-requires
+fits-width-requires c κs = search needs
+
+returns : tie.Need-returns
+returns c =
+    let fit = c .before in
+    let asked = fit .before .before .before in
+    let told = asked .before in
+    let declares = sym (told .before .is-declare .ensures ∙ ap isDeclare (told .before .before .operation-at .ensures)) ∙ told .if1 .taken in
+    rw (declares, lt-ltb _ _ (asked .if2 .taken), ← fit .before .argument .ensures, ← fit .fits-width .ensures, c .if3 .taken)
+
+returns-2 : tie.Need-returns-2
+returns-2 c =
+    let fit = c .before in
+    let asked = fit .before .before .before in
+    let told = asked .before in
+    let declares = sym (told .before .is-declare .ensures ∙ ap isDeclare (told .before .before .operation-at .ensures)) ∙ told .if1 .taken in
+    rw (declares, lt-ltb _ _ (asked .if2 .taken), ← fit .before .argument .ensures, ← fit .fits-width .ensures, c .if3 .left)
+
+returns-3 : tie.Need-returns-3
+returns-3 c =
+    let told = c .before in
+    let declares = sym (told .before .is-declare .ensures ∙ ap isDeclare (told .before .before .operation-at .ensures)) ∙ told .if1 .taken in
+    rw (declares, le-ltb _ _ (c .if2 .left))
+
+returns-4 : tie.Need-returns-4
+returns-4 c =
+    let declares = sym (c .before .is-declare .ensures ∙ ap isDeclare (c .before .before .operation-at .ensures)) ∙ c .if1 .left in
+    rw declares
+
+pub wrong-bits-spec : {M : Type 1} → statement M
+wrong-bits-spec =
+    tie.close
+    (tie.spec
+    operation-at-requires
+    is-declare-requires
+    mul-fits-width
+    shared-slice-read-fits-width
+    argument-requires
+    fits-width-requires
+    returns
+    returns-2
+    returns-3
+    returns-4)
