@@ -5,3 +5,4 @@ pub mod AssignedLaws
 pub mod Evaluating
 pub mod RecordLaws
 pub mod Answers
+pub mod Satisfied

@@ -1,5 +1,5 @@
 -- One record more: what the evaluator's loops keep from turn to turn.
-use mathlib.Core.Path.{_≡_, refl, sym, ap, _∙_}
+use mathlib.Core.Path.{_≡_, refl, sym, ap, _∙_, subst}
 use mathlib.Core.Bool.{Bool, true, false, not, cond, true≢false}
 use mathlib.Core.List.{List, [], _∷_, map}
 use mathlib.Core.Option.{Option, some, none}
@@ -21,7 +21,7 @@ use Rattle.engine.specs.Encode as o
 use Rattle.engine.specs.WellFormed.{wellFormed, readFrom, outcome}
 use Rattle.engine.specs.Emit.{overwrite}
 use Rattle.engine.specs.ReadBack.{decode-formed}
-use Rattle.engine.specs.SortLaws.{run-sorted}
+use Rattle.engine.specs.SortLaws.{Sorted, run-sorted}
 use Rattle.engine.specs.Steps.{calls-end, calls-step, calls-enough}
 use Rattle.engine.specs.Reached.{right-read}
 use Rattle.call_list.specs.Operations.{isDeclare}
@@ -278,13 +278,13 @@ module _ {w bits slice₀ table slice : List ℕ} {done : Progress} (k : Evaluat
             room = k .room;
           }
 
--- A well-formed list has as many values as terms.
-pub values-many : (w bits : List ℕ) (y : Context) → outcome w ≡ wellFormed y → length (termValues w bits) ≡ length (y .sorts)
-values-many w bits y e =
+-- The values of a well-formed list are of the sorts of its terms.
+pub values-sorted : (w bits : List ℕ) (y : Context) → outcome w ≡ wellFormed y → Sorted (y .sorts) (termValues w bits)
+values-sorted w bits y e =
     let all = decode-formed w y e in
-    run-sorted (assigned (decode w) bits) start [] (decode w) (all .formed) (assigned-fits start (decode w) (all .formed) bits)
-    (record { many = refl; each = λ k h. absurd (omega arith) }) .many
-    ∙ ap (λ (x : Context). length (x .sorts)) (all .left)
+    subst (λ (x : Context). Sorted (x .sorts) (termValues w bits)) (all .left)
+    (run-sorted (assigned (decode w) bits) start [] (decode w) (all .formed) (assigned-fits start (decode w) (all .formed) bits)
+    (record { many = refl; each = λ k h. absurd (omega arith) }))
 
 -- What evaluating record by record asks: a well-formed list, bits that fit, and room for its terms.
 pub record Evaluable (w bits slice : List ℕ) : Type 0 where
@@ -309,7 +309,7 @@ evaluated-start {w} {bits} {slice} table k =
       few-terms = omega arith;
       few-names = omega arith;
       few-falses = omega arith;
-      room = let many = values-many w bits (k .leaving) (k .formed) in let room = k .room in omega arith;
+      room = let many = values-sorted w bits (k .leaving) (k .formed) .many in let room = k .room in omega arith;
     }
 
 -- At the end every term's number is written and every false assertion counted.
