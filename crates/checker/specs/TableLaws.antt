@@ -246,10 +246,10 @@ module _ {w : List ℕ} {at : ℕ} {x : Context} {table : List ℕ} {terms : ℕ
   abbrev next : Context
   next = after x (callAt w at)
 
-  -- The sort that is written is the term's.
-  written : Below (length (x .sorts)) (originOf (callAt w at))
+  -- The sort of a record, from the table, is what its call says of it.
+  pub record-sort-said : Below (length (x .sorts)) (originOf (callAt w at))
       → recordSort table w at ≡ sortFrom (sortAt (x .sorts)) (originOf (callAt w at))
-  written b =
+  record-sort-said b =
       sortFrom-ext (length (x .sorts)) (sortOfTerm table w) (sortAt (x .sorts)) (originOf (callAt w at)) b
       (λ k h. term-sort-is r k h)
 
@@ -269,7 +269,7 @@ module _ {w : List ℕ} {at : ℕ} {x : Context} {table : List ℕ} {terms : ℕ
       go : Makes x (callAt w at)
           → ReadTo w (nextAt w at) next (noteSort table w at terms) (terms + bit (makesTerm (operationAt w at)))
       go (one s a m q b) =
-          let same : recordSort table w at ≡ s = written b ∙ sym q in
+          let same : recordSort table w at ≡ s = record-sort-said b ∙ sym q in
           rw (makes-op w at x right, m)
           (up-to (set table terms (recordSort table w at)) (terms + 1)
           (rw (a, same) (tabled-more table (x .sorts) s terms (r .counts) (r .tabled)))

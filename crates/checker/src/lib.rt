@@ -125,7 +125,7 @@ fn word_sort(calls: &[u32], sorts: &[u8], terms: usize, word: u32) -> u32
 }
 
 // The sort of the term that the record at a place makes.
-fn record_sort(calls: &[u32], sorts: &[u8], at: usize) -> u32
+pub fn record_sort(calls: &[u32], sorts: &[u8], at: usize) -> u32
     ensures { λ r. ⌜ r ≡ recordSort (now (sorts .entry)) (now (calls .entry)) at ⌝ }
 {
     match call_list::origin_at(calls, at) {

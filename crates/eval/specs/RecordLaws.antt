@@ -25,7 +25,7 @@ use Rattle.engine.specs.SortLaws.{Sorted, run-sorted}
 use Rattle.engine.specs.Steps.{calls-end, calls-step, calls-enough}
 use Rattle.engine.specs.Reached.{right-read}
 use Rattle.call_list.specs.Operations.{isDeclare}
-use Rattle.terms.specs.Sort.{payloads}
+use Rattle.terms.specs.Literal.{payloads}
 use Rattle.checker.specs.Tables.{pickList, pickPlace, noteSort}
 use Rattle.checker.specs.TableLaws.{ReadTo, term-sort-is, sorts-more}
 use Rattle.checker.specs.Checking.{bit-low, read-start}

@@ -22,7 +22,7 @@ use Rattle.engine.specs.Structure.{sortOfTerm}
 use Rattle.engine.specs.ReadBack.{reads-at}
 use Rattle.engine.specs.Reached.{Right}
 use Rattle.call_list.specs.Operations.{isDeclare}
-use Rattle.terms.specs.Sort.{payloads}
+use Rattle.terms.specs.Literal.{payloads}
 use Rattle.terms.specs.Literal.{fourDigits, literalNumber, four-digits, literal-fits}
 use Rattle.checker.specs.Tables.{pickList, pickPlace}
 use Rattle.eval.specs.declared.Progress.{Progress}

@@ -15,7 +15,7 @@ ghost use Rattle.bitvec.specs.Words.{atWidth, holdsAt};
 ghost use Rattle.engine.specs.Encode.{decode};
 ghost use Rattle.engine.specs.Meaning.{denoteOp, denoteCompare};
 ghost use Rattle.engine.specs.Emit.{binaryOf, compareOf};
-ghost use Rattle.terms.specs.Sort.{payloads};
+ghost use Rattle.terms.specs.Literal.{payloads};
 ghost use Rattle.logic.specs.Table.{tab};
 ghost use Rattle.call_list.specs.Operations.{opFrom};
 ghost use Rattle.checker.specs.Tables.{wrongAs, noteSort};

@@ -18,7 +18,7 @@ use Rattle.engine.specs.Steps.{calls-end, calls-step}
 use Rattle.text.specs.Bytes.{ascii}
 use Rattle.text.specs.Names.{nameText, spelling, namesOfMark, bothNames, askedFrom, asked}
 use Rattle.terms.specs.Find.{firstCalls, Reached, reached-start, reached-next, first-more, split, madeAt}
-use Rattle.terms.specs.Sort.{payloads}
+use Rattle.terms.specs.Literal.{payloads}
 use Rattle.script.specs.Shape.{shapeOf}
 use Rattle.script.specs.Record.{shapeAt}
 use Rattle.script.specs.Text.{spaced, getValue}

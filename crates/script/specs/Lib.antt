@@ -7,3 +7,4 @@ pub mod Walk
 pub mod Ending
 pub mod Marks
 pub mod Written
+pub mod Tables

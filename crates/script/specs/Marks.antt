@@ -14,7 +14,7 @@ use Rattle.engine.specs.Call as c
 use Rattle.engine.specs.Encode.{Op, letterNumber, suffixNumber, letters, suffixes, operationAt, countAt, callOf, callAt}
 use Rattle.engine.specs.Encode as o
 use Rattle.text.specs.Names.{namesOfMark, bothNames}
-use Rattle.terms.specs.Sort.{payloads}
+use Rattle.terms.specs.Literal.{payloads}
 use Rattle.script.specs.declared.Mark.{Mark}
 use Rattle.script.specs.declared.Mark.the-variants.{Fine, Bad}
 use Rattle.script.specs.Shape.{shapeOf, nameOf}

@@ -17,7 +17,7 @@ use Rattle.text.specs.Bytes.{ascii, decimal}
 use Rattle.text.specs.Names.{nameText}
 use Rattle.terms.specs.declared.Found.the-variants as found
 use Rattle.terms.specs.Find.{firstCalls, FoundIn}
-use Rattle.terms.specs.Sort.{payloads}
+use Rattle.terms.specs.Literal.{payloads}
 use Rattle.script.specs.Text.{numbered, reference, sortText, bitsText, extractText, spaced, applied, conjunction}
 use Rattle.script.specs.Shape.{shapeOf, nameOf, spelled-by}
 

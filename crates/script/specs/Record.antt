@@ -1,14 +1,14 @@
 -- The line of a record: what the code writes at a place, after some records.
 use mathlib.Core.Path.{_≡_, _∙_}
 use mathlib.Core.List.{List}
-use Prim.Native.Nat.{ℕ, _-_, _%_, _≤_}
+use Prim.Native.Nat.{ℕ, _-_, _%_}
 use lib.ListN.{length, getD}
 use borrow.Author.Tests.{ne-eqb}
 use Rattle.logic.specs.Word.{payloadOf}
 use Rattle.engine.specs.Encode.{opOf, operationAt, countAt, callAt}
 use Rattle.terms.specs.Made.{made, sortsOf, sortOfCall}
 use Rattle.terms.specs.Find.{firstCalls}
-use Rattle.terms.specs.Sort.{payloads}
+use Rattle.terms.specs.Literal.{payloads}
 use Rattle.script.specs.Text.{reference, applied, line}
 use Rattle.script.specs.Pieces.{argumentTexts}
 use Rattle.terms.specs.Literal.{LiteralFits}
@@ -33,10 +33,9 @@ pub body-applied : (w : List ℕ) (records head : ℕ) → (shapeAt w head ≡ 1
 body-applied w records head one two three four =
     rw (ne-eqb (shapeAt w head) 1 one, ne-eqb (shapeAt w head) 2 two, ne-eqb (shapeAt w head) 3 three, ne-eqb (shapeAt w head) 4 four)
 
--- What the writer needs of a record: a literal's numbers are of 16 bits, and a term has a sort.
-pub record Ready (w : List ℕ) (records head : ℕ) : Type 0 where
-  pub literal : shapeAt w head ≡ 3 → LiteralFits w head
-  pub sort : sortOfCall (sortsOf (firstCalls w records)) (callAt w head) ≤ 65
+-- What the writer needs of a record: a literal's numbers are of 16 bits.
+abbrev pub Ready : List ℕ → ℕ → Type 0
+Ready w head = shapeAt w head ≡ 3 → LiteralFits w head
 
 -- The line of the record at a place, after some records that make some terms.
 abbrev pub defineAt : List ℕ → ℕ → ℕ → ℕ → List ℕ

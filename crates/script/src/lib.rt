@@ -11,8 +11,10 @@ ghost use lib.ListN.{length, getD, take, drop};
 ghost use Rattle.engine.specs.Call as c;
 ghost use Rattle.engine.specs.Encode.{opOf, letters, suffixes, callAt, decode};
 ghost use Rattle.terms.specs.Literal.{LiteralFits, literalNumber};
-ghost use Rattle.script.specs.Record.{shapeAt, bodyAt, defineAt, declareAt, assertAt, lineAt, Ready};
-ghost use Rattle.terms.specs.Made.{made};
+ghost use Rattle.script.specs.Record.{bodyAt, defineAt, declareAt, assertAt, lineAt, Ready};
+ghost use Rattle.terms.specs.Made.{made, sortsOf, sortOfCall};
+ghost use Rattle.checker.specs.Tables.{recordSort};
+ghost use Rattle.engine.specs.Encode.{callAt};
 ghost use Rattle.engine.specs.Sorts as sorts;
 ghost use Rattle.engine.specs.Sorts.{leaves};
 ghost use Rattle.script.specs.Ending.{any, namesFrom, FirstAsked, valuesText};
@@ -22,7 +24,7 @@ ghost use Rattle.script.specs.Walk.{IsWellFormed};
 ghost use Rattle.text.specs.Names.{letterText, suffixText, nameText, namesOfMark, spelling, asked};
 ghost use Rattle.text.specs.Write.{Wrote, capped};
 ghost use Rattle.terms.specs.Find.{firstCalls};
-ghost use Rattle.terms.specs.Sort.{payloads};
+ghost use Rattle.terms.specs.Literal.{payloads};
 ghost use Rattle.script.specs.Text.{numbered, reference, lines, getValue, ending, script, sortText, boolText, bitsText, literalText, extractText, spaced, applied, conjunction};
 ghost use Rattle.script.specs.Pieces.{argumentTexts, extractionText};
 ghost use Rattle.text.specs.Bytes.{ascii};
@@ -372,7 +374,7 @@ fn put_literal(text: &mut [u8], at: usize, calls: &[u32], head: usize) -> usize
 
 // Writes the term that a record makes, by its shape.
 fn put_body(text: &mut [u8], at: usize, calls: &[u32], records: usize, head: usize) -> usize
-    requires { ⌜ (shapeAt (now calls) head ≡ 3 → LiteralFits (now calls) head) ⌝ }
+    requires { ⌜ Ready (now calls) head ⌝ }
     ensures { λ r. ⌜ Wrote (now (text .entry)) (now (text .exit)) at r (bodyAt (now (calls .entry)) records head) ⌝ }
 {
     let op = terms::operation(calls, head);
@@ -393,14 +395,15 @@ fn put_define(
     records: usize,
     head: usize,
     term: usize,
+    sort: u32,
 ) -> usize
-    requires { ⌜ Ready (now calls) records head ⌝ }
+    requires { ⌜ Ready (now calls) head × (sort ≡ sortOfCall (sortsOf (firstCalls (now calls) records)) (callAt (now calls) head)) ⌝ }
     ensures { λ r. ⌜ Wrote (now (text .entry)) (now (text .exit)) at r (defineAt (now (calls .entry)) records head term) ⌝ }
 {
     let name = text::put_bytes(text, at, b"(define-fun ");
     let parameters = put_numbered(text, name, term);
-    let sort = text::put_bytes(text, parameters, b" () ");
-    let space = put_sort(text, sort, terms::sort_of_record(calls, records, head));
+    let width = text::put_bytes(text, parameters, b" () ");
+    let space = put_sort(text, width, sort);
     let body = text::put_byte(text, space, b' ');
     let closing = put_body(text, body, calls, records, head);
     text::put_bytes(text, closing, b")\n")
@@ -437,23 +440,28 @@ fn put_record(
     text: &mut [u8],
     at: usize,
     calls: &[u32],
+    sorts: &[u8],
     records: usize,
     head: usize,
     term: usize,
 ) -> usize
-    requires { ⌜ Ready (now calls) records head × (term ≡ length (made (firstCalls (now calls) records))) ⌝ }
+    requires { ⌜ Ready (now calls) head × (term ≡ length (made (firstCalls (now calls) records)))
+        × (recordSort (now sorts) (now calls) head ≡ sortOfCall (sortsOf (firstCalls (now calls) records)) (callAt (now calls) head)) ⌝ }
     ensures { λ r. ⌜ Wrote (now (text .entry)) (now (text .exit)) at r (lineAt (now (calls .entry)) records head) ⌝ }
 {
     match shape(terms::operation(calls, head)) {
         5 => put_declare(text, at, calls, head),
         6 => put_assert(text, at, calls, records, head),
         7 => text::put_bytes(text, at, b"(check-sat)\n"),
-        _ => put_define(text, at, calls, records, head, term),
+        _ => {
+            let sort = checker::record_sort(calls, sorts, head);
+            put_define(text, at, calls, records, head, term, sort)
+        }
     }
 }
 
-// Writes the lines of a well-formed call list.
-fn put_records(text: &mut [u8], start: usize, calls: &[u32]) -> usize
+// Writes the lines of a well-formed call list, with a table of the sorts of its first terms.
+fn put_records(text: &mut [u8], start: usize, calls: &[u32], sorts: &mut [u8]) -> usize
     requires { ⌜ IsWellFormed (now calls) ⌝ }
     ensures { λ r. ⌜ Wrote (now (text .entry)) (now (text .exit)) start r (lines [] (decode (now (calls .entry)))) ⌝ }
 {
@@ -462,7 +470,8 @@ fn put_records(text: &mut [u8], start: usize, calls: &[u32]) -> usize
     let mut records = 0;
     let mut term = 0;
     while head < calls.len() {
-        at = put_record(text, at, calls, records, head, term);
+        at = put_record(text, at, calls, sorts, records, head, term);
+        checker::note_sort(calls, sorts, head, term);
         term = terms::terms_after(calls, head, term);
         head = terms::next_record(calls, head);
         records += 1;
@@ -597,7 +606,8 @@ fn put_script(text: &mut [u8], calls: &[u32], recorded: &[u8]) -> usize
         0,
         b"(set-option :produce-models true)\n(set-logic QF_BV)\n",
     );
-    let ending = put_records(text, lines, calls);
+    let mut sorts = [0u8; 524288];
+    let ending = put_records(text, lines, calls, &mut sorts);
     put_ending(text, ending, calls, recorded)
 }
 

@@ -1,4 +1,3 @@
 pub mod Made
 pub mod Find
-pub mod Sort
 pub mod Literal

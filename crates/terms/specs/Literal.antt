@@ -18,7 +18,10 @@ use Rattle.engine.specs.Tests.{right-of}
 use Rattle.engine.specs.Steps.{failing-free}
 use Rattle.engine.specs.ReadBack.{stands}
 use Rattle.engine.specs.Reached.{Right}
-use Rattle.terms.specs.Sort.{payloads}
+
+-- The payloads of the arguments of the record at a place.
+abbrev pub payloads : List ℕ → ℕ → ℕ → ℕ
+payloads w at i = payloadOf (argumentAt w at i)
 
 -- A literal's record has at most four 16-bit numbers after its width.
 pub record LiteralFits (w : List ℕ) (head : ℕ) : Type 0 where

@@ -1,14 +1,12 @@
-// The terms of a call list: the record that makes a term, and its sort. Only the first records of the list are looked at.
+// The terms of a call list: the record that makes a term, and the number of a literal. Only the first records of the list are
+// looked at.
 ghost use mathlib.Core.Path.{_≡_};
-ghost use Prim.Native.Nat.{suc, _+_, _-_, _<_, _/_, _%_};
+ghost use Prim.Native.Nat.{_+_, _-_, _<_, _/_, _%_};
 ghost use lib.ListN.{getD};
 ghost use Rattle.logic.specs.Word.{payloadOf};
-ghost use Rattle.engine.specs.Encode.{makesTerm, opOf, countAt, argumentAt, nextAt, callAt};
-ghost use Rattle.engine.specs.Sorts.{sortAt};
-ghost use Rattle.terms.specs.Made.{sortsOf, sortOfCall};
-ghost use Rattle.terms.specs.Sort.{ruleOf, capped, PlainSort, payloads};
-ghost use Rattle.terms.specs.Literal.{digitOr, fourDigits};
-ghost use Rattle.terms.specs.Find.{madeAt, FoundIn, firstCalls, word};
+ghost use Rattle.engine.specs.Encode.{makesTerm, opOf, countAt, argumentAt, nextAt};
+ghost use Rattle.terms.specs.Literal.{payloads, digitOr, fourDigits};
+ghost use Rattle.terms.specs.Find.{madeAt, FoundIn, word};
 
 // Where a term's record begins, and how many records come before it.
 pub enum Found {
@@ -34,7 +32,7 @@ pub fn count(calls: &[u32], at: usize) -> u32
 pub fn makes_term(op: u32) -> bool
     ensures { λ r. ⌜ r ≡ makesTerm (opOf op) ⌝ }
 {
-    op < 22
+    call_list::makes_term(call_list::operation_of(op))
 }
 
 // How many terms there are after the record at a place; the largest number stays.
@@ -94,116 +92,11 @@ pub fn argument(calls: &[u32], at: usize, i: u32) -> u32
     }
 }
 
-// How the sort of each operation's term is found: Bool (0), one bit (1), the first argument's number (2) or the fourth's (3), the sort
-// of the first term (4) or the second (5), the sum of both (6), what two numbers take out (7); no sort (8).
-const RULES: [u8; 24] = [
-    0,
-    0,
-    0,
-    0,
-    2,
-    0,
-    5,
-    6,
-    7,
-    4,
-    4,
-    4,
-    4,
-    4,
-    1,
-    0,
-    0,
-    4,
-    4,
-    4,
-    4,
-    3,
-    8,
-    8,
-];
-
-fn sort_rule(op: u32) -> u8
-    ensures { λ r. ⌜ r ≡ ruleOf (opOf op) ⌝ }
-{
-    if op < 24 { RULES[op as usize] } else { 8 }
-}
-
-// A width, or 65 for any that is no sort's.
-fn cap(width: u32) -> u32
-    ensures { λ r. ⌜ r ≡ capped width ⌝ }
-{
-    if width < 65 { width } else { 65 }
-}
-
-// The width from a low index to a high one.
-fn part_width(high: u32, low: u32) -> u32
-    ensures { λ r. ⌜ r ≡ capped (suc high - low) ⌝ }
-{
-    if high < low {
-        0
-    } else {
-        cap(cap(high - low) + 1)
-    }
-}
-
-// The width of two vectors joined.
-fn joined_width(high: u32, low: u32) -> u32
-    ensures { λ r. ⌜ r ≡ capped (high + low) ⌝ }
-{
-    if high < 65 {
-        if low < 65 {
-            return cap(high + low);
-        }
-    }
-    65
-}
-
 // The term that argument i of the record at a place refers to.
 pub fn term_argument(calls: &[u32], at: usize, i: u32) -> usize
     ensures { λ r. ⌜ r ≡ payloadOf (argumentAt (now (calls .entry)) at i) ⌝ }
 {
     argument(calls, at, i) as usize
-}
-
-// The sort of a term whose sort follows from no other's.
-fn plain_sort(calls: &[u32], at: usize, rule: u8) -> u32
-    ensures { λ r. ⌜ PlainSort (now (calls .entry)) at rule r ⌝ }
-{
-    match rule {
-        0 => 0,
-        1 => 1,
-        2 => cap(argument(calls, at, 0)),
-        3 => cap(argument(calls, at, 3)),
-        7 => part_width(argument(calls, at, 0), argument(calls, at, 1)),
-        _ => 65,
-    }
-}
-
-// The sort of a term of the first records: 0 for a Bool, a vector's width, 65 where it has none.
-pub fn sort_of(calls: &[u32], records: usize, term: usize) -> u32
-    ensures { λ r. ⌜ r ≡ capped (sortAt (sortsOf (firstCalls (now (calls .entry)) records)) term) ⌝ }
-{
-    match find_term(calls, records, term) {
-        Found::Nothing => 65,
-        Found::At(at, earlier) => sort_of_record(calls, earlier, at),
-    }
-}
-
-// The sort of the term that the record at a place makes, after some records.
-pub fn sort_of_record(calls: &[u32], records: usize, at: usize) -> u32
-    ensures { λ r. ⌜ r ≡ capped (sortOfCall (sortsOf (firstCalls (now (calls .entry)) records)) (callAt (now (calls .entry)) at)) ⌝ }
-{
-    let rule = sort_rule(operation(calls, at));
-    match rule {
-        4 => sort_of(calls, records, term_argument(calls, at, 0)),
-        5 => sort_of(calls, records, term_argument(calls, at, 1)),
-        6 => {
-            let high = sort_of(calls, records, term_argument(calls, at, 0));
-            joined_width(high, sort_of(calls, records, term_argument(calls, at, 1)))
-        }
-        _ => plain_sort(calls, at, rule),
-    }
 }
 
 // The 16-bit number j of a literal, or 0 past the last.

@@ -1,6 +1,6 @@
 -- `script::arity` meets its contract: the table has the operations in their order. Assumes nothing.
 use borrow.Author.Needs.{needs}
-use Rattle.terms.specs.Sort.{table-inside, table-past}
+use Rattle.script.specs.Tables.{table-inside, table-past}
 use Rattle.script.specs.Shape.{arityOf}
 use Rattle.script.proofs.arity.Statement.{statement}
 use Rattle.script.proofs.arity.Tie as tie

@@ -1,7 +1,6 @@
--- `script::put_define` meets its contract: the pieces in their order; a term's sort is none of those that are capped. Assumes nothing.
+-- `script::put_define` meets its contract: the pieces in their order. Assumes nothing.
 use borrow.Author.Needs.{needs}
 use Rattle.text.specs.Write.{wrote-then}
-use native.Mathlib.Nat.{min-eq-left}
 use Rattle.script.proofs.put_define.Statement.{statement}
 use Rattle.script.proofs.put_define.Tie as tie
 
@@ -19,9 +18,6 @@ slice-aggregate-put-bytes-2 c = search needs
 
 put-bytes-requires-2 : tie.Need-put-bytes-requires-2
 put-bytes-requires-2 c κs = search needs
-
-sort-of-record-requires : tie.Need-sort-of-record-requires
-sort-of-record-requires c κs = search needs
 
 put-sort-requires : tie.Need-put-sort-requires
 put-sort-requires c κs = search needs
@@ -47,12 +43,12 @@ returns c =
     let body = closed .before .before .before .before .before in
     let spaced = body .before .before .before .before in
     let sorted = spaced .before .before .before .before in
-    let empty = sorted .before .before .before .before .before in
+    let empty = sorted .before .before .before .before in
     let numbered = empty .before .before .before .before .before in
     let opened = numbered .before .before .before .before in
     let start = opened .before .before .before .before .before in
     let short = start .good .0 .0 in
-    wrote-then short (wrote-then short (wrote-then short (wrote-then short (wrote-then short (wrote-then short (opened .put-bytes .ensures) (numbered .put-numbered .ensures)) (empty .put-bytes2 .ensures)) (rw (sorted .before .sort-of-record .ensures, min-eq-left (start .pre .sort)) at (sorted .put-sort .ensures))) (spaced .put-byte .ensures)) (body .put-body .ensures)) (closed .put-bytes3 .ensures)
+    wrote-then short (wrote-then short (wrote-then short (wrote-then short (wrote-then short (wrote-then short (opened .put-bytes .ensures) (numbered .put-numbered .ensures)) (empty .put-bytes2 .ensures)) (rw (start .pre .1) at (sorted .put-sort .ensures))) (spaced .put-byte .ensures)) (body .put-body .ensures)) (closed .put-bytes3 .ensures)
 
 pub put-define-spec : {M : Type 1} → statement M
 put-define-spec =
@@ -63,7 +59,6 @@ put-define-spec =
     put-numbered-requires
     slice-aggregate-put-bytes-2
     put-bytes-requires-2
-    sort-of-record-requires
     put-sort-requires
     put-byte-requires
     put-body-requires

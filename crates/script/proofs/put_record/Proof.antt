@@ -23,8 +23,14 @@ slice-aggregate-put-bytes c = search needs
 put-bytes-requires : tie.Need-put-bytes-requires
 put-bytes-requires c κs = search needs
 
+record-sort-requires : tie.Need-record-sort-requires
+record-sort-requires c κs = search needs
+
 put-define-requires : tie.Need-put-define-requires
-put-define-requires c κs = search needs
+put-define-requires c κs =
+    let sorted = c .before in
+    let start = sorted .before .before .before .before .before .before .before in
+    (start .pre .0, sorted .record-sort .ensures ∙ start .pre .2)
 
 same-length : tie.Need-same-length
 same-length c = search needs
@@ -34,7 +40,7 @@ returns c =
     let written = c .before .before in
     let matched = written .before .before in
     let shaped = matched .before in
-    let start = shaped .before .before .before .before in
+    let start = shaped .before .before .before .before .before in
     let shape = shape-at (start .args .calls .now) (start .args .head) (shaped .before .operation .ensures) (shaped .shape .ensures) in
     rw (line-declared _ _ _ (shape ∙ matched .match .keys1)) (written .put-declare .ensures)
 
@@ -46,7 +52,7 @@ returns-2 c =
     let written = c .before .before in
     let matched = written .before .before in
     let shaped = matched .before in
-    let start = shaped .before .before .before .before in
+    let start = shaped .before .before .before .before .before in
     let shape = shape-at (start .args .calls .now) (start .args .head) (shaped .before .operation .ensures) (shaped .shape .ensures) in
     rw (line-asserted _ _ _ (shape ∙ matched .match .keys2)) (written .put-assert .ensures)
 
@@ -58,7 +64,7 @@ returns-3 c =
     let written = c .before .before in
     let matched = written .before .before .before in
     let shaped = matched .before in
-    let start = shaped .before .before .before .before in
+    let start = shaped .before .before .before .before .before in
     let shape = shape-at (start .args .calls .now) (start .args .head) (shaped .before .operation .ensures) (shaped .shape .ensures) in
     rw (line-checked _ _ _ (shape ∙ matched .match .keys3)) (written .put-bytes .ensures)
 
@@ -68,9 +74,9 @@ same-length-4 c = search needs
 returns-4 : tie.Need-returns-4
 returns-4 c =
     let written = c .before .before in
-    let matched = written .before .before in
+    let matched = written .before .before .before in
     let shaped = matched .before in
-    let start = shaped .before .before .before .before in
+    let start = shaped .before .before .before .before .before in
     let shape = shape-at (start .args .calls .now) (start .args .head) (shaped .before .operation .ensures) (shaped .shape .ensures) in
     let seven = matched .match .rest in
     let six = seven .0 in
@@ -87,6 +93,7 @@ put-record-spec =
     put-assert-requires
     slice-aggregate-put-bytes
     put-bytes-requires
+    record-sort-requires
     put-define-requires
     same-length
     returns

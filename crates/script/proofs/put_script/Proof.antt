@@ -1,7 +1,8 @@
 -- `script::put_script` meets its contract: the header, the lines and the ending. Assumes nothing.
-use borrow.Author.Needs.{needs}
+use mathlib.Core.Path.{_∙_}
 use Rattle.text.specs.Write.{wrote-then}
 use Rattle.script.specs.Text.{script}
+use borrow.Author.Needs.{needs}
 use Rattle.script.proofs.put_script.Statement.{statement}
 use Rattle.script.proofs.put_script.Tie as tie
 
@@ -11,6 +12,9 @@ slice-aggregate-put-bytes c = search needs
 put-bytes-requires : tie.Need-put-bytes-requires
 put-bytes-requires c κs = search needs
 
+slice-aggregate-put-records : tie.Need-slice-aggregate-put-records
+slice-aggregate-put-records c = search needs
+
 put-records-requires : tie.Need-put-records-requires
 put-records-requires c κs = search needs
 
@@ -18,14 +22,18 @@ put-ending-requires : tie.Need-put-ending-requires
 put-ending-requires c κs = search needs
 
 same-length : tie.Need-same-length
-same-length c = search needs
+same-length c =
+    let ended = c .before .before in
+    let lined = ended .before .before .before .before .before in
+    let headed = lined .before .before .before .before .before in
+    ended .put-ending .kept .0 ∙ lined .put-records .kept .0 ∙ headed .put-bytes .kept .0
 
 returns : tie.Need-returns
 unfolding script
 returns c =
     let ended = c .before .before in
-    let lined = ended .before .before .before .before in
-    let headed = lined .before .before .before .before in
+    let lined = ended .before .before .before .before .before in
+    let headed = lined .before .before .before .before .before in
     let start = headed .before .before .before .before .before .before in
     let short = start .good .0 .0 in
     wrote-then short (wrote-then short (headed .put-bytes .ensures) (lined .put-records .ensures)) (ended .put-ending .ensures)
@@ -36,6 +44,7 @@ put-script-spec =
     (tie.spec
     slice-aggregate-put-bytes
     put-bytes-requires
+    slice-aggregate-put-records
     put-records-requires
     put-ending-requires
     same-length
