@@ -1,4 +1,5 @@
-/* The C interface of Virginalmimas. Link libffi.a, which `rt staticlib ffi` writes. */
+/* The C interface of Virginalmimas. Link libffi.a, which `rt staticlib ffi` writes. There is no heap: tables are on the stack, so a
+   thread that calls vm_evaluate or vm_script needs 2 MB of it. */
 #ifndef VIRGINALMIMAS_H
 #define VIRGINALMIMAS_H
 
