@@ -54,7 +54,7 @@ bitsFault k (c.declare n w ∷ cs) (b ∷ given) = cond (ltb b (2 ^ w)) (bitsFau
 bitsFault k (c.assert a ∷ cs) given = bitsFault k cs given
 bitsFault k (c.check ∷ cs) given = bitsFault k cs given
 
--- What the evaluator answers: the number of false assertions, or a fault's number and place.
+-- A refusal: a fault's number and place.
 abbrev pub refused : ℕ → ℕ → Evaluation
 refused number place = Refused (record { number = number; place = place })
 
