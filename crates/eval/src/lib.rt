@@ -57,13 +57,14 @@ fn put_number(numbers: &mut [u64], at: usize, number: u64)
     }
 }
 
-// A choice by a Bool's number, its negation, and the number of an equality.
+// A choice by a Bool's number.
 fn chosen(condition: u64, if_one: u64, otherwise: u64) -> u64
     ensures { λ r. ⌜ r ≡ cond (eqb condition 1) «if_one» otherwise ⌝ }
 {
     if condition == 1 { if_one } else { otherwise }
 }
 
+// The number of a Bool.
 fn flag_number(holds: bool) -> u64
     ensures { λ r. ⌜ r ≡ bit holds ⌝ }
 {
@@ -264,6 +265,7 @@ fn write_value(
     }
 }
 
+// A refusal with a fault's number and place.
 fn refusal(number: u32, place: usize) -> Evaluation
     ensures { λ r. ⌜ r ≡ refused number place ⌝ }
 {
