@@ -2,7 +2,7 @@
 use mathlib.Core.Path.{_≡_, refl, sym, ap, subst}
 use mathlib.Core.Bool.{Bool, true, false, cond}
 use mathlib.Core.List.{List, [], _∷_, _++_}
-use Prim.Native.Nat.{ℕ, zero, suc, _+_, _-_, _*_, _≤_, _<_, _^_, max}
+use Prim.Native.Nat.{ℕ, zero, suc, _+_, _-_, _*_, _≤_, _<_, _^_}
 use native.Mathlib.Omega.{arith}
 use lib.Dec.{eqb}
 use lib.ListN.{length, getD, replicate, length-replicate, length-append}
@@ -24,25 +24,11 @@ use Rattle.smt.specs.Builder.{
   tvConcat,
   bvConcat,
   bvConcatOn,
-  bvIsZero,
-  boolToBv,
-  tvLit,
-  tvExtract,
-  tvNot,
-  tvAnd,
-  tvOr,
-  tvXor,
-  tvMux,
   collect,
-  netOf,
-  valueOf,
   pastValue,
   outputNets,
-  invertNet,
   clockNet,
-  currNet,
   pastNet,
-  bvNoX,
   net,
   value,
   controlNet,
@@ -56,7 +42,6 @@ use Rattle.smt.specs.Builder.{
   Prepared,
   oneHot,
   firstMatch,
-  overwritten,
   shiftWidth,
   zext,
   extended,
@@ -74,7 +59,6 @@ use Rattle.smt.specs.Builder.{
   cleared,
   dffCell,
   adcCell,
-  cell,
   hasClear,
 }
 use Rattle.smt.specs.ShowsShift.{shiftWidth-narrow}

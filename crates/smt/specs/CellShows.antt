@@ -59,7 +59,6 @@ use Rattle.smt.specs.Terms.{Is}
 use Rattle.smt.specs.Formula.{
   TritBits,
   tb,
-  one,
   NetBits,
   netBits,
   bitOf,

@@ -8,7 +8,6 @@ use Rattle.logic.specs.Table.{zipWith}
 use Rattle.logic.specs.Trit.{shows, xOf, yOf}
 use Rattle.logic.specs.Net.{Net, constant, slot}
 use Rattle.logic.specs.declared.Trit.{Trit}
-use Rattle.logic.specs.declared.Trit.the-variants.{One}
 use Rattle.bitvec.specs.Bits.{Bits}
 use Rattle.bitvec.specs.Ops.{equal, concat, extract, bvnot, bvand, bvor, bvxor, bvadd, bvcomp, bvmul}
 use Rattle.engine.specs.Call.{BinaryOp, Compare}

@@ -36,7 +36,7 @@ use Rattle.bitvec.specs.Numbers.{bv2nat-bvmul}
 use Rattle.bitvec.specs.Shifts.{shl-list, lshr-list}
 use Rattle.rules.specs.Trits.{anyX, number}
 use Rattle.smt.specs.Builder.{ones, ilog2, shiftWidth}
-use Rattle.smt.specs.Shows.{Shown, lane, shown-x, shown-y, shown-ts, shown-at, getD-any}
+use Rattle.smt.specs.Shows.{Shown, shown-x, shown-y, shown-ts, shown-at, getD-any}
 use Rattle.smt.specs.ShowsNumber.{number-defined, ones-shows, shown-tab}
 
 -- ---- the shifts, bit by bit
