@@ -15,8 +15,8 @@ use Rattle.working_out.specs.Obligations.{obligations}
 use Rattle.smt.specs.Prog.{Prog, ret, op, declare, bind, bind2, _>>=_, Age, curr, past, Half}
 use Rattle.smt.specs.Emit.{St, Out, netName, place, at, learn, reread, after, known, emit}
 use Rattle.design_list.specs.Read.{refused, accepted, read}
-use Rattle.design.specs.Verify.{Step, declared, asserted, obliged, steps, work, start, built, query, asked, verify}
-use Rattle.design.specs.Meant.{steps-are}
+use Rattle.order.specs.Verify.{Step, declared, asserted, obliged, steps, work, start, built, query, asked, verify}
+use Rattle.order.proofs.StepsMean.{steps-are}
 use Rattle.design.specs.Exists as terms-asked
 use Rattle.design.specs.Theorem.{asked-each}
 use Rattle.design.specs.Verified.{

@@ -25,7 +25,7 @@ use Rattle.smt.specs.Prog.{Prog, ret, op, declare, bind, bind2, _>>=_, Age, cur
 use Rattle.smt.specs.Builder.{bvConst, tvConst, netOf, collect, valueOf, currNet, currValue, outputNets}
 use Rattle.smt.specs.Emit.{St, Out, emit, place, netName, at, learn, reread, bound, bound2, after, known}
 use Rattle.smt.specs.Wp.{emit-seq, place-inj, stored, and-true}
-use Rattle.design.specs.Verify.{
+use Rattle.order.specs.Verify.{
   Step,
   declared,
   asserted,

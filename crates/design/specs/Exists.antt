@@ -20,10 +20,10 @@ use Rattle.smt.specs.Emit.{place}
 use Rattle.smt.specs.Formula.{NetBits, netBits}
 use Rattle.soundness.specs.Safe.{Truth}
 use Rattle.soundness.specs.Solve.{extends-refl, Temp, noTemp, Ran, assigned, assigned-net, WellSorted, sorted-earlier, Here, v, ρ, σ}
-use Rattle.design.specs.Verify.{start, work}
+use Rattle.order.specs.Verify.{start, work}
 use Rattle.design.specs.Numbered.{work-next}
-use Rattle.design.specs.Meant.{stepsOf, meantSteps, steps-mean}
-use Rattle.design.specs.WorkSound.{SaidOf}
+use Rattle.order.specs.Meant.{stepsOf, meantSteps, SaidOf}
+use Rattle.order.proofs.StepsMean.{steps-mean}
 use Rattle.design.specs.WorkMeets.{execWork, WorkMet, work-meets}
 use Rattle.bound.specs.Bounded.{Bounds}
 use Rattle.design.specs.StepsSafe.{steps-safe}

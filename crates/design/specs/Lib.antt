@@ -1,11 +1,7 @@
-pub mod Verify
 pub mod Accepted
 pub mod BitLocal
 pub mod BitRule
-pub mod Found
 pub mod Replacements
-pub mod Meant
-pub mod WorkSound
 pub mod Shown
 pub mod Judged
 pub mod WorkMeets

@@ -20,7 +20,7 @@ use Rattle.working_out.specs.Reading.{Each, each-append, readsPast, Pair, equal
 use Rattle.smt.specs.Prog.{Prog, ret, op, declare, bind, bind2, _>>=_, Age, curr, past, Half}
 use Rattle.smt.specs.Builder.{currValue, outputNets}
 use Rattle.smt.specs.Emit.{St, Out, emit, place, netName, letterOf, mark, learn, reread, bound, bound2, after, known}
-use Rattle.design.specs.Verify.{
+use Rattle.order.specs.Verify.{
   Step,
   declared,
   asserted,

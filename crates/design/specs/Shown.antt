@@ -35,9 +35,8 @@ use Rattle.smt.specs.Shows.{Shown, Shows, empty, lane, shown-is}
 use Rattle.smt.specs.CellBits.{currBits, netBit, cellBits}
 use Rattle.smt.specs.CellShows.{tritsOf, read-shows, value-shows, cell-bits-show}
 use Rattle.design.specs.BitRule.{asserted-not-input, asserted-some}
-use Rattle.design.specs.Verify.{isInput, newCellIn}
-use Rattle.design.specs.Meant.{Meant, meantAdd, meantNew, meantCell, meantCells, meantPair, meantPairs, meantSteps, claimTest, voidTest}
-use Rattle.design.specs.WorkSound.{SaidOf}
+use Rattle.order.specs.Verify.{isInput, newCellIn}
+use Rattle.order.specs.Meant.{Meant, meantAdd, meantNew, meantCell, meantCells, meantPair, meantPairs, meantSteps, claimTest, voidTest, SaidOf}
 
 -- ---- tv_refines: false exactly where some bit of from is defined and to is not the same trit
 

@@ -62,8 +62,8 @@ use Rattle.design.specs.BitRule.{
   asserted-not-input,
   asserted-some,
 }
-use Rattle.design.specs.Verify.{declared, asserted, isInput, claim, newCellIn}
-use Rattle.design.specs.Meant.{
+use Rattle.order.specs.Verify.{declared, asserted, isInput, claim, newCellIn}
+use Rattle.order.specs.Meant.{
   Meant,
   meantAdd,
   meantNew,
@@ -75,9 +75,10 @@ use Rattle.design.specs.Meant.{
   claimTest,
   voidTest,
   joinTest,
-  positive,
+  Said,
+  SaidOf,
 }
-use Rattle.design.specs.WorkSound.{Said, SaidOf}
+use Rattle.order.proofs.StepsMean.{positive}
 
 -- The bits of a given trit.
 abbrev pub bitsOfTrit : Trit → BitPair

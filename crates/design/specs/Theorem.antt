@@ -32,10 +32,11 @@ use Rattle.smt.specs.Refines.{same-bits}
 use Rattle.smt.specs.Wp.{Known}
 use Rattle.soundness.specs.Safe.{Truth}
 use Rattle.smt.specs.CellShows.{tritsOf, read-shows}
-use Rattle.design.specs.Verify as verify
-use Rattle.design.specs.Verify.{Step, declared, asserted, obliged, start, steps, work}
-use Rattle.design.specs.Meant.{Meant, stepsOf, meantCells, meantPair, meantPairs, meantSteps, joinTest, steps-are, steps-mean}
-use Rattle.design.specs.WorkSound.{SaidOf, ask, asks, truths, Worked, work-sound}
+use Rattle.order.specs.Verify as verify
+use Rattle.order.specs.Verify.{Step, declared, asserted, obliged, start, steps, work}
+use Rattle.order.specs.Meant.{Meant, stepsOf, meantCells, meantPair, meantPairs, meantSteps, joinTest, SaidOf, ask, asks, truths, Worked}
+use Rattle.order.proofs.StepsMean.{steps-are, steps-mean}
+use Rattle.order.proofs.WorkSound.{work-sound}
 use Rattle.bound.specs.Bounded.{Bounds}
 use Rattle.design.specs.Shown.{left, right, tests-solve}
 use Rattle.design.specs.Judged.{steps-judged}

@@ -14,7 +14,7 @@ use Rattle.engine.specs.Meaning.{terms}
 use Rattle.engine.specs.Encode.{encode, decode}
 use Rattle.design_list.specs.Read.{Read, refused, accepted, read}
 use Rattle.working_out.specs.Loop.{hasLoop}
-use Rattle.design.specs.Verify.{built, verify}
+use Rattle.order.specs.Verify.{built, verify}
 use Rattle.design.specs.Requirement3.{Requirement3}
 
 -- ---- counts

@@ -30,8 +30,8 @@ use Rattle.soundness.specs.Safe.{safe, Truth}
 use Rattle.soundness.specs.Solve.{Extends, extends-refl, Temp, noTemp, exec, WellSorted, Here, σ, sortOfValue, assigned-net}
 use Rattle.soundness.specs.Formed.{NewNames, formed, Declared, temps-grow, Then, KnownSorts, emit-new}
 use Rattle.design.specs.Accepted.{Accepted}
-use Rattle.design.specs.Verify.{Step, declared, asserted, obliged, work, start, verify}
-use Rattle.design.specs.Meant.{Meant, stepsOf, meantSteps}
+use Rattle.order.specs.Verify.{Step, declared, asserted, obliged, work, start, verify}
+use Rattle.order.specs.Meant.{Meant, stepsOf, meantSteps}
 use Rattle.design.specs.Numbered.{terms-append, work-next}
 use Rattle.design.specs.WorkMeets.{StepSafe, Safe, execWork, WorkMet, work-meets, met-by}
 use Rattle.design.specs.StepsSafe.{steps-safe}

@@ -1,0 +1,4 @@
+pub mod Found
+pub mod StepsMean
+pub mod WorkSound
+pub mod Marks
