@@ -79,9 +79,9 @@ unchecked (c.declare name w ∷ cs) = unchecked cs
 unchecked (c.assert k ∷ cs) = unchecked cs
 unchecked (c.check ∷ cs) = false
 
--- Given trits made from others by turning Xs into 0 or 1.
-pub record Turned (g g′ : Trits) : Type 0 where
-  pub now : (i : ℕ) → Refines (g .now i) (g′ .now i)
+-- Given trits made from others by turning Xs of sources into 0 or 1.
+pub record Turned (d : Design) (g g′ : Trits) : Type 0 where
+  pub now : (i : ℕ) → source d i ≡ true → Refines (g .now i) (g′ .now i)
   pub was : (i : ℕ) → Refines (g .was i) (g′ .was i)
 
 -- ---- the requirement
@@ -104,7 +104,7 @@ pub record Requirement3 (d : Design) (calls : List Call) : Type 0 where
   -- every slot that is no source is declared as a current net
   pub declared : (i : ℕ) → i < total d → source d i ≡ false → Declared calls curr i
   -- turning given Xs into 0 or 1, joined ones alike, changes no declared net that showed 0 or 1
-  pub monotone : (g g′ : Trits) → Turned g g′ → (ρ ρ′ : Assignment) → Shows d g calls but ρ → Shows d g′ calls but ρ′
+  pub monotone : (g g′ : Trits) → Turned d g g′ → (ρ ρ′ : Assignment) → Shows d g calls but ρ → Shows d g′ calls but ρ′
       → (a : Age) (i : ℕ) → Declared calls a i → Refines (tritIn ρ a i) (tritIn ρ′ a i)
   -- an assignment that satisfies every assertion but the query shows joined flip-flops alike
   pub joined : (ρ : Assignment) → Fits ρ calls → Asserted (valueAt (run ρ [] calls)) but → Alike d (tritsIn ρ)

@@ -18,7 +18,8 @@ use Rattle.engine.specs.Meaning.{Value, bool, asBool, Assignment, valueAt, run,
 use Rattle.engine.specs.Laws.{All-map, sat-holds}
 use Rattle.working_out.specs.Reading.{Each, readsPast, source, Pair, ofDffs, pairOf, Joined, Alike}
 use Rattle.working_out.specs.Laid.{Laid}
-use Rattle.working_out.specs.Loop.{hasLoop}
+use Rattle.working_out.specs.Loop.{Loop, hasLoop}
+use Rattle.working_out.specs.Solutions.{loop-decided}
 use Rattle.working_out.specs.Equations.{Solution}
 use Rattle.working_out.specs.WorkingOut.{tritRule, workedOut, whole, Solves}
 use Rattle.working_out.specs.WorkedOut as worked
@@ -127,10 +128,10 @@ module _ (d : Design) (laid : Laid d) (bounds : Bounds d) (n : ℕ) (asked-terms
         ∙ ap (λ (θ : Trits). map (λ (o : Obligation). not (broken d θ o)) (obligations d)) all-trits
 
   module _ (no-loop : hasLoop d ≡ false) where
-    pub monotone : (g g′ : Trits) → Turned g g′ → (ρ ρ′ : Assignment) → Shows d g calls (but d) ρ → Shows d g′ calls (but d) ρ′
+    pub monotone : (g g′ : Trits) → Turned d g g′ → (ρ ρ′ : Assignment) → Shows d g calls (but d) ρ → Shows d g′ calls (but d) ρ′
         → (a : Age) (i : ℕ) → Declared calls a i → Refines (tritIn ρ a i) (tritIn ρ′ a i)
     monotone g g′ t ρ ρ′ s s′ curr i m =
-        rw (shown no-loop g ρ s i m, shown no-loop g′ ρ′ s′ i m) (worked.monotone d laid no-loop g g′ (λ j _. t .now j) (t .was) i)
+        rw (shown no-loop g ρ s i m, shown no-loop g′ ρ′ s′ i m) (worked.monotone d laid no-loop g g′ (t .now) (t .was) i)
     monotone g g′ t ρ ρ′ s s′ past i m = rw (shown-past no-loop g ρ s i m, shown-past no-loop g′ ρ′ s′ i m) (t .was i)
 
     pub choiceless : (g : Trits) (ρ ρ′ : Assignment) → Shows d g calls (but d) ρ → Shows d g calls (but d) ρ′
@@ -237,7 +238,17 @@ asked-each d laid =
 
 -- ---- the theorem, of a design
 
-module _ (d : Design) (laid : Laid d) (bounds : Bounds d) (no-loop : hasLoop d ≡ false) where
+no-loop-found : (d : Design) → Laid d → (Loop d → ⊥) → hasLoop d ≡ false
+no-loop-found d laid none = go (hasLoop d) refl
+  where
+    go : (b : Bool) → hasLoop d ≡ b → hasLoop d ≡ false
+    go true e = absurd (none ((loop-decided d laid) .0 e))
+    go false e = e
+
+module _ (d : Design) (laid : Laid d) (bounds : Bounds d) (none : Loop d → ⊥) where
+  no-loop : hasLoop d ≡ false
+  no-loop = no-loop-found d laid none
+
   nodes : (i : ℕ) → i < total d → source d i ≡ false → Declared (but d ++ queryCalls (terms (but d)) (asked d)) curr i
   unfolding but
   nodes i low node h = declared-left (but d) (queryCalls (terms (but d)) (asked d)) (netName curr i h)

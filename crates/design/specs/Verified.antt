@@ -13,7 +13,7 @@ use Rattle.engine.specs.Call as c
 use Rattle.engine.specs.Meaning.{terms}
 use Rattle.engine.specs.Encode.{encode, decode}
 use Rattle.design_list.specs.Read.{Read, refused, accepted, read}
-use Rattle.working_out.specs.Loop.{hasLoop}
+use Rattle.working_out.specs.Loop.{Loop}
 use Rattle.order.specs.Verify.{built, verify}
 use Rattle.design.specs.Requirement3.{Requirement3}
 
@@ -116,4 +116,4 @@ valueOf (Asked n) = n .words
 
 abbrev pub Required : List ℕ → Type 0
 Required w =
-    (d : Design) (reps pairs : ℕ) → read w ≡ accepted d reps pairs → hasLoop d ≡ false → Requirement3 d (decode (callWords w))
+    (d : Design) (reps pairs : ℕ) → read w ≡ accepted d reps pairs → (Loop d → ⊥) → Requirement3 d (decode (callWords w))
