@@ -21,7 +21,7 @@ use Rattle.smt.specs.Formula.{NetBits, netBits}
 use Rattle.soundness.specs.Safe.{Truth}
 use Rattle.soundness.specs.Solve.{extends-refl, Temp, noTemp, Ran, assigned, assigned-net, WellSorted, sorted-earlier, Here, v, ρ, σ}
 use Rattle.order.specs.Verify.{start, work}
-use Rattle.design.specs.Numbered.{work-next}
+use Rattle.order.proofs.Numbered.{work-next}
 use Rattle.order.specs.Meant.{stepsOf, meantSteps, SaidOf}
 use Rattle.order.proofs.StepsMean.{steps-mean}
 use Rattle.design.specs.WorkMeets.{execWork, WorkMet, work-meets}

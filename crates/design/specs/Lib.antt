@@ -7,7 +7,6 @@ pub mod Judged
 pub mod WorkMeets
 pub mod StepsSafe
 pub mod Requirement3
-pub mod Numbered
 pub mod Solved
 pub mod Prefix
 pub mod Exists

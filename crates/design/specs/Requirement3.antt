@@ -12,8 +12,9 @@ use Rattle.rules.specs.CellRule.{Trits}
 use Rattle.rules.specs.Refine.{Refines}
 use Rattle.engine.specs.Call.{Name, Call}
 use Rattle.engine.specs.Call as c
-use Rattle.engine.specs.Meaning.{asBool, Assignment, Fits, Asserted, run, valueAt, terms}
+use Rattle.engine.specs.Meaning.{asBool, Assignment, Fits, Asserted, run, valueAt, terms, Earlier}
 use Rattle.working_out.specs.Reading.{source, Alike}
+use Rattle.working_out.specs.Laid.{Ascending}
 use Rattle.working_out.specs.WorkingOut.{workedOut, whole}
 use Rattle.working_out.specs.Obligations.{obligations, broken}
 use Rattle.smt.specs.Prog.{Age, curr, past, Half, isUndef, isOne}
@@ -94,6 +95,10 @@ pub record Requirement3 (d : Design) (calls : List Call) : Type 0 where
   pub query : calls ≡ but ++ queryCalls (terms but) asked
   pub claims : unchecked but ≡ true
   pub each : length asked ≡ length (obligations d)
+  -- the arguments ascend strictly: no obligation's term stands for another's
+  pub ascend : Ascending (λ (k : ℕ). k) asked
+  -- every call refers to earlier terms only
+  pub earlier : Earlier 0 calls
   -- for given trits, alike on joined flip-flops, some assignment shows them and satisfies every assertion but the query
   pub exists : (g : Trits) → Alike d g → (ρ : Assignment) × Shows d g calls but ρ
   -- every one that does shows on each declared current net exactly the trit of working out

@@ -17,7 +17,7 @@ use Rattle.engine.specs.Call as c
 use Rattle.engine.specs.Meaning.{Value, bool, asBool, Assignment, valueAt, run, Fits, Asserted, Holds, Earlier, Sat, terms, All}
 use Rattle.engine.specs.Laws.{All-map, sat-holds}
 use Rattle.working_out.specs.Reading.{Each, readsPast, source, Pair, ofDffs, pairOf, Joined, Alike}
-use Rattle.working_out.specs.Laid.{Laid}
+use Rattle.working_out.specs.Laid.{Laid, Ascending}
 use Rattle.working_out.specs.Loop.{Loop, hasLoop}
 use Rattle.working_out.specs.Solutions.{loop-decided}
 use Rattle.working_out.specs.Equations.{Solution}
@@ -41,7 +41,8 @@ use Rattle.order.proofs.WorkSound.{work-sound}
 use Rattle.bound.specs.Bounded.{Bounds}
 use Rattle.design.specs.Shown.{left, right, tests-solve}
 use Rattle.design.specs.Judged.{steps-judged}
-use Rattle.design.specs.Numbered.{work-next}
+use Rattle.order.proofs.Numbered.{work-next}
+use Rattle.order.proofs.Ascending.{obligations-ascend}
 use Rattle.design.specs.Declares.{declared-left, nodes-declared}
 use Rattle.design.specs.Prefix.{value-on, asserted-back, fits-left, run-agrees, fits-agrees}
 use Rattle.design.specs.Filled.{filled, filled-agrees, filled-shows}
@@ -236,6 +237,25 @@ asked-each d laid =
     none : NetBits
     none a i h = false
 
+-- They ascend strictly.
+asked-ascend : (d : Design) → Ascending (λ (k : ℕ). k) (asked d)
+unfolding asked
+asked-ascend d =
+    subst (λ (l : List Step). Ascending (λ (k : ℕ). k) ((work l (start (total d))) .res)) (sym (steps-are d)) (obligations-ascend d)
+
+-- Every call refers to earlier terms only, the query's too.
+earlier-append : (n k : ℕ) (cs ds : List Call) → k ≡ n + terms cs → Earlier n cs → Earlier k ds → Earlier n (cs ++ ds)
+unfolding terms
+earlier-append n k [] ds q e f = subst (λ (j : ℕ). Earlier j ds) (omega arith) f
+earlier-append n k (c.term t ∷ cs) ds q e f = (e .0, earlier-append (suc n) k cs ds (omega arith) (e .1) f)
+earlier-append n k (c.declare name w ∷ cs) ds q e f = earlier-append (suc n) k cs ds (omega arith) e f
+earlier-append n k (c.assert a ∷ cs) ds q e f = (e .0, earlier-append n k cs ds q (e .1) f)
+earlier-append n k (c.check ∷ cs) ds q e f = earlier-append n k cs ds q e f
+
+query-earlier : (n : ℕ) (l : List ℕ) → All (λ k. k < n) l → Earlier n (queryCalls n l)
+query-earlier n [] h = tt
+query-earlier n (o ∷ l) h = (h, ((omega arith, tt), (omega arith, tt)))
+
 -- ---- the theorem, of a design
 
 no-loop-found : (d : Design) → Laid d → (Loop d → ⊥) → hasLoop d ≡ false
@@ -261,6 +281,9 @@ module _ (d : Design) (laid : Laid d) (bounds : Bounds d) (none : Loop d → ⊥
     query = refl;
     claims = but-unchecked d;
     each = asked-each d laid;
+    ascend = asked-ascend d;
+    earlier = earlier-append 0 (terms (but d)) (but d) _ (omega arith) (but-earlier d laid bounds)
+        (query-earlier (terms (but d)) (asked d) (asked-earlier d laid bounds));
     exists = exists d laid bounds no-loop (terms (but d)) (asked d);
     shown = λ g ρ s. shown d laid bounds (terms (but d)) (asked d) no-loop g ρ s;
     judged = λ g ρ s. judged d laid bounds (terms (but d)) (asked d) no-loop g ρ s;

@@ -32,7 +32,7 @@ use Rattle.soundness.specs.Formed.{NewNames, formed, Declared, temps-grow, Then
 use Rattle.design.specs.Accepted.{Accepted}
 use Rattle.order.specs.Verify.{Step, declared, asserted, obliged, work, start, verify}
 use Rattle.order.specs.Meant.{Meant, stepsOf, meantSteps}
-use Rattle.design.specs.Numbered.{terms-append, work-next}
+use Rattle.order.proofs.Numbered.{terms-append, work-next}
 use Rattle.design.specs.WorkMeets.{StepSafe, Safe, execWork, WorkMet, work-meets, met-by}
 use Rattle.design.specs.StepsSafe.{steps-safe}
 use Rattle.design.specs.Exists.{but, asked, whole, L, TS, here, met}
