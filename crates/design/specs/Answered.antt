@@ -1,6 +1,6 @@
 -- What `verified` answers: an accepted list is refused only for want of room, at the room needed; it says "nothing asked" just where
 -- there is no obligation; its counts are those of the builder; and what the two lent slices hold after it.
-use mathlib.Core.Path.{_≡_, refl, sym, ap, _∙_, subst}
+use mathlib.Core.Path.{_≡_, refl, ap, _∙_, subst}
 use mathlib.Core.List.{List, [], _∷_, _++_}
 use Prim.Native.Nat.{ℕ, zero, suc, _+_, _≤_, _<_}
 use native.Mathlib.Omega.{arith}
@@ -12,7 +12,7 @@ use Rattle.engine.specs.Call.{Call}
 use Rattle.engine.specs.Call as c
 use Rattle.engine.specs.Encode.{encode}
 use Rattle.working_out.specs.Obligations.{obligations}
-use Rattle.smt.specs.Prog.{Prog, ret, op, declare, bind, bind2, _>>=_, Age, curr, past, Half}
+use Rattle.smt.specs.Prog.{Prog, ret, op, declare, bind, bind2, _>>=_, Age, curr, past}
 use Rattle.smt.specs.Emit.{St, Out, netName, place, at, learn, reread, after, known, emit}
 use Rattle.design_list.specs.Read.{refused, accepted, read}
 use Rattle.order.specs.Verify.{Step, declared, asserted, obliged, steps, work, start, built, query, asked, verify}

@@ -17,6 +17,5 @@ pub mod Theorem
 pub mod Bound
 pub mod WellFormed
 pub mod Required
-pub mod Tidy
 pub mod Marks
 pub mod Answered

@@ -60,8 +60,8 @@ IsSource d past i = Unit {0}
 pub record Shows (d : Design) (g : Trits) (calls but : List Call) (ρ : Assignment) : Type 0 where
   -- the declared names have values of their widths
   pub fits : Fits ρ calls
-  -- the sources of which a name is declared show the given trits
-  pub sources : (a : Age) (i : ℕ) (h : Half) → IsSource d a i → IsDeclared calls (netName a i h) → tritIn ρ a i ≡ givenTrit g a i
+  -- the sources that are declared show the given trits
+  pub sources : (a : Age) (i : ℕ) → IsSource d a i → Declared calls a i → tritIn ρ a i ≡ givenTrit g a i
   -- the assertions but the query are true
   pub satisfied : Asserted (valueAt (run ρ [] calls)) but
 
@@ -99,6 +99,8 @@ pub record Requirement3 (d : Design) (calls : List Call) : Type 0 where
   pub ascend : Ascending (λ (k : ℕ). k) asked
   -- every call refers to earlier terms only
   pub earlier : Earlier 0 calls
+  -- n x and n y of a slot are declared together or not at all, p x and p y likewise
+  pub together : (a : Age) (i : ℕ) (h : Half) → IsDeclared calls (netName a i h) → Declared calls a i
   -- for given trits, alike on joined flip-flops, some assignment shows them and satisfies every assertion but the query
   pub exists : (g : Trits) → Alike d g → (ρ : Assignment) × Shows d g calls but ρ
   -- every one that does shows on each declared current net exactly the trit of working out

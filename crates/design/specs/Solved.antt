@@ -20,13 +20,10 @@ use Rattle.cell.specs.Design.{Design, Placed, NetPair, total}
 use Rattle.rules.specs.CellRule.{Trits, ofNet}
 use Rattle.working_out.specs.Reading.{
   Each,
-  each-map,
   each-append,
   cellOf,
   sameNet,
-  Role,
   role,
-  isDff,
   readsPast,
   source,
   Pair,
@@ -52,7 +49,6 @@ use Rattle.smt.specs.CellShows.{tritsOf, cell-bits-show}
 use Rattle.design.specs.BitRule.{
   BitPair,
   pair,
-  half,
   bitsOf,
   pairs,
   bitRule,
@@ -64,7 +60,6 @@ use Rattle.design.specs.BitRule.{
 }
 use Rattle.order.specs.Verify.{declared, asserted, isInput, claim, newCellIn}
 use Rattle.order.specs.Meant.{
-  Meant,
   meantAdd,
   meantNew,
   meantCell,

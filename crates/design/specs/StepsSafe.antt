@@ -27,7 +27,7 @@ use Rattle.soundness.specs.Safe.{safe, safe-mono, safe-seq, Truth, Width, Withi
 use Rattle.soundness.specs.CellSafe.{net-safe, cell-safe, output-within}
 use Rattle.order.specs.Verify.{declared, asserted, isInput, claim, newCell, replaceNet, replaceVoidNet, joinPasts, currents, newCellIn}
 use Rattle.order.proofs.Found.{found, own-cells, may-replace, new-found}
-use Rattle.order.specs.Meant.{Meant, meantAdd, meantNew, meantCell, meantCells, meantPair, meantPairs, meantSteps}
+use Rattle.order.specs.Meant.{meantAdd, meantNew, meantCell, meantCells, meantPair, meantPairs, meantSteps}
 use Rattle.order.proofs.StepsMean.{positive}
 use Rattle.design.specs.WorkMeets.{StepSafe, Safe}
 

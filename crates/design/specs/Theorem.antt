@@ -1,10 +1,11 @@
 -- Requirement 3 holds of every accepted design without a current loop.
 use mathlib.Core.Path.{_≡_, refl, sym, ap, ap₂, _∙_, subst, fun-ext}
 use mathlib.Core.Bool.{Bool, true, false, not}
-use mathlib.Core.List.{List, [], _∷_, _++_, map, append-nil}
-use Prim.Native.Nat.{ℕ, zero, suc, _+_, _*_, _≤_, _<_}
+use mathlib.Core.Logic.{⊎-elim}
+use mathlib.Core.List.{List, [], _∷_, _++_, map, append-nil, List·Memᴰ·not-nil}
+use Prim.Native.Nat.{ℕ, zero, suc, _+_, _*_, _<_}
 use native.Mathlib.Omega.{arith}
-use lib.ListN.{length, length-map, getD, replicate}
+use lib.ListN.{length, length-map, getD}
 use Rattle.logic.specs.Trit.{shows}
 use Rattle.logic.specs.declared.Trit.{Trit}
 use Rattle.logic.specs.Table.{zipWith}
@@ -14,9 +15,9 @@ use Rattle.rules.specs.CellRule.{Trits, ofNet}
 use Rattle.rules.specs.Refine.{Refines}
 use Rattle.engine.specs.Call.{Name, Call}
 use Rattle.engine.specs.Call as c
-use Rattle.engine.specs.Meaning.{Value, bool, asBool, Assignment, valueAt, run, Fits, Asserted, Holds, Earlier, Sat, terms, All}
+use Rattle.engine.specs.Meaning.{Value, asBool, Assignment, valueAt, run, Fits, Asserted, Earlier, Sat, terms, All}
 use Rattle.engine.specs.Laws.{All-map, sat-holds}
-use Rattle.working_out.specs.Reading.{Each, readsPast, source, Pair, ofDffs, pairOf, Joined, Alike}
+use Rattle.working_out.specs.Reading.{Each, readsPast, source, ofDffs, pairOf, Joined, Alike}
 use Rattle.working_out.specs.Laid.{Laid, Ascending}
 use Rattle.working_out.specs.Loop.{Loop, hasLoop}
 use Rattle.working_out.specs.Solutions.{loop-decided}
@@ -31,10 +32,9 @@ use Rattle.smt.specs.Shows.{shown-is}
 use Rattle.smt.specs.CellBits.{pastBits}
 use Rattle.smt.specs.Refines.{same-bits}
 use Rattle.smt.specs.Wp.{Known}
-use Rattle.soundness.specs.Safe.{Truth}
 use Rattle.smt.specs.CellShows.{tritsOf, read-shows}
 use Rattle.order.specs.Verify as verify
-use Rattle.order.specs.Verify.{Step, declared, asserted, obliged, start, steps, work}
+use Rattle.order.specs.Verify.{Step, declared, asserted, obliged, start, steps, work, built}
 use Rattle.order.specs.Meant.{Meant, stepsOf, meantCells, meantPair, meantPairs, meantSteps, joinTest, SaidOf, ask, asks, truths, Worked}
 use Rattle.order.proofs.StepsMean.{steps-are, steps-mean}
 use Rattle.order.proofs.WorkSound.{work-sound}
@@ -43,16 +43,22 @@ use Rattle.design.specs.Shown.{left, right, tests-solve}
 use Rattle.design.specs.Judged.{steps-judged}
 use Rattle.order.proofs.Numbered.{work-next}
 use Rattle.order.proofs.Ascending.{obligations-ascend}
-use Rattle.design.specs.Declares.{declared-left, nodes-declared}
+use Rattle.design.specs.Declares.{declared-left, declared-cases, built-together, nodes-declared}
 use Rattle.design.specs.Prefix.{value-on, asserted-back, fits-left, run-agrees, fits-agrees}
 use Rattle.design.specs.Filled.{filled, filled-agrees, filled-shows}
 use Rattle.design.specs.Exists.{zeros-none, but, but-earlier, asked, asked-earlier, exists}
-use Rattle.design.specs.Requirement3.{IsDeclared, Declared, tritIn, tritsIn, unchecked, givenTrit, IsSource, Shows, queryCalls, Turned, Requirement3}
+use Rattle.design.specs.Requirement3.{declaredNames, IsDeclared, Declared, tritIn, tritsIn, unchecked, Shows, queryCalls, Turned, Requirement3}
 
 -- Two functions that agree on a list's elements.
 map-same : {A : Type 0} (f h : ℕ → A) (l : List ℕ) → All (λ k. f k ≡ h k) l → map f l ≡ map h l
 map-same f h [] e = refl
 map-same f h (k ∷ l) e = ap₂ (λ (x : _) (r : List _). x ∷ r) (e .0) (map-same f h l (e .1))
+
+-- The query declares nothing.
+pub query-none : (n : ℕ) (l : List ℕ) (name : Name) → IsDeclared (queryCalls n l) name → ⊥
+unfolding declaredNames
+query-none n [] name m = List·Memᴰ·not-nil m
+query-none n (o ∷ l) name m = List·Memᴰ·not-nil m
 
 module _ (d : Design) (laid : Laid d) (bounds : Bounds d) (n : ℕ) (asked-terms : List ℕ) where
   abbrev calls : List Call
@@ -60,6 +66,18 @@ module _ (d : Design) (laid : Laid d) (bounds : Bounds d) (n : ℕ) (asked-terms
 
   no-names : (ρ : Assignment) (v : ℕ → Value) → Known ρ v ((start (total d)) .names)
   no-names ρ v a i h k e = absurd (zeros-none (4 * total d) (place a i h) k e)
+
+  -- A net's two names are declared together or not at all.
+  pub together : (a : Age) (i : ℕ) (h : Half) → IsDeclared calls (netName a i h) → Declared calls a i
+  unfolding but
+  together a i h m g =
+      declared-left (but d) (queryCalls n asked-terms) (netName a i g)
+      (subst (λ (l : List Step). Declared ((work l (start (total d))) .calls) a i) (sym (steps-are d)) (built-together d a i h first) g)
+    where
+      first : IsDeclared ((built d) .calls) (netName a i h)
+      first =
+          subst (λ (l : List Step). IsDeclared ((work l (start (total d))) .calls) (netName a i h)) (steps-are d)
+          (⊎-elim (λ q. q) (λ q. absurd (query-none n asked-terms (netName a i h) q)) (declared-cases (but d) _ (netName a i h) m))
 
   -- What an assignment that satisfies the assertions but the query says.
   worked-by : (ρ : Assignment) → Fits ρ calls → Asserted (valueAt (run ρ [] calls)) (but d)
@@ -88,10 +106,10 @@ module _ (d : Design) (laid : Laid d) (bounds : Bounds d) (n : ℕ) (asked-terms
     θ = tritsOf (netBits (filled g calls ρ))
 
     was-given : (i : ℕ) → (tritsOf (netBits (filled g calls ρ))) .was i ≡ g .was i
-    was-given i = filled-shows d g calls ρ (shown-by .sources) past i tt
+    was-given i = filled-shows d g calls ρ together (shown-by .sources) past i tt
 
     now-given : (i : ℕ) → source d i ≡ true → (tritsOf (netBits (filled g calls ρ))) .now i ≡ g .now i
-    now-given i e = filled-shows d g calls ρ (shown-by .sources) curr i e
+    now-given i e = filled-shows d g calls ρ together (shown-by .sources) curr i e
 
     solves : Solves d g ((tritsOf (netBits (filled g calls ρ))) .now)
     solves =
@@ -196,7 +214,7 @@ work-unchecked (asserted m ∷ rest) s = emit-unchecked m s _ (pass (work-unchec
 work-unchecked (obliged m ∷ rest) s = emit-unchecked m s _ (work-unchecked rest ((emit m s) .st))
 
 -- The calls of the query are those that `check` emits.
-query-calls : (l : List ℕ) (s : St) → verify.asked l s ≡ queryCalls (s .next) l
+pub query-calls : (l : List ℕ) (s : St) → verify.asked l s ≡ queryCalls (s .next) l
 unfolding verify.asked verify.query emit _>>=_
 query-calls [] s = refl
 query-calls (o ∷ l) s = refl
@@ -271,8 +289,9 @@ module _ (d : Design) (laid : Laid d) (bounds : Bounds d) (none : Loop d → ⊥
 
   nodes : (i : ℕ) → i < total d → source d i ≡ false → Declared (but d ++ queryCalls (terms (but d)) (asked d)) curr i
   unfolding but
-  nodes i low node h = declared-left (but d) (queryCalls (terms (but d)) (asked d)) (netName curr i h)
-      (subst (λ (l : List Step). IsDeclared ((work l (start (total d))) .calls) (netName curr i h)) (sym (steps-are d)) (nodes-declared d laid i low node h))
+  nodes i low node h =
+      declared-left (but d) (queryCalls (terms (but d)) (asked d)) (netName curr i h)
+      (subst (λ (l : List Step). Declared ((work l (start (total d))) .calls) curr i) (sym (steps-are d)) (nodes-declared d laid i low node) h)
 
   pub requirement-3 : Requirement3 d (verify.verify d)
   requirement-3 = subst (Requirement3 d) (sym (verify-is d)) (record {
@@ -284,6 +303,7 @@ module _ (d : Design) (laid : Laid d) (bounds : Bounds d) (none : Loop d → ⊥
     ascend = asked-ascend d;
     earlier = earlier-append 0 (terms (but d)) (but d) _ (omega arith) (but-earlier d laid bounds)
         (query-earlier (terms (but d)) (asked d) (asked-earlier d laid bounds));
+    together = together d laid bounds (terms (but d)) (asked d);
     exists = exists d laid bounds no-loop (terms (but d)) (asked d);
     shown = λ g ρ s. shown d laid bounds (terms (but d)) (asked d) no-loop g ρ s;
     judged = λ g ρ s. judged d laid bounds (terms (but d)) (asked d) no-loop g ρ s;

@@ -1,7 +1,7 @@
 -- Document 01: what the order of work answers for a list of words and the room lent for its calls and its recorded marks, and what
 -- it leaves in the two slices. Every count is a count in the calls themselves.
 use mathlib.Core.Path.{_≡_}
-use mathlib.Core.Bool.{false, cond}
+use mathlib.Core.Bool.{cond}
 use mathlib.Core.List.{List, [], _∷_, _++_}
 use Prim.Native.Nat.{ℕ, _+_}
 use lib.Dec.{ltb}

@@ -21,7 +21,6 @@ use Rattle.soundness.specs.Solve.{
   Temp,
   noTemp,
   Ran,
-  assigned,
   exec,
   Grows,
   grows,

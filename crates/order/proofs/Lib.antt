@@ -4,4 +4,6 @@ pub mod StepsMean
 pub mod WorkSound
 pub mod Numbered
 pub mod Ascending
+pub mod NetReads
 pub mod Marks
+pub mod Pairs
