@@ -6,7 +6,9 @@ use mathlib.Core.List.{List, [], _∷_, _++_}
 use Prim.Native.Nat.{ℕ, _+_}
 use lib.Dec.{ltb}
 use lib.ListN.{length, drop}
-use Rattle.logic.specs.declared.Fault.{Fault}
+use Rattle.design.specs.declared.Counts.{Counts}
+use Rattle.design.specs.declared.Verified.{Verified}
+use Rattle.design.specs.declared.Verified.the-variants.{Refused, NothingAsked, Asked}
 use Rattle.cell.specs.Design.{Design, total}
 use Rattle.engine.specs.Call.{Letter, Suffix, Call}
 use Rattle.engine.specs.Call as c
@@ -34,21 +36,10 @@ temporaries (c.declare name w ∷ cs) = isTemporary (name .letter) (name .suffix
 temporaries (c.assert k ∷ cs) = temporaries cs
 temporaries (c.check ∷ cs) = temporaries cs
 
-pub record Counts : Type 0 where
-  pub terms : ℕ
-  pub temporaries : ℕ
-  pub words : ℕ
-
 abbrev pub counted : List Call → Counts
 counted cs = record { terms = Rattle.engine.specs.Meaning.terms cs; temporaries = temporaries cs; words = length (encode cs) }
 
 -- ---- the answer
-
--- A refusal, a list with no obligation, or one whose obligations are asked.
-pub data Verified : Type 0 where
-  Refused : Fault → Verified
-  NothingAsked : Counts → Verified
-  Asked : Counts → Verified
 
 -- With no obligation nothing is asked.
 abbrev pub told : List ℕ → Counts → Verified
