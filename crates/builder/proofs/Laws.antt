@@ -157,3 +157,9 @@ ran-assoc {A} {B} {C} m g f {calls} {names} {marks} {calls′} {names′} {marks
           subst (λ (o : Out C). Ends o calls (c .words) calls′ (c′ .words) (stateOf c′ names′ marks′) r) same
           (p .ends lent (subst (λ (o : Out C). Fits (o .st)) (sym same) fits));
     }
+
+-- ---- the same result, said in another way
+
+pub ran-as : {A : Type 0} {m : Prog A} {calls names marks calls′ names′ marks′ : List ℕ} {c c′ : Counts} {a b : A}
+    → Ran m calls names marks c calls′ names′ marks′ c′ a → a ≡ b → Ran m calls names marks c calls′ names′ marks′ c′ b
+ran-as p same = rw same at p
