@@ -57,6 +57,10 @@ MakesVector m w calls c calls′ r = Writes m calls c calls′ (r .counts) (bv (
 abbrev pub MakesTrits : Prog model.TritVec → ℕ → List ℕ → Counts → List ℕ → BuiltTrits → Type 0
 MakesTrits m w calls c calls′ r = Writes m calls c calls′ (r .counts) (trits w (r .value))
 
+-- Code that has a part in the names and marks, with a trit vector of a width as the result.
+abbrev pub RanTrits : Prog model.TritVec → ℕ → List ℕ → List ℕ → List ℕ → Counts → List ℕ → List ℕ → List ℕ → BuiltTrits → Type 0
+RanTrits m w calls names marks c calls′ names′ marks′ r = Ran m calls names marks c calls′ names′ marks′ (r .counts) (trits w (r .value))
+
 -- A count of terms stops at the largest number of 32 bits.
 abbrev pub following : ℕ → ℕ
 following n = min (suc n) 4294967295

@@ -1,25 +1,7 @@
 -- The parts into which the code cuts a function of the model: each is what the model's function does from a line on.
-use mathlib.Core.Path.{_≡_}
-use mathlib.Core.List.{List}
 use Prim.Native.Nat.{ℕ}
-use Rattle.engine.specs.Call.{Call}
-use Rattle.engine.specs.Encode.{encode}
-use Rattle.engine.specs.Emit.{Wrote}
 use Rattle.smt.specs.Prog.{Prog, ret, _>>=_, BitVec, TritVec, tv, buildBvnot, buildBvand, buildBvor, buildBvxor, buildBitvecIte}
 use Rattle.smt.specs.Builder.{tvIs0, tvIs1, bvToBool}
-use Rattle.builder.specs.declared.Counts.{Counts}
-use Rattle.builder.specs.Ran.{following}
-
--- ---- bv_bind and tv_bind: calls of which one makes a term
-
-pub record Called (cs : List Call) (term : ℕ) (calls : List ℕ) (c : Counts) (calls′ : List ℕ) (c′ : Counts) : Type 0 where
-  pub wrote : Wrote calls (c .words) (encode cs) calls′ (c′ .words)
-  pub made : term ≡ c .terms
-  pub terms : c′ .terms ≡ following (c .terms)
-  pub temporaries : c′ .temporaries ≡ c .temporaries
-
-abbrev pub nextTemporary : Counts → Counts
-nextTemporary c = record { terms = c .terms; temporaries = following (c .temporaries); words = c .words }
 
 -- ---- tv_and and tv_or
 

@@ -1,118 +1,41 @@
-// SmtBuilder of smt.rs: its functions on bit vectors and trit vectors that touch no net, under their own names and in its order.
+// SmtBuilder of smt.rs: its functions on trit vectors (`tv_`) that touch no net, under their own names and in its order.
 use builder::Built;
 use builder::BuiltTrits;
 use builder::Counts;
 use builder::TritVec;
 use engine::BinaryOp;
-use engine::Letter;
 use engine::Suffix;
 use logic::Term;
 ghost use mathlib.Core.Path.{_≡_};
-ghost use mathlib.Core.List.{List, [], _∷_, map};
-ghost use Prim.Native.Nat.{ℕ, _-_, _≤_, suc, min};
+ghost use mathlib.Core.List.{List, map};
+ghost use Prim.Native.Nat.{ℕ, _-_, suc, min};
 ghost use lib.ListN.{length};
 ghost use Rattle.logic.specs.Trit.{xOf, yOf};
 ghost use Rattle.logic.specs.declared.Trit.{Trit};
-ghost use Rattle.bitvec.specs.Bits.{Bits, nat2bv};
-ghost use Rattle.engine.specs.Call as k;
-ghost use Rattle.engine.specs.Emit.{suffixOf};
-ghost use Rattle.smt.specs.Emit.{tempName};
+ghost use Rattle.bitvec.specs.Bits.{nat2bv};
 ghost use Rattle.smt.specs.Prog.{bv};
-ghost use Rattle.smt.specs.Builder.{bvLit, bvBind, bvIsZero, bvToBool, boolToBv, tvLit, tvBind, tvExtract, tvIs0, tvIs1, tvEq, tvRefines, tvNot, tvAnd, tvOr, tvXor, tvMux};
+ghost use Rattle.smt.specs.Builder.{tvLit, tvBind, tvExtract, tvIs0, tvIs1, tvEq, tvRefines, tvNot, tvAnd, tvOr, tvXor, tvMux};
 ghost use Rattle.builder.specs.Ran.{trits, MakesBool, MakesVector, MakesTrits};
-ghost use Rattle.trits.specs.Parts.{Called, nextTemporary, undecided, andBound, orBound, muxBound, muxX, muxY};
-
-// ---- bit vectors
-
-// A literal of at most 64 bits, by its number.
-pub fn bv_lit(calls: &mut [u32], c: Counts, width: u32, value: u64) -> Built
-    ensures { λ r. ⌜ ((s : Bits) → nat2bv (min width 64) value ≡ s → MakesVector (bvLit s) (length s) (now (calls .entry)) c (now (calls .exit)) r) ⌝ }
-{
-    builder::build_bitvec_lit(calls, c, width, value)
-}
-
-// A name of the next temporary.
-fn declare_temporary(calls: &mut [u32], c: Counts, suffix: Suffix, width: u32) -> Built
-    ensures { λ r. ⌜ Called (k.declare (tempName (c .temporaries) (suffixOf suffix)) width ∷ []) (r .term .0) (now (calls .entry)) c (now (calls .exit)) (r .counts) ⌝ }
-{
-    builder::made(
-        c,
-        engine::declare_bitvec_const(calls, c.words, Letter::T, c.temporaries, suffix, width),
-    )
-}
-
-// `self.temp += 1`
-fn next_temporary(c: Counts) -> Counts
-    ensures { λ r. ⌜ r ≡ nextTemporary c ⌝ }
-{
-    Counts {
-        terms: c.terms,
-        temporaries: builder::following(c.temporaries),
-        words: c.words,
-    }
-}
-
-// A term asserted equal to another.
-fn assert_eq(calls: &mut [u32], c: Counts, arg1: Term, arg2: Term) -> Built
-    ensures { λ r. ⌜ Called (k.term (k.equal (arg1 .0) (arg2 .0)) ∷ k.assert (c .terms) ∷ []) (r .term .0) (now (calls .entry)) c (now (calls .exit)) (r .counts) ⌝ }
-{
-    let words = engine::build_eq(calls, c.words, arg1, arg2);
-    builder::made(c, engine::assert_term(calls, words, Term(c.terms)))
-}
-
-pub fn bv_bind(calls: &mut [u32], c: Counts, value: Term, width: u32) -> Built
-    ensures { λ r. ⌜ ((i : ℕ) → MakesVector (bvBind (bv (value .0) i) width) width (now (calls .entry)) c (now (calls .exit)) r) ⌝ }
-{
-    let temp = declare_temporary(calls, c, Suffix::None, width);
-    let next = next_temporary(temp.counts);
-    let equal = assert_eq(calls, next, temp.term, value);
-    let term = temp.term;
-    let counts = equal.counts;
-    Built { term, counts }
-}
-
-pub fn bv_is_zero(calls: &mut [u32], c: Counts, value: Term, width: u32) -> Built
-    ensures { λ r. ⌜ (width ≤ 64 → (i : ℕ) → MakesBool (bvIsZero (bv (value .0) i) width) (now (calls .entry)) c (now (calls .exit)) r) ⌝ }
-{
-    let zero = bv_lit(calls, c, width, 0);
-    builder::build_bitvec_eq(calls, zero.counts, value, zero.term)
-}
-
-pub fn bv_to_bool(calls: &mut [u32], c: Counts, value: Term) -> Built
-    ensures { λ r. ⌜ ((i : ℕ) → MakesBool (bvToBool (bv (value .0) i)) (now (calls .entry)) c (now (calls .exit)) r) ⌝ }
-{
-    let one = bv_lit(calls, c, 1, 1);
-    builder::build_bitvec_eq(calls, one.counts, value, one.term)
-}
-
-pub fn bool_to_bv(calls: &mut [u32], c: Counts, value: Term) -> Built
-    ensures { λ r. ⌜ MakesVector (boolToBv (value .0)) 1 (now (calls .entry)) c (now (calls .exit)) r ⌝ }
-{
-    let one = bv_lit(calls, c, 1, 1);
-    let zero = bv_lit(calls, one.counts, 1, 0);
-    builder::build_bitvec_ite(calls, zero.counts, value, one.term, zero.term)
-}
-
-// ---- trit vectors
+ghost use Rattle.trits.specs.Parts.{undecided, andBound, orBound, muxBound, muxX, muxY};
 
 // A literal of at most 64 trits, by the numbers of its x and its y.
 pub fn tv_lit(calls: &mut [u32], c: Counts, width: u32, x: u64, y: u64) -> BuiltTrits
     ensures { λ r. ⌜ ((ts : List Trit) → nat2bv (min width 64) x ≡ map xOf ts → nat2bv (min width 64) y ≡ map yOf ts
         → MakesTrits (tvLit ts) (length ts) (now (calls .entry)) c (now (calls .exit)) r) ⌝ }
 {
-    let is_undef = bv_lit(calls, c, width, x);
-    let is_one = bv_lit(calls, is_undef.counts, width, y);
+    let is_undef = bits::bv_lit(calls, c, width, x);
+    let is_one = bits::bv_lit(calls, is_undef.counts, width, y);
     builder::trits(is_undef.term, is_one)
 }
 
 pub fn tv_bind(calls: &mut [u32], c: Counts, value: TritVec, width: u32) -> BuiltTrits
     ensures { λ r. ⌜ ((i : ℕ) → MakesTrits (tvBind (trits i value) width) width (now (calls .entry)) c (now (calls .exit)) r) ⌝ }
 {
-    let x = declare_temporary(calls, c, Suffix::X, width);
-    let y = declare_temporary(calls, x.counts, Suffix::Y, width);
-    let next = next_temporary(y.counts);
-    let equal_x = assert_eq(calls, next, x.term, value.x);
-    let equal_y = assert_eq(calls, equal_x.counts, y.term, value.y);
+    let x = bits::declare_temporary(calls, c, Suffix::X, width);
+    let y = bits::declare_temporary(calls, x.counts, Suffix::Y, width);
+    let next = bits::next_temporary(y.counts);
+    let equal_x = bits::assert_eq(calls, next, x.term, value.x);
+    let equal_y = bits::assert_eq(calls, equal_x.counts, y.term, value.y);
     let xt = x.term;
     let yt = y.term;
     let counts = equal_y.counts;
@@ -313,8 +236,8 @@ fn mux_bound(calls: &mut [u32], c: Counts, s: TritVec, a: TritVec, b: TritVec) -
 {
     let bv_is0 = tv_is0(calls, c, s);
     let bv_is1 = tv_is1(calls, bv_is0.counts, s);
-    let s_is0 = bv_to_bool(calls, bv_is1.counts, bv_is0.term);
-    let s_is1 = bv_to_bool(calls, s_is0.counts, bv_is1.term);
+    let s_is0 = bits::bv_to_bool(calls, bv_is1.counts, bv_is0.term);
+    let s_is1 = bits::bv_to_bool(calls, s_is0.counts, bv_is1.term);
     mux_x(calls, s_is1.counts, a, b, s_is0.term, s_is1.term)
 }
 

@@ -1,7 +1,7 @@
 -- `trits::tv_bind` meets its contract: two names declared, the temporaries counted, the equations asserted. Assumes nothing.
 use borrow.Author.Needs.{needs}
 use mathlib.Core.Path.{_∙_}
-use Rattle.trits.proofs.Temporaries.{ran-tv-bind}
+use Rattle.bits.proofs.Temporaries.{ran-tv-bind}
 use Rattle.trits.proofs.tv_bind.Statement.{statement}
 use Rattle.trits.proofs.tv_bind.Tie as tie
 

@@ -1,7 +1,7 @@
--- `trits::bv_lit` meets its contract: it is one call of the engine. Assumes nothing.
+-- `bits::bv_lit` meets its contract: it is one call of the engine. Assumes nothing.
 use borrow.Author.Needs.{needs}
-use Rattle.trits.proofs.bv_lit.Statement.{statement}
-use Rattle.trits.proofs.bv_lit.Tie as tie
+use Rattle.bits.proofs.bv_lit.Statement.{statement}
+use Rattle.bits.proofs.bv_lit.Tie as tie
 
 returns : tie.Need-returns
 returns c =

@@ -1,8 +1,8 @@
--- `trits::bv_bind` meets its contract: a name declared, the temporaries counted, the equation asserted. Assumes nothing.
+-- `bits::bv_bind` meets its contract: a name declared, the temporaries counted, the equation asserted. Assumes nothing.
 use borrow.Author.Needs.{needs}
-use Rattle.trits.proofs.Temporaries.{ran-bv-bind}
-use Rattle.trits.proofs.bv_bind.Statement.{statement}
-use Rattle.trits.proofs.bv_bind.Tie as tie
+use Rattle.bits.proofs.Temporaries.{ran-bv-bind}
+use Rattle.bits.proofs.bv_bind.Statement.{statement}
+use Rattle.bits.proofs.bv_bind.Tie as tie
 
 returns : tie.Need-returns
 returns c =

@@ -1,12 +1,12 @@
--- `trits::bv_is_zero` meets its contract: its calls are those of the model, one after the other. Assumes nothing.
+-- `bits::bv_is_zero` meets its contract: its calls are those of the model, one after the other. Assumes nothing.
 use borrow.Author.Needs.{needs}
 use Rattle.builder.proofs.Laws.{ran-bind}
 use Rattle.smt.specs.Builder.{bvIsZero}
 use mathlib.Core.Path.{ap, _∙_}
 use Rattle.bitvec.specs.Bits.{nat2bv}
-use Rattle.trits.proofs.Literals.{narrow, zeros-lit}
-use Rattle.trits.proofs.bv_is_zero.Statement.{statement}
-use Rattle.trits.proofs.bv_is_zero.Tie as tie
+use Rattle.bits.proofs.Literals.{narrow, zeros-lit}
+use Rattle.bits.proofs.bv_is_zero.Statement.{statement}
+use Rattle.bits.proofs.bv_is_zero.Tie as tie
 
 returns : tie.Need-returns
 unfolding bvIsZero

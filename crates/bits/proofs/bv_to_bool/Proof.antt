@@ -1,11 +1,11 @@
--- `trits::bv_to_bool` meets its contract: its calls are those of the model, one after the other. Assumes nothing.
+-- `bits::bv_to_bool` meets its contract: its calls are those of the model, one after the other. Assumes nothing.
 use borrow.Author.Needs.{needs}
 use Rattle.builder.proofs.Laws.{ran-bind}
 use mathlib.Core.Path.{refl}
 use Rattle.bitvec.specs.Bits.{nat2bv}
 use Rattle.smt.specs.Builder.{bvToBool}
-use Rattle.trits.proofs.bv_to_bool.Statement.{statement}
-use Rattle.trits.proofs.bv_to_bool.Tie as tie
+use Rattle.bits.proofs.bv_to_bool.Statement.{statement}
+use Rattle.bits.proofs.bv_to_bool.Tie as tie
 
 returns : tie.Need-returns
 unfolding bvToBool nat2bv

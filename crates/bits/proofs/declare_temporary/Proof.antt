@@ -1,8 +1,8 @@
--- `trits::declare_temporary` meets its contract: it is one call of the engine. Assumes nothing.
+-- `bits::declare_temporary` meets its contract: it is one call of the engine. Assumes nothing.
 use borrow.Author.Needs.{needs}
-use Rattle.trits.proofs.Temporaries.{called-one}
-use Rattle.trits.proofs.declare_temporary.Statement.{statement}
-use Rattle.trits.proofs.declare_temporary.Tie as tie
+use Rattle.bits.proofs.Temporaries.{called-one}
+use Rattle.bits.proofs.declare_temporary.Statement.{statement}
+use Rattle.bits.proofs.declare_temporary.Tie as tie
 
 returns : tie.Need-returns
 returns c =

@@ -1,8 +1,8 @@
--- `trits::assert_eq` meets its contract: two calls, of which the first makes a term. Assumes nothing.
+-- `bits::assert_eq` meets its contract: two calls, of which the first makes a term. Assumes nothing.
 use borrow.Author.Needs.{needs}
-use Rattle.trits.proofs.Temporaries.{called-two}
-use Rattle.trits.proofs.assert_eq.Statement.{statement}
-use Rattle.trits.proofs.assert_eq.Tie as tie
+use Rattle.bits.proofs.Temporaries.{called-two}
+use Rattle.bits.proofs.assert_eq.Statement.{statement}
+use Rattle.bits.proofs.assert_eq.Tie as tie
 
 returns : tie.Need-returns
 returns c =

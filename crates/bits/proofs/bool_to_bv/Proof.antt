@@ -1,11 +1,11 @@
--- `trits::bool_to_bv` meets its contract: its calls are those of the model, one after the other. Assumes nothing.
+-- `bits::bool_to_bv` meets its contract: its calls are those of the model, one after the other. Assumes nothing.
 use borrow.Author.Needs.{needs}
 use Rattle.builder.proofs.Laws.{ran-bind}
 use mathlib.Core.Path.{refl}
 use Rattle.bitvec.specs.Bits.{nat2bv}
 use Rattle.smt.specs.Builder.{boolToBv}
-use Rattle.trits.proofs.bool_to_bv.Statement.{statement}
-use Rattle.trits.proofs.bool_to_bv.Tie as tie
+use Rattle.bits.proofs.bool_to_bv.Statement.{statement}
+use Rattle.bits.proofs.bool_to_bv.Tie as tie
 
 returns : tie.Need-returns
 unfolding boolToBv nat2bv

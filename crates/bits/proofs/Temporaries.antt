@@ -14,7 +14,7 @@ use Rattle.builder.specs.declared.Counts.{Counts}
 use Rattle.builder.specs.declared.Built.{Built}
 use Rattle.builder.specs.Ran.{stateOf, Ends, Writes, following, builtAt}
 use Rattle.builder.proofs.Laws.{wrote-call, wrote-calls}
-use Rattle.trits.specs.Parts.{Called, nextTemporary}
+use Rattle.bits.specs.Called.{Called, nextTemporary}
 
 -- ---- calls of which one makes a term
 

@@ -1,7 +1,7 @@
--- `trits::next_temporary` meets its contract: one more temporary. Assumes nothing.
+-- `bits::next_temporary` meets its contract: one more temporary. Assumes nothing.
 use borrow.Author.Needs.{needs}
-use Rattle.trits.proofs.next_temporary.Statement.{statement}
-use Rattle.trits.proofs.next_temporary.Tie as tie
+use Rattle.bits.proofs.next_temporary.Statement.{statement}
+use Rattle.bits.proofs.next_temporary.Tie as tie
 
 returns : tie.Need-returns
 returns c =
