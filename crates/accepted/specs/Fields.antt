@@ -2,22 +2,22 @@
 use mathlib.Core.Path.{_≡_, refl, _∙_}
 use mathlib.Core.Bool.{Bool, true, false, cond}
 use mathlib.Core.List.{List}
-use Prim.Native.Nat.{ℕ, zero, suc, _+_, _-_, _*_, _≤_, _<_}
+use Prim.Native.Nat.{ℕ, zero, suc, _+_, _-_, _*_, _^_, _≤_, _<_}
 use native.Mathlib.Omega.{arith}
 use native.Mathlib.Decide.{decLt}
 use lib.ListN.{length, getD}
-use lib.Dec.{ltb, eqb}
-use borrow.Author.Tests.{ltb-true, eqb-false}
+use lib.Dec.{ltb}
+use borrow.Author.Tests.{ltb-true}
 use Rattle.logic.specs.Word.{kindOf}
-use Rattle.logic.specs.Net.{Net, constant, slot, netOf}
+use Rattle.logic.specs.Net.{Net, constant, slot, netOf, driverOfNet}
+use Rattle.logic.specs.declared.Driver.the-variants.{NoNet}
 use Rattle.logic.specs.Table.{tab, length-tab}
 use Rattle.logic.specs.declared.Trit.{Trit}
-use Rattle.logic.specs.declared.Trit.the-variants.{Zero, One, Undef}
 use Rattle.cell.specs.declared.Fields.{Fields}
 use Rattle.fields.specs.declared.Number.{Number}
 use Rattle.fields.specs.declared.Number.the-variants as N
 use Rattle.fields.specs.declared.Scan.the-variants as S
-use Rattle.fields.specs.Field.{isConstant, isKnown, numberAt, netAt, constantAt, netsAt, constantsAt, scanMany}
+use Rattle.fields.specs.Field.{knownDriver, isKnown, numberAt, netAt, constantAt, netsAt, constantsAt, scanMany}
 use Rattle.fields.specs.Pattern.{onNumber, alternateAt, patternAt, patternsAt}
 use Rattle.fields.specs.Accepted.{number-read, IsNet, net-read, constant-read, many-read, both-read}
 use Rattle.cell_reader.specs.Parse.{numberIn, netIn, netsIn, tritsIn, patternsIn}
@@ -32,27 +32,14 @@ unfolding tab
 each-tab P zero f h = tt
 each-tab P (suc n) f h = (h zero (omega arith), each-tab P n (λ i. f (suc i)) (λ i l. h (suc i) (omega arith)))
 
--- What holds of every constant, and of the slot of a payload that names no constant, holds of what a payload names.
-pub net-cases :
-    (P : Net → Type 0) (p : ℕ) → ((t : Trit) → P (constant t)) → (isConstant p ≡ false → P (slot (p - 2))) → P (netOf p)
-net-cases P p constants slots = go (eqb p 0) (eqb p 1) (eqb p 536870911) (ltb p 2) refl refl refl slots
-  where
-    go :
-        (a b c d : Bool) → eqb p 0 ≡ a → eqb p 1 ≡ b → ltb p 2 ≡ d → (cond d true c ≡ false → P (slot (p - 2))) →
-        P (cond a (constant Zero) (cond b (constant One) (cond c (constant Undef) (slot (p - 2)))))
-    go true b c d a-is b-is d-is slots = constants Zero
-    go false true c d a-is b-is d-is slots = constants One
-    go false false true d a-is b-is d-is slots = constants Undef
-    go false false false true a-is b-is d-is slots =
-        let low : p < 2 = ltb-true _ _ d-is in
-        let some : p ≡ 0 → ⊥ = eqb-false _ _ a-is in
-        let more : p ≡ 1 → ⊥ = eqb-false _ _ b-is in
-        absurd (omega arith)
-    go false false false false a-is b-is d-is slots = slots refl
-
 -- A known payload names a net within the total.
 pub known-within : (total p : ℕ) → isKnown total p ≡ true → Within total (netOf p)
-known-within total p known = net-cases (Within total) p (λ t. tt) (λ other. ltb-true _ _ (rw other at known))
+known-within total p known = go (ltb p (2 ^ 29)) (netOf p) known
+  where
+    go : (low : Bool) (n : Net) → knownDriver total (cond low (driverOfNet n) NoNet) ≡ true → Within total n
+    go low (constant t) e = tt
+    go true (slot i) e = ltb-true _ _ e
+    go false (slot i) e = let z : _≡_ {A = ℕ} 0 1 = cc in absurd (omega arith)
 
 -- A net of a net or control word between two places, within the total.
 pub record Stands (w : List ℕ) (total from to : ℕ) (net : Net) : Type 0 where

@@ -9,7 +9,7 @@ use lib.ListN.{length, getD}
 use lib.Dec.{eqb}
 use borrow.Author.Tests.{lt-ltb, le-leb, ne-eqb}
 use Rattle.logic.specs.Word.{kindOf}
-use Rattle.logic.specs.Net.{Net, constant, slot}
+use Rattle.logic.specs.Net.{Net, constant, slot, driverOfNet, driver-of-payload}
 use Rattle.cell.specs.Cell.{Cell}
 use Rattle.cell.specs.Cell as C
 use Rattle.cell.specs.Operation.{numbersOf, fieldsOf, standingOf}
@@ -25,7 +25,7 @@ use Rattle.cell_reader.specs.Accepted.{IsLeading, IsRecord}
 use Rattle.design_list.specs.Slots.{takes}
 use Rattle.design_list.specs.Slots as Slots
 use Rattle.design_list.specs.Items.{newCell}
-use Rattle.design_list.specs.Voids.{namesVoid, offends, voidAt, clockAt, recordVoidsAt, replacementVoidsAt, pairVoidsAt, itemVoidsAt, voidsAt}
+use Rattle.design_list.specs.Voids.{voidDriver, namesVoid, offends, voidAt, clockAt, recordVoidsAt, replacementVoidsAt, pairVoidsAt, itemVoidsAt, voidsAt}
 use Rattle.design_list.specs.declared.Item.the-variants as I
 use Rattle.design_list.specs.Cover as Cover
 use Rattle.design_list.specs.Cover.{Walk, placed}
@@ -33,7 +33,7 @@ use Rattle.design_list.specs.Read.{read, accepted}
 use Rattle.design_list.specs.Accepted.{accepted-read}
 use Rattle.working_out.specs.Reading.{Each, each-map, cellOf, role, isVoid}
 use Rattle.working_out.specs.Laid.{Run, netsOf}
-use Rattle.accepted.specs.Fields.{each-tab, net-cases, Stands, Body, body-of}
+use Rattle.accepted.specs.Fields.{each-tab, Stands, Body, body-of}
 use Rattle.accepted.specs.Cells.{cell-read}
 use Rattle.accepted.specs.Replacements.{Climb, done, taken, IsReplacement, IsPair}
 use Rattle.accepted.specs.Laid.{walk-run, cell-takes, not-void, Stages, stages}
@@ -74,11 +74,13 @@ module _ (w : List ℕ) (d : Design) (run : Run 0 (d .cells) (total d)) where
       NoVoid d (netIn w at)
   unfolding offends namesVoid void Slots.isVoid
   word-avoids clock at clean kind other =
-      net-cases (NoVoid d) (numberIn w at) (λ t. tt) (λ free.
-      let clear : void (numberIn w at - 2) ≡ false =
-      rw (le-leb (kindOf (getD w at 0)) 1 kind, ne-eqb at clock other, free) at clean in λ low.
-      rw (cell-takes d (numberIn w at - 2) run (omega arith))
-      (not-void (takes (d .cells) (numberIn w at - 2) .cell) (rw (lt-ltb (numberIn w at - 2) (d .base) low) at clear)))
+      go (netIn w at)
+      (rw (le-leb (kindOf (getD w at 0)) 1 kind, ne-eqb at clock other, driver-of-payload (numberIn w at) (omega arith)) at clean)
+    where
+      go : (n : Net) → voidDriver void (driverOfNet n) ≡ false → NoVoid d n
+      go (constant t) clear = tt
+      go (slot i) clear = λ low.
+          rw (cell-takes d i run (omega arith)) (not-void (takes (d .cells) i .cell) (rw (lt-ltb i (d .base) low) at clear))
 
   -- The words of a record.
   Clean : ℕ → ℕ → ℕ → Type 0

@@ -29,7 +29,7 @@ pub enum Record {
 pub fn third_at(list: &[u32], numbers: Numbers, end: usize, n: u32, m: u32, at: usize) -> Leading
     ensures { λ r. ⌜ r ≡ thirdAt (now (list .entry)) numbers end n m at ⌝ }
 {
-    match fields::number_at(list, 536870911, end, at) {
+    match fields::number_at(list, logic::LAST_PAYLOAD, end, at) {
         Number::Refused(f) => Leading::Refused(f),
         Number::Value { n: offset, next } => {
             if numbers.within {

@@ -12,8 +12,8 @@ use Rattle.fields.specs.declared.Scan.{Scan}
 use Rattle.fields.specs.declared.Scan.the-variants as S
 use Rattle.design_list.specs.declared.Header.{Header}
 use Rattle.design_list.specs.declared.Cells.the-variants as C
-use Rattle.design_list.specs.declared.Step.{Step}
-use Rattle.design_list.specs.declared.Step.the-variants as T
+use Rattle.design_list.specs.Step.{Step}
+use Rattle.design_list.specs.Step as T
 use Rattle.design_list.specs.declared.DesignRead.{DesignRead}
 use Rattle.design_list.specs.declared.DesignRead.the-variants as D
 use Rattle.design_list.specs.Slots.{covering, heads, isVoid, marks}

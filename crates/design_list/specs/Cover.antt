@@ -53,9 +53,9 @@ module _ (w : List ℕ) (base total : ℕ) where
       go inside (P.Refused f) p e rest = let z : _≡_ {A = ℕ} 0 1 = cc in absurd (omega arith)
       go inside (P.Placed op width after next) p e rest =
           let is = placed-read w base total slot at p in
-          let last : after ≤ total = limit-low w base total slot order (is .within) in
-          let ends : after ≡ slot + max 1 width = is .ends in
-          placed inside is (rest after next last (omega arith) e)
+          let last : after .0 ≤ total = limit-low w base total slot order (is .within) in
+          let ends : after .0 ≡ slot + max 1 width = is .ends in
+          placed inside is (rest (after .0) next last (omega arith) e)
 
       more :
           (b : Bool) → ltb slot total ≡ b →

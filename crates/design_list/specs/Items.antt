@@ -21,8 +21,8 @@ use Rattle.design_list.specs.declared.Opening.{Opening}
 use Rattle.design_list.specs.declared.Opening.the-variants as O
 use Rattle.design_list.specs.declared.Placing.{Placing}
 use Rattle.design_list.specs.declared.Placing.the-variants as P
-use Rattle.design_list.specs.declared.Step.{Step}
-use Rattle.design_list.specs.declared.Step.the-variants as T
+use Rattle.design_list.specs.Step.{Step}
+use Rattle.design_list.specs.Step as T
 
 -- Items read up to a fault, or to the place after the last.
 pub record Reading (A : Type 0) : Type 0 where
@@ -63,10 +63,10 @@ onRecord (R.Refused e) f = P.Refused e
 unfoldable pub placedAt : List ℕ → ℕ → ℕ → ℕ → ℕ → Placing
 placedAt w base total slot at =
     onRecord (recordAt w total at) (λ (op : Operation) (width next : ℕ).
-    cond (leb (slot + max 1 width) (limitOf base total slot)) (P.Placed op width (slot + max 1 width) next) (P.Refused (fault 11 at)))
+    cond (leb (slot + max 1 width) (limitOf base total slot)) (P.Placed op width (record { 0 = slot + max 1 width }) next) (P.Refused (fault 11 at)))
 
 abbrev pub onPlaced : Placing → (ℕ → ℕ → Reading Placed) → Reading Placed
-onPlaced (P.Placed op width after next) f = f after next
+onPlaced (P.Placed op width after next) f = f (after .0) next
 onPlaced (P.Refused e) f = stop (Refused e)
 
 -- Cells until the total's slots are taken; each takes at least one, so as many turns as slots are enough.

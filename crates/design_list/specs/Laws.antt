@@ -1,5 +1,5 @@
 -- Laws that the loops of the reader go by: filling a table, and one turn of each scan.
-use Prim.Native.Nat.{ℕ, zero, suc, _+_, _-_, _<_, _≤_, max}
+use Prim.Native.Nat.{ℕ, zero, suc, _+_, _-_, _^_, _<_, _≤_, max}
 use mathlib.Core.Path.{_≡_, refl, sym, ap, _∙_}
 use mathlib.Core.Bool.{Bool, true, false, cond}
 use mathlib.Core.List.{List, [], _∷_, _++_, map}
@@ -11,6 +11,7 @@ use lib.Seq.{sets, length-sets}
 use lib.Dec.{ltb, leb}
 use borrow.Author.Tests.{lt-ltb, le-ltb, leb-true}
 use Rattle.logic.specs.declared.Fault.{Fault}
+use Rattle.logic.specs.declared.Slot.{Slot}
 use Rattle.cell.specs.Cell.{outputLen, slotsOf}
 use Rattle.cell.specs.Design.{Placed}
 use Rattle.cell.specs.Operation.{standingOf}
@@ -29,10 +30,10 @@ use Rattle.design_list.specs.declared.Header.{Header}
 use Rattle.design_list.specs.declared.Opening.the-variants as O
 use Rattle.design_list.specs.declared.Placing.the-variants as P
 use Rattle.design_list.specs.declared.Cells.the-variants as C
-use Rattle.design_list.specs.declared.Step.{Step}
-use Rattle.design_list.specs.declared.Step.the-variants as T
+use Rattle.design_list.specs.Step.{Step}
+use Rattle.design_list.specs.Step as T
 use Rattle.design_list.specs.Slots.{covering, markOf, markWord, marks}
-use Rattle.design_list.specs.Items.{Reading, stop, push, onHeaderNumber, countsAt, headerAt, limitOf, onRecord, placedAt, cellsFrom, cellsOf, ascending}
+use Rattle.design_list.specs.Items.{Reading, stop, push, onHeaderNumber, countsAt, headerAt, limitOf, onRecord, placedAt, cellsFrom, cellsOf, listedNumberAt, ascending}
 use Rattle.design_list.specs.Marks.{counted}
 use Rattle.design_list.specs.Voids.{offends, voidAt}
 
@@ -69,22 +70,23 @@ pub record IsPlaced (w : List ℕ) (base total slot at : ℕ) (op : Operation) (
   pub within : after ≤ limitOf base total slot
 
 pub placed-read :
-    (w : List ℕ) (base total slot at : ℕ) {op : Operation} {width after next : ℕ} → placedAt w base total slot at ≡ P.Placed op width after next →
-    IsPlaced w base total slot at op width after next
+    (w : List ℕ) (base total slot at : ℕ) {op : Operation} {width next : ℕ} {after : Slot} → placedAt w base total slot at ≡ P.Placed op width after next →
+    IsPlaced w base total slot at op width (after .0) next
 unfolding placedAt
-placed-read w base total slot at {op} {width} {after} {next} read = go (recordAt w total at) refl read
+placed-read w base total slot at {op} {width} {next} {after} read = go (recordAt w total at) refl read
   where
     fits :
         (o : Operation) (width₁ next₁ : ℕ) → IsRecord w total at o width₁ next₁ →
         (b : Bool) → leb (slot + max 1 width₁) (limitOf base total slot) ≡ b →
-        cond b (P.Placed o width₁ (slot + max 1 width₁) next₁) (P.Refused (fault 11 at)) ≡ P.Placed op width after next →
-        IsPlaced w base total slot at op width after next
+        cond b (P.Placed o width₁ (record { 0 = slot + max 1 width₁ }) next₁) (P.Refused (fault 11 at)) ≡ P.Placed op width after next →
+        IsPlaced w base total slot at op width (after .0) next
     fits o width₁ next₁ is false b e = let z : _≡_ {A = ℕ} 0 1 = cc in absurd (omega arith)
     fits o width₁ next₁ is true b e =
         let same-op : o ≡ op = cc in
         let same-width : width₁ ≡ width = cc in
         let same-next : next₁ ≡ next = cc in
-        let same-after : after ≡ slot + max 1 width₁ = cc in
+        let same-slot : record { 0 = slot + max 1 width₁ } ≡ after = cc in
+        let same-after : after .0 ≡ slot + max 1 width₁ = sym (ap (λ (s : Slot). s .0) same-slot) in
         let low : slot + max 1 width₁ ≤ limitOf base total slot = leb-true _ _ b in
         record {
           record-is = rw same-op at (rw same-width at (rw same-next at is));
@@ -95,8 +97,8 @@ placed-read w base total slot at {op} {width} {after} {next} read = go (recordAt
     go :
         (r : Record) → recordAt w total at ≡ r →
         onRecord r (λ (o : Operation) (width₁ next₁ : ℕ).
-        cond (leb (slot + max 1 width₁) (limitOf base total slot)) (P.Placed o width₁ (slot + max 1 width₁) next₁) (P.Refused (fault 11 at)))
-        ≡ P.Placed op width after next → IsPlaced w base total slot at op width after next
+        cond (leb (slot + max 1 width₁) (limitOf base total slot)) (P.Placed o width₁ (record { 0 = slot + max 1 width₁ }) next₁) (P.Refused (fault 11 at)))
+        ≡ P.Placed op width after next → IsPlaced w base total slot at op width (after .0) next
     go (R.Refused f) r e = let z : _≡_ {A = ℕ} 0 1 = cc in absurd (omega arith)
     go (R.Read o width₁ next₁) r e =
         fits o width₁ next₁ (record-read w total at r) (leb (slot + max 1 width₁) (limitOf base total slot)) refl e
@@ -115,9 +117,9 @@ module _ (w : List ℕ) (base total : ℕ) where
   cells-fault (suc turns) slot at some inside refused = rw (lt-ltb slot total inside, refused)
 
   pub cells-turn :
-      (turns slot at : ℕ) {op : Operation} {width after next : ℕ} → 0 < turns → slot < total →
+      (turns slot at : ℕ) {op : Operation} {width next : ℕ} {after : Slot} → 0 < turns → slot < total →
       placedAt w base total slot at ≡ P.Placed op width after next →
-      cellsFrom w base total turns slot at ≡ push (record { slot = slot; cell = cellAt w at }) (cellsFrom w base total (turns - 1) after next)
+      cellsFrom w base total turns slot at ≡ push (record { slot = slot; cell = cellAt w at }) (cellsFrom w base total (turns - 1) (after .0) next)
   unfolding cellsFrom
   cells-turn zero slot at some inside placed = absurd (omega arith)
   cells-turn (suc turns) slot at some inside placed = rw (lt-ltb slot total inside, placed, sub-one)
@@ -171,14 +173,14 @@ module _ (w : List ℕ) (base total : ℕ) where
       go false low = low
 
   pub going-turn :
-      {t₀ t : List ℕ} {at slot count : ℕ} {op : Operation} {width after next : ℕ} → Going t₀ t at slot count → slot < total → base ≤ total →
+      {t₀ t : List ℕ} {at slot count : ℕ} {op : Operation} {width next : ℕ} {after : Slot} → Going t₀ t at slot count → slot < total → base ≤ total →
       placedAt w base total slot at ≡ P.Placed op width after next →
-      Going t₀ (sets t slot (replicate (after - slot) (markWord base (standingOf op) width slot))) next after (count + 1)
-  going-turn {t₀} {t} {at} {slot} {count} {op} {width} {after} {next} going inside order placed =
+      Going t₀ (sets t slot (replicate (after .0 - slot) (markWord base (standingOf op) width slot))) next (after .0) (count + 1)
+  going-turn {t₀} {t} {at} {slot} {count} {op} {width} {next} {after} going inside order placed =
       let is = placed-read w base total slot at placed in
       let few : count ≤ slot = going .few in
-      let ends : after ≡ slot + max 1 width = is .ends in
-      let last : after ≤ total = limit-low slot order (is .within) in
+      let ends : after .0 ≡ slot + max 1 width = is .ends in
+      let last : after .0 ≤ total = limit-low slot order (is .within) in
       let fewer : total - count - 1 ≡ total - (count + 1) = omega arith in
       let turn : cellsFrom w base total (total - count) slot at ≡ push here rest = cells-turn (total - count) slot at (omega arith) inside placed ∙ rw fewer in
       let many : length (cellsOf w base total .items) ≡ count + suc (length (rest .items)) = rw turn at (going .many) in
@@ -195,22 +197,22 @@ module _ (w : List ℕ) (base total : ℕ) where
       here = record { slot = slot; cell = cellAt w at }
 
       rest : Reading Placed
-      rest = cellsFrom w base total (total - (count + 1)) after next
+      rest = cellsFrom w base total (total - (count + 1)) (after .0) next
 
       painted :
-          IsPlaced w base total slot at op width after next → (cs : List Placed) →
+          IsPlaced w base total slot at op width (after .0) next → (cs : List Placed) →
           sets t slot (marks base (here ∷ cs)) ≡
-          sets (sets t slot (replicate (after - slot) (markWord base (standingOf op) width slot))) after (marks base cs)
+          sets (sets t slot (replicate (after .0 - slot) (markWord base (standingOf op) width slot))) (after .0) (marks base cs)
       painted is cs =
           let same-op : op ≡ opAt w at = is .record-is .same-op in
           let same-width : width ≡ outputLen (cellAt w at) = is .record-is .same-width in
-          let ends : after ≡ slot + max 1 width = is .ends in
-          let size : after - slot ≡ max 1 width = omega arith in
+          let ends : after .0 ≡ slot + max 1 width = is .ends in
+          let size : after .0 - slot ≡ max 1 width = omega arith in
           let word : markOf base here ≡ markWord base (standingOf op) width slot = rw (standing-at w at, same-op, same-width) in
-          let count-is : slotsOf (cellAt w at) ≡ after - slot = rw (← same-width, size) in
-          let length-is : slot + length (replicate (after - slot) (markWord base (standingOf op) width slot)) ≡ after = rw (length-replicate) (omega arith) in
+          let count-is : slotsOf (cellAt w at) ≡ after .0 - slot = rw (← same-width, size) in
+          let length-is : slot + length (replicate (after .0 - slot) (markWord base (standingOf op) width slot)) ≡ after .0 = rw (length-replicate) (omega arith) in
           ap (sets t slot) (marks-cons base here cs) ∙ rw (word, count-is)
-          (sets-append t slot (replicate (after - slot) (markWord base (standingOf op) width slot)) (marks base cs) ∙ rw length-is)
+          (sets-append t slot (replicate (after .0 - slot) (markWord base (standingOf op) width slot)) (marks base cs) ∙ rw length-is)
 
 -- A run of replacements at its end, at a turn and at a fault.
 module _ {A : Type 0} (step : ℕ → ℕ → Step) (item : ℕ → A) where
@@ -241,6 +243,15 @@ module _ (w : List ℕ) (void : ℕ → Bool) (clock at : ℕ) where
   pub void-fault : offends w void clock at ≡ true → voidAt w void clock at ≡ S.Refused (fault 10 at)
   unfolding voidAt
   void-fault wrong = rw wrong
+
+-- A number outside the records is a payload.
+pub listed-low : (w : List ℕ) (at : ℕ) {n next : ℕ} → listedNumberAt w at ≡ N.Value n next → n < 2 ^ 29
+unfolding listedNumberAt
+listed-low w at {n} {next} read = go (ltb at (length w)) read
+  where
+    go : (inside : Bool) → cond inside (numberAt w (2 ^ 29 - 1) (length w) at) (N.Refused (fault 1 (length w))) ≡ N.Value n next → n < 2 ^ 29
+    go true e = omega (arith, number-read w (2 ^ 29 - 1) (length w) at e .bounded)
+    go false e = let z : _≡_ {A = ℕ} 0 1 = cc in absurd (omega arith)
 
 -- A header that was read has at most 4,096 slots.
 pub header-read : (w : List ℕ) {h : Header} → headerAt w ≡ O.Read h → h .base + h .added ≤ 4096

@@ -1,4 +1,5 @@
 pub mod Slots
+pub mod Step
 pub mod Items
 pub mod Voids
 pub mod Read

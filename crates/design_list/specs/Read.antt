@@ -1,12 +1,13 @@
 -- Document 01, "Faults and what stays", Order: "list length (4, then 1), header words (2, 4), records left to right. ... After the last word 10, in list
 -- order". `read` of a list of words is its first fault, or the design that it stands for.
 use Prim.Native.Nat.{ℕ, _+_}
+use mathlib.Core.Path.{_≡_}
 use mathlib.Core.List.{List}
 use mathlib.Core.Bool.{cond}
 use lib.ListN.{length}
 use lib.Dec.{ltb}
 use Rattle.logic.specs.declared.Fault.{Fault}
-use Rattle.cell.specs.Design.{Placed, NetPair, Design}
+use Rattle.cell.specs.Design.{Placed, NetPair, Design, total}
 use Rattle.fields.specs.declared.Scan.{Scan}
 use Rattle.fields.specs.declared.Scan.the-variants as S
 use Rattle.fields.specs.Field.{fault}
@@ -74,3 +75,31 @@ answer (accepted d cellRepsAt netRepsAt) = D.Accepted record {
   replacements = cellRepsAt;
   pairs = netRepsAt;
 }
+
+-- Document 01's number of an answer, 0 where the list is accepted, and its value: the place of the fault, or base + added.
+abbrev pub numberOf : DesignRead → ℕ
+numberOf (D.Accepted x) = 0
+numberOf (D.Refused e) = e .number
+
+abbrev pub valueOf : DesignRead → ℕ
+valueOf (D.Accepted x) = x .base + x .added
+valueOf (D.Refused e) = e .place
+
+-- The same of what was read.
+abbrev pub readNumber : Read → ℕ
+readNumber (accepted d cellRepsAt netRepsAt) = 0
+readNumber (refused e) = e .number
+
+abbrev pub readValue : Read → ℕ
+readValue (accepted d cellRepsAt netRepsAt) = total d
+readValue (refused e) = e .place
+
+-- What the reader promises of its answer.
+pub record Answered (r : Read) (a : DesignRead) : Type 0 where
+  pub same : a ≡ answer r
+  pub number : numberOf a ≡ readNumber r
+  pub value : valueOf a ≡ readValue r
+
+pub answered : (r : Read) {a : DesignRead} → a ≡ answer r → Answered r a
+answered (accepted d cellRepsAt netRepsAt) same = record { same = same; number = rw same; value = rw same }
+answered (refused e) same = record { same = same; number = rw same; value = rw same }

@@ -1,7 +1,7 @@
 -- What stands at each slot of an accepted list, as words in a lent slice (see `markWord`).
 use Prim.Native.Nat.{ℕ, zero, suc, _+_, _-_, _<_, _≤_}
 use mathlib.Core.Path.{_≡_, refl, sym, ap, _∙_}
-use mathlib.Core.Bool.{cond}
+use mathlib.Core.Bool.{Bool, true, false, cond}
 use mathlib.Core.List.{List, [], _∷_, _++_}
 use native.Mathlib.Omega.{arith}
 use native.Mathlib.Numerals.{add-one}
@@ -14,6 +14,7 @@ use Rattle.logic.specs.declared.Fault.{Fault}
 use Rattle.cell.specs.Design.{Design, total}
 use Rattle.fields.specs.declared.Scan.{Scan}
 use Rattle.fields.specs.declared.Scan.the-variants as S
+use Rattle.fields.specs.Field.{fault}
 use Rattle.design_list.specs.declared.Header.{Header}
 use Rattle.design_list.specs.declared.Extent.{Extent}
 use Rattle.design_list.specs.declared.DesignRead.{DesignRead}
@@ -23,21 +24,51 @@ use Rattle.design_list.specs.declared.SlotTable.the-variants as T
 use Rattle.design_list.specs.Slots.{covering, heads, isVoid, markOf, marks}
 use Rattle.design_list.specs.Items.{cellRepsFrom, netRepsFrom, finishAt}
 use Rattle.design_list.specs.Voids.{voidsAt}
-use Rattle.design_list.specs.Read.{Read, refused, accepted, onScan, readNetReps, readCellReps, readCells, read, answer}
+use Rattle.design_list.specs.Read.{Read, refused, accepted, onScan, readNetReps, readCellReps, readCells, read, answer, readValue}
 use Rattle.design_list.specs.Answers.{cellsRead}
 use Rattle.design_list.specs.Cover.{walk-cells, walk-total}
 use Rattle.design_list.specs.Accepted.{accepted-read}
 
--- The answer, by the length of the slice: a slice with a word for every slot is filled, a shorter one is too short.
+-- The answer, by the length of the slice: a slice with a word for every slot is filled, a shorter one is fault 14 at the room needed.
 abbrev pub tableAnswer : DesignRead → ℕ → SlotTable
 tableAnswer (D.Refused e) room = T.Refused e
-tableAnswer (D.Accepted x) room = cond (ltb room (x .base + x .added)) T.Short (T.Filled x)
+tableAnswer (D.Accepted x) room = cond (ltb room (x .base + x .added)) (T.Refused (fault 14 (x .base + x .added))) (T.Filled x)
 
 -- The slice afterwards: the words of all slots, and past them what stood there; else unchanged.
 abbrev pub tableAfter : Read → List ℕ → List ℕ
 tableAfter (refused e) out = out
 tableAfter (accepted d replacements pairs) out =
     cond (ltb (length out) (total d)) out (marks (d .base) (d .cells) ++ drop (total d) out)
+
+-- Document 01's number of an answer, 0 where the slice is filled, and its value: the place of the fault, or base + added.
+abbrev pub tableNumber : SlotTable → ℕ
+tableNumber (T.Filled x) = 0
+tableNumber (T.Refused e) = e .number
+
+abbrev pub tableValue : SlotTable → ℕ
+tableValue (T.Filled x) = x .base + x .added
+tableValue (T.Refused e) = e .place
+
+-- The number of what was read, into a slice of a length; its value is `readValue`, which is also the room needed.
+abbrev pub roomNumber : Read → ℕ → ℕ
+roomNumber (accepted d replacements pairs) room = cond (ltb room (total d)) 14 0
+roomNumber (refused e) room = e .number
+
+-- What filling a slice promises of its answer and of the slice.
+pub record Tabled (r : Read) (before after : List ℕ) (a : SlotTable) : Type 0 where
+  pub same : a ≡ tableAnswer (answer r) (length before)
+  pub number : tableNumber a ≡ roomNumber r (length before)
+  pub value : tableValue a ≡ readValue r
+  pub slice : after ≡ tableAfter r before
+
+pub tabled :
+    (r : Read) {before after : List ℕ} {a : SlotTable} → a ≡ tableAnswer (answer r) (length before) → after ≡ tableAfter r before → Tabled r before after a
+tabled (refused e) same slice = record { same = same; number = rw same; value = rw same; slice = slice }
+tabled (accepted d replacements pairs) {before} {after} {a} same slice = go (ltb (length before) (total d)) refl
+  where
+    go : (short : Bool) → ltb (length before) (total d) ≡ short → Tabled (accepted d replacements pairs) before after a
+    go true b = record { same = same; number = rw (same, b); value = rw (same, b); slice = slice }
+    go false b = record { same = same; number = rw (same, b); value = rw (same, b); slice = slice }
 
 -- What the reader's own table holds after an accepted list.
 unfoldable pub Stored : Read → List ℕ → List ℕ → Type 0

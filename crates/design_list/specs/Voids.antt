@@ -1,22 +1,30 @@
 -- Document 01, "Faults and what stays", fault 10: "a net word other than a Dff clock or a replacement's from names a Void of the base".
 -- "After the last word 10, in list order": a second pass over the cells, the new cells and the tos.
-use Prim.Native.Nat.{ℕ, _+_, _-_, _/_}
+use Prim.Native.Nat.{ℕ, _+_, _/_}
 use mathlib.Core.List.{List}
 use mathlib.Core.Bool.{Bool, false, cond}
 use lib.ListN.{getD, length}
 use lib.Dec.{ltb, leb, eqb}
 use Rattle.logic.specs.Word.{kindOf, payloadOf}
+use Rattle.logic.specs.Net.{driverOf}
+use Rattle.logic.specs.declared.Driver.{Driver}
+use Rattle.logic.specs.declared.Driver.the-variants.{Constant, Output, NoNet}
 use Rattle.cell.specs.Operation.{standingOf}
 use Rattle.fields.specs.declared.Scan.{Scan}
 use Rattle.fields.specs.declared.Scan.the-variants.{Clean, Refused}
-use Rattle.fields.specs.Field.{fault, onClean, isConstant, scanMany}
+use Rattle.fields.specs.Field.{fault, onClean, scanMany}
 use Rattle.cell_reader.specs.Parse.{numberIn, opAt}
 use Rattle.design_list.specs.declared.Item.{Item}
 use Rattle.design_list.specs.declared.Item.the-variants.{Cell, Replacement, Pair}
 
--- Whether a payload names a slot of which `void` holds.
+-- Whether a net is that of a slot of which `void` holds.
+abbrev pub voidDriver : (ℕ → Bool) → Driver → Bool
+voidDriver void (Constant t) = false
+voidDriver void (Output slot) = void (slot .0)
+voidDriver void NoNet = false
+
 unfoldable pub namesVoid : (ℕ → Bool) → ℕ → Bool
-namesVoid void p = cond (isConstant p) false (void (p - 2))
+namesVoid void net = voidDriver void (driverOf net)
 
 -- Whether the word at a place is a net or control word, not the clock, that names a Void.
 unfoldable pub offends : List ℕ → (ℕ → Bool) → ℕ → ℕ → Bool

@@ -4,18 +4,22 @@ use cell::Operation;
 use cell_reader::Record;
 use fields::Number;
 use fields::Scan;
+use logic::Driver;
 use logic::Fault;
+use logic::Net;
+use logic::Slot;
 ghost use mathlib.Core.Path.{_≡_};
 ghost use Prim.Native.Nat.{_+_, _-_, _<_, _≤_, _^_, max};
 ghost use lib.ListN.{length, replicate, take, drop};
 ghost use lib.Seq.{sets};
 ghost use Rattle.design_list.specs.Slots.{markWord, marks};
+ghost use Rattle.design_list.specs.Step.{cellStep, netStep};
 ghost use Rattle.design_list.specs.Items.{countsAt, headerAt, limitOf, placedAt, cellsOf, listedNumberAt, listedNetAt, replaces, replacementAt, cellRepsFrom, pairAt, netRepsFrom, finishAt};
 ghost use Rattle.design_list.specs.Marks.{headsIn, isVoidIn, counted};
 ghost use Rattle.design_list.specs.Voids.{namesVoid, offends, voidAt, clockAt, recordVoidsAt, replacementVoidsAt, pairVoidsAt, itemVoidsAt, voidsAt};
-ghost use Rattle.design_list.specs.Read.{readCells, read, answer};
+ghost use Rattle.design_list.specs.Read.{readCells, read, answer, Answered};
 ghost use Rattle.design_list.specs.Answers.{netRepsAnswer, cellRepsAnswer, cellsRead};
-ghost use Rattle.design_list.specs.Table.{Stored, tableAnswer, tableAfter};
+ghost use Rattle.design_list.specs.Table.{Stored, Tabled};
 ghost use Rattle.fields.specs.Field.{scanMany};
 
 // The four words of the header.
@@ -37,7 +41,7 @@ pub enum Placing {
     Placed {
         op: Operation,
         width: usize,
-        after: usize,
+        after: Slot,
         next: usize,
     },
     Refused(Fault),
@@ -49,9 +53,15 @@ pub enum Cells {
     Refused(Fault),
 }
 
-// The least slot, or from, that the next replacement may have and the place after this one; or the fault met.
-pub enum Step {
-    Read { least: usize, next: usize },
+// The least slot that the next cell replacement may have and the place after this one; or the fault met.
+pub enum CellStep {
+    Read { least: Slot, next: usize },
+    Refused(Fault),
+}
+
+// The least from that the next net replacement may have and the place after this one; or the fault met.
+pub enum NetStep {
+    Read { least: Net, next: usize },
     Refused(Fault),
 }
 
@@ -79,10 +89,9 @@ pub enum DesignRead {
     Refused(Fault),
 }
 
-// A slice filled with what stands at each slot of an accepted list; too short for that; or the first fault of a refused list.
+// A slice filled with what stands at each slot of an accepted list; or the first fault, 14 last: a slice too short for the slots.
 pub enum SlotTable {
     Filled(Extent),
-    Short,
     Refused(Fault),
 }
 
@@ -133,26 +142,30 @@ fn slots_of(width: usize) -> usize
 }
 
 // The slot by which a cell that begins at a slot must end.
-fn limit_of(base: usize, total: usize, slot: usize) -> usize
-    ensures { λ r. ⌜ r ≡ limitOf base total slot ⌝ }
+fn limit_of(base: usize, total: usize, slot: Slot) -> usize
+    ensures { λ r. ⌜ r ≡ limitOf base total (slot .0) ⌝ }
 {
-    if slot < base { base } else { total }
+    if (slot.0 as usize) < base {
+        base
+    } else {
+        total
+    }
 }
 
 // The cell at a place, which begins at a slot.
-fn placed_at(list: &[u32], base: usize, total: usize, slot: usize, at: usize) -> Placing
-    requires { ⌜ slot ≤ 4096 ⌝ }
-    ensures { λ r. ⌜ r ≡ placedAt (now (list .entry)) base total slot at ⌝ }
+fn placed_at(list: &[u32], base: usize, total: usize, slot: Slot, at: usize) -> Placing
+    requires { ⌜ slot .0 ≤ 4096 ⌝ }
+    ensures { λ r. ⌜ r ≡ placedAt (now (list .entry)) base total (slot .0) at ⌝ }
 {
     match cell_reader::record_at(list, total, at) {
         Record::Refused(f) => Placing::Refused(f),
         Record::Read { op, width, next } => {
-            let after = slot + slots_of(width);
+            let after = slot.0 as usize + slots_of(width);
             if after <= limit_of(base, total, slot) {
                 Placing::Placed {
                     op,
                     width,
-                    after,
+                    after: Slot(after as u32),
                     next,
                 }
             } else {
@@ -166,12 +179,12 @@ fn placed_at(list: &[u32], base: usize, total: usize, slot: usize, at: usize) ->
 }
 
 // The word for the slots of a cell.
-fn mark_word(base: usize, stands: u32, width: usize, first: usize) -> u32
-    requires { ⌜ (stands ≤ 2) × (width ≤ 64) × (first < 4096) ⌝ }
-    ensures { λ r. ⌜ r ≡ markWord base stands width first ⌝ }
+fn mark_word(base: usize, stands: u32, width: usize, first: Slot) -> u32
+    requires { ⌜ (stands ≤ 2) × (width ≤ 64) × (first .0 < 4096) ⌝ }
+    ensures { λ r. ⌜ r ≡ markWord base stands width (first .0) ⌝ }
 {
-    let rest = 8 * (width as u32) + 1024 * (first as u32);
-    if first < base {
+    let rest = 8 * (width as u32) + 1024 * first.0;
+    if (first.0 as usize) < base {
         stands + rest
     } else {
         stands + 4 + rest
@@ -196,9 +209,9 @@ fn cells_at(list: &[u32], base: usize, total: usize, table: &mut [u32]) -> Cells
         × (now (table .exit) ≡ sets (now (table .entry)) 0 (marks base (cellsOf (now (list .entry)) base total .items))) ⌝ }
 {
     let mut at: usize = 4;
-    let mut slot: usize = 0;
+    let mut slot = Slot(0);
     let mut count: usize = 0;
-    while slot < total {
+    while (slot.0 as usize) < total {
         match placed_at(list, base, total, slot, at) {
             Placing::Refused(f) => {
                 return Cells::Refused(f);
@@ -211,8 +224,8 @@ fn cells_at(list: &[u32], base: usize, total: usize, table: &mut [u32]) -> Cells
             } => {
                 fill(
                     table,
-                    slot,
-                    after,
+                    slot.0 as usize,
+                    after.0 as usize,
                     mark_word(base, cell::standing_of(op), width, slot),
                 );
                 slot = after;
@@ -229,7 +242,7 @@ fn listed_number_at(list: &[u32], at: usize) -> Number
     ensures { λ r. ⌜ r ≡ listedNumberAt (now (list .entry)) at ⌝ }
 {
     if at < list.len() {
-        fields::number_at(list, 536870911, list.len(), at)
+        fields::number_at(list, logic::LAST_PAYLOAD, list.len(), at)
     } else {
         Number::Refused(Fault {
             number: 1,
@@ -253,12 +266,12 @@ fn listed_net_at(list: &[u32], total: usize, at: usize) -> Scan
 }
 
 // Whether a slot heads a cell of the base that is no Void and has an output width, by the table's words.
-fn heads(table: &[u32], base: usize, slot: usize, width: usize) -> bool
-    ensures { λ r. ⌜ r ≡ headsIn (now (table .entry)) base slot width ⌝ }
+fn heads(table: &[u32], base: usize, slot: Slot, width: usize) -> bool
+    ensures { λ r. ⌜ r ≡ headsIn (now (table .entry)) base (slot .0) width ⌝ }
 {
-    if slot < base {
-        let mark = logic::word_at(table, slot);
-        if (mark / 1024) as usize == slot {
+    if (slot.0 as usize) < base {
+        let mark = logic::word_at(table, slot.0 as usize);
+        if mark / 1024 == slot.0 {
             if mark % 4 == 0 {
                 return false;
             }
@@ -273,14 +286,14 @@ fn heads(table: &[u32], base: usize, slot: usize, width: usize) -> bool
 fn replaces(
     table: &[u32],
     base: usize,
-    least: usize,
-    slot: usize,
+    least: Slot,
+    slot: Slot,
     op: Operation,
     width: usize,
 ) -> bool
-    ensures { λ r. ⌜ r ≡ replaces (headsIn (now (table .entry)) base) least slot op width ⌝ }
+    ensures { λ r. ⌜ r ≡ replaces (headsIn (now (table .entry)) base) (least .0) (slot .0) op width ⌝ }
 {
-    if least <= slot {
+    if least.0 <= slot.0 {
         if heads(table, base, slot, width) {
             return cell::may_replace(op);
         }
@@ -295,26 +308,24 @@ fn replacement_at(
     table: &[u32],
     base: usize,
     total: usize,
-    least: usize,
+    least: Slot,
     at: usize,
-) -> Step
-    ensures { λ r. ⌜ r ≡ replacementAt (now (list .entry)) total (headsIn (now (table .entry)) base) least at ⌝ }
+) -> CellStep
+    ensures { λ r. ⌜ r ≡ cellStep (replacementAt (now (list .entry)) total (headsIn (now (table .entry)) base) (least .0) at) ⌝ }
 {
     match listed_number_at(list, at) {
-        Number::Refused(f) => Step::Refused(f),
-        Number::Value {
-            n: slot,
-            next: start,
-        } => match cell_reader::record_at(list, total, start) {
-            Record::Refused(f) => Step::Refused(f),
+        Number::Refused(f) => CellStep::Refused(f),
+        Number::Value { n, next: start } => match cell_reader::record_at(list, total, start) {
+            Record::Refused(f) => CellStep::Refused(f),
             Record::Read { op, width, next } => {
-                if replaces(table, base, least, slot as usize, op, width) {
-                    return Step::Read {
-                        least: slot as usize + 1,
+                let slot = Slot(n);
+                if replaces(table, base, least, slot, op, width) {
+                    return CellStep::Read {
+                        least: Slot(slot.0 + 1),
                         next,
                     };
                 }
-                Step::Refused(Fault {
+                CellStep::Refused(Fault {
                     number: 12,
                     place: at,
                 })
@@ -336,13 +347,13 @@ fn cell_reps_at(
 {
     let mut at = start;
     let mut left = k;
-    let mut least: usize = 0;
+    let mut least = Slot(0);
     while 0 < left {
         match replacement_at(list, table, base, total, least, at) {
-            Step::Refused(f) => {
+            CellStep::Refused(f) => {
                 return Scan::Refused(f);
             }
-            Step::Read { least: above, next } => {
+            CellStep::Read { least: above, next } => {
                 least = above;
                 at = next;
                 left -= 1;
@@ -353,22 +364,22 @@ fn cell_reps_at(
 }
 
 // The net replacement at a place.
-fn pair_at(list: &[u32], total: usize, least: usize, at: usize) -> Step
-    ensures { λ r. ⌜ r ≡ pairAt (now (list .entry)) total least at ⌝ }
+fn pair_at(list: &[u32], total: usize, least: Net, at: usize) -> NetStep
+    ensures { λ r. ⌜ r ≡ netStep (pairAt (now (list .entry)) total (least .0) at) ⌝ }
 {
     match listed_net_at(list, total, at) {
-        Scan::Refused(f) => Step::Refused(f),
+        Scan::Refused(f) => NetStep::Refused(f),
         Scan::Clean(to) => match listed_net_at(list, total, to) {
-            Scan::Refused(f) => Step::Refused(f),
+            Scan::Refused(f) => NetStep::Refused(f),
             Scan::Clean(next) => {
-                let from = (logic::word_at(list, at) % 536870912) as usize;
-                if least <= from {
-                    return Step::Read {
-                        least: from + 1,
+                let from = Net(logic::payload(logic::word_at(list, at)));
+                if least.0 <= from.0 {
+                    return NetStep::Read {
+                        least: Net(from.0 + 1),
                         next,
                     };
                 }
-                Step::Refused(Fault {
+                NetStep::Refused(Fault {
                     number: 13,
                     place: at,
                 })
@@ -383,13 +394,13 @@ fn net_reps_at(list: &[u32], total: usize, k: usize, start: usize) -> Scan
 {
     let mut at = start;
     let mut left = k;
-    let mut least: usize = 0;
+    let mut least = Net(0);
     while 0 < left {
         match pair_at(list, total, least, at) {
-            Step::Refused(f) => {
+            NetStep::Refused(f) => {
                 return Scan::Refused(f);
             }
-            Step::Read { least: above, next } => {
+            NetStep::Read { least: above, next } => {
                 least = above;
                 at = next;
                 left -= 1;
@@ -414,26 +425,24 @@ fn finish_at(list: &[u32], at: usize) -> Scan
 }
 
 // Whether a slot is that of a Void of the base, by the table's words.
-fn is_void(table: &[u32], base: usize, slot: usize) -> bool
-    ensures { λ r. ⌜ r ≡ isVoidIn (now (table .entry)) base slot ⌝ }
+fn is_void(table: &[u32], base: usize, slot: Slot) -> bool
+    ensures { λ r. ⌜ r ≡ isVoidIn (now (table .entry)) base (slot .0) ⌝ }
 {
-    if slot < base {
-        return logic::word_at(table, slot) % 4 == 0;
+    if (slot.0 as usize) < base {
+        return logic::word_at(table, slot.0 as usize) % 4 == 0;
     }
     false
 }
 
-// Whether a net payload names a Void of the base.
-fn names_void(table: &[u32], base: usize, payload: u32) -> bool
-    ensures { λ r. ⌜ r ≡ namesVoid (isVoidIn (now (table .entry)) base) payload ⌝ }
+// Whether a net is that of a Void of the base.
+fn names_void(table: &[u32], base: usize, net: Net) -> bool
+    ensures { λ r. ⌜ r ≡ namesVoid (isVoidIn (now (table .entry)) base) (net .0) ⌝ }
 {
-    if payload < 2 {
-        return false;
+    match logic::driver_of(net) {
+        Driver::Constant(_) => false,
+        Driver::Output(slot) => is_void(table, base, slot),
+        Driver::NoNet => false,
     }
-    if payload == 536870911 {
-        return false;
-    }
-    is_void(table, base, (payload - 2) as usize)
 }
 
 // Whether the word at a place is a net or control word, not the clock, that names a Void of the base.
@@ -441,11 +450,11 @@ fn offends(list: &[u32], table: &[u32], base: usize, clock: usize, at: usize) ->
     ensures { λ r. ⌜ r ≡ offends (now (list .entry)) (isVoidIn (now (table .entry)) base) clock at ⌝ }
 {
     let word = logic::word_at(list, at);
-    if word / 536870912 <= 1 {
+    if logic::kind(word) <= 1 {
         if at == clock {
             return false;
         }
-        return names_void(table, base, word % 536870912);
+        return names_void(table, base, Net(logic::payload(word)));
     }
     false
 }
@@ -475,7 +484,7 @@ fn clock_at(list: &[u32], at: usize) -> usize
     requires { ⌜ at < 2 ^ 62 ⌝ }
     ensures { λ r. ⌜ r ≡ clockAt (now (list .entry)) at ⌝ }
 {
-    match cell::operation_of(logic::word_at(list, at) % 536870912 % 32) {
+    match cell::operation_of(logic::payload(logic::word_at(list, at)) % 32) {
         Decoded::Unknown => 0,
         Decoded::Known(op) => {
             if cell::standing_of(op) == 1 {
@@ -492,7 +501,7 @@ fn record_voids_at(list: &[u32], table: &[u32], base: usize, at: usize) -> Scan
     ensures { λ r. ⌜ r ≡ recordVoidsAt (now (list .entry)) (isVoidIn (now (table .entry)) base) at ⌝ }
 {
     if at < list.len() {
-        let count = (logic::word_at(list, at) % 536870912 / 32) as usize;
+        let count = (logic::payload(logic::word_at(list, at)) / 32) as usize;
         return voids_in(list, table, base, clock_at(list, at), count, at + 1);
     }
     Scan::Clean(at)
@@ -694,7 +703,7 @@ fn read_into(list: &[u32], table: &mut [u32]) -> DesignRead
 
 // Reads a design list: the numbers of an accepted one, or the first fault of a refused one.
 pub fn read_design(list: &[u32]) -> DesignRead
-    ensures { λ r. ⌜ r ≡ answer (read (now (list .entry))) ⌝ }
+    ensures { λ r. ⌜ Answered (read (now (list .entry))) r ⌝ }
 {
     let mut table = [0u32; 4096];
     read_into(list, &mut table)
@@ -715,14 +724,16 @@ fn copy(out: &mut [u32], table: &[u32], n: usize)
 // Fills the slice by way of the table.
 fn slot_table_by(list: &[u32], out: &mut [u32], table: &mut [u32]) -> SlotTable
     requires { ⌜ 4096 ≤ length (now table) ⌝ }
-    ensures { λ r. ⌜ (r ≡ tableAnswer (answer (read (now (list .entry)))) (length (now (out .entry))))
-        × (now (out .exit) ≡ tableAfter (read (now (list .entry))) (now (out .entry))) ⌝ }
+    ensures { λ r. ⌜ Tabled (read (now (list .entry))) (now (out .entry)) (now (out .exit)) r ⌝ }
 {
     match read_into(list, table) {
         DesignRead::Refused(f) => SlotTable::Refused(f),
         DesignRead::Accepted(extent) => {
             if out.len() < extent.base + extent.added {
-                return SlotTable::Short;
+                return SlotTable::Refused(Fault {
+                    number: 14,
+                    place: extent.base + extent.added,
+                });
             }
             copy(out, table, extent.base + extent.added);
             SlotTable::Filled(extent)
@@ -732,8 +743,7 @@ fn slot_table_by(list: &[u32], out: &mut [u32], table: &mut [u32]) -> SlotTable
 
 // What stands at each slot of a design list, as words in a lent slice.
 pub fn slot_table(list: &[u32], out: &mut [u32]) -> SlotTable
-    ensures { λ r. ⌜ (r ≡ tableAnswer (answer (read (now (list .entry)))) (length (now (out .entry))))
-        × (now (out .exit) ≡ tableAfter (read (now (list .entry))) (now (out .entry))) ⌝ }
+    ensures { λ r. ⌜ Tabled (read (now (list .entry))) (now (out .entry)) (now (out .exit)) r ⌝ }
 {
     let mut table = [0u32; 4096];
     slot_table_by(list, out, &mut table)

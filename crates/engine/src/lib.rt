@@ -319,29 +319,36 @@ pub fn check_sat(calls: &mut [u32], at: usize) -> usize
     push(calls, at, logic::head_word(23, 0))
 }
 
-// A reference to each of the terms, by their numbers.
-fn term_words(calls: &mut [u32], at: usize, args: &[u32]) -> usize
-    ensures { λ r. ⌜ Wrote (now (calls .entry)) at (map termWord (now (args .entry))) (now (calls .exit)) r ⌝ }
+// The and of two terms.
+pub fn build_and2(calls: &mut [u32], at: usize, arg1: Term, arg2: Term) -> usize
+    ensures { λ r. ⌜ Wrote (now (calls .entry)) at (recordOf (c.term (c.and (arg1 .0 ∷ arg2 .0 ∷ [])))) (now (calls .exit)) r ⌝ }
+{
+    record2(calls, at, 3, logic::term_word(arg1), logic::term_word(arg2))
+}
+
+// A reference to each of the terms, lent as their numbers.
+fn term_words(calls: &mut [u32], at: usize, terms: &[u32]) -> usize
+    ensures { λ r. ⌜ Wrote (now (calls .entry)) at (map termWord (now (terms .entry))) (now (calls .exit)) r ⌝ }
 {
     let mut next = at;
     let mut i = 0;
-    while i < args.len() {
-        next = push(calls, next, logic::term_word(Term(args[i])));
+    while i < terms.len() {
+        next = push(calls, next, logic::term_word(Term(terms[i])));
         i += 1;
     }
     next
 }
 
-// The and of the terms of these numbers.
-pub fn build_and(calls: &mut [u32], at: usize, args: &[u32]) -> usize
-    ensures { λ r. ⌜ Wrote (now (calls .entry)) at (recordOf (c.term (c.and (now (args .entry))))) (now (calls .exit)) r ⌝ }
+// The and of any number of terms, lent as their numbers.
+pub fn build_and(calls: &mut [u32], at: usize, terms: &[u32]) -> usize
+    ensures { λ r. ⌜ Wrote (now (calls .entry)) at (recordOf (c.term (c.and (now (terms .entry))))) (now (calls .exit)) r ⌝ }
 {
     let next = push(
         calls,
         at,
-        logic::head_word(3, (args.len() % 16777216) as u32),
+        logic::head_word(3, (terms.len() % 16777216) as u32),
     );
-    term_words(calls, next, args)
+    term_words(calls, next, terms)
 }
 
 // The lowest n 16-bit numbers of a number, low first.

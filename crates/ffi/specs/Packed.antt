@@ -17,16 +17,19 @@ use Rattle.answer.specs.declared.Answer.the-variants as answer
 use Rattle.answer.specs.declared.Answer.the-variants.{Unsat, Sat}
 use Rattle.answer.specs.Reply.{answerOf, replyTo, tableAfter}
 use Rattle.design_list.specs.declared.DesignRead.{DesignRead}
-use Rattle.design_list.specs.declared.DesignRead.the-variants.{Accepted, Refused}
+use Rattle.design_list.specs.Read.{numberOf, valueOf}
+
+-- A number above a value.
+abbrev pub packedAs : ℕ → ℕ → ℕ
+packedAs number value = number % 2 ^ 16 * 2 ^ 48 + value % 2 ^ 48
 
 -- A refusal of any entry.
 abbrev pub packedFault : Fault → ℕ
-packedFault e = e .number % 2 ^ 16 * 2 ^ 48 + e .place % 2 ^ 48
+packedFault e = packedAs (e .number) (e .place)
 
--- The list reader's answer: below the fault number base + added.
+-- The list reader's answer: its number, and below it the place of the fault or base + added.
 abbrev pub packed : DesignRead → ℕ
-packed (Accepted x) = x .base + x .added
-packed (Refused e) = packedFault e
+packed a = packedAs (numberOf a) (valueOf a)
 
 -- The evaluator's answer: below the fault number the number of false assertions.
 abbrev pub packedEvaluation : Evaluation → ℕ

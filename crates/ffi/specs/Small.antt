@@ -8,6 +8,7 @@ use lib.ListN.{length, getD, List·getD-eq-default}
 use lib.Dec.{ltb, leb, eqb}
 use borrow.Author.Tests.{ltb-true, ltb-false, leb-true}
 use Rattle.logic.specs.Word.{kindOf, payloadOf}
+use Rattle.logic.specs.Net.{driverOf}
 use Rattle.logic.specs.declared.Fault.{Fault}
 use Rattle.cell.specs.Operation.{operationOf, numbersOf, fieldsOf}
 use Rattle.cell.specs.declared.Operation.{Operation}
@@ -36,13 +37,13 @@ use Rattle.design_list.specs.declared.Opening.{Opening}
 use Rattle.design_list.specs.declared.Opening.the-variants as O
 use Rattle.design_list.specs.declared.Placing.{Placing}
 use Rattle.design_list.specs.declared.Placing.the-variants as P
-use Rattle.design_list.specs.declared.Step.{Step}
-use Rattle.design_list.specs.declared.Step.the-variants as T
+use Rattle.design_list.specs.Step.{Step}
+use Rattle.design_list.specs.Step as T
 use Rattle.design_list.specs.Items.{Reading, stop, push, onHeaderNumber, countsAt, headerAt, limitOf, onRecord, onPlaced, placedAt, cellsFrom, cellsOf, listedNumberAt, listedNetAt, onSlot, onNewCell, replaces, replacementAt, onStep, ascending, newCell, cellRepsFrom, onNet, pairAt, netPair, netRepsFrom, finishAt}
 use Rattle.design_list.specs.declared.Item.{Item}
 use Rattle.design_list.specs.declared.Item.the-variants as I
 use Rattle.design_list.specs.Slots.{heads, isVoid}
-use Rattle.design_list.specs.Voids.{namesVoid, offends, voidAt, clockAt, recordVoidsAt, replacementVoidsAt, pairVoidsAt, itemVoidsAt, voidsAt}
+use Rattle.design_list.specs.Voids.{voidDriver, namesVoid, offends, voidAt, clockAt, recordVoidsAt, replacementVoidsAt, pairVoidsAt, itemVoidsAt, voidsAt}
 use Rattle.design_list.specs.Read.{Read, refused, accepted, onScan, onOpening, readNetReps, readCellReps, readCells, read, answer}
 use Rattle.ffi.specs.Packed.{packed}
 use Rattle.cell_reader.specs.Record.{onValue, thirdAt, secondAt, firstAt, leadingAt, tailAt, bodyAt, onHead, onLeading, onBody, contentsAt, recordAt}
@@ -276,7 +277,7 @@ module _ (w : List ℕ) (short : length w ≤ 16384) where
     where
       fits :
           (a : Bool) (op : Operation) (width next : ℕ) → next ≤ length w →
-          SmallPlacing (length w) (cond a (P.Placed op width (slot + max 1 width) next) (P.Refused (fault 11 at)))
+          SmallPlacing (length w) (cond a (P.Placed op width (record { 0 = slot + max 1 width }) next) (P.Refused (fault 11 at)))
       fits true op width next s = s
       fits false op width next s = omega arith
 
@@ -284,7 +285,7 @@ module _ (w : List ℕ) (short : length w ≤ 16384) where
           (r : Record) → SmallRecord (length w) r →
           SmallPlacing (length w)
           (onRecord r (λ (op : Operation) (width next : ℕ).
-          cond (leb (slot + max 1 width) (limitOf base total slot)) (P.Placed op width (slot + max 1 width) next) (P.Refused (fault 11 at))))
+          cond (leb (slot + max 1 width) (limitOf base total slot)) (P.Placed op width (record { 0 = slot + max 1 width }) next) (P.Refused (fault 11 at))))
       go (R.Refused e) s = s
       go (R.Read op width next) s = fits (leb (slot + max 1 width) (limitOf base total slot)) op width next s
 
@@ -303,7 +304,7 @@ module _ (w : List ℕ) (short : length w ≤ 16384) where
           SmallScan (length w) (cond a (onPlaced p rest) (stop (Clean at)) .scan)
       more false p s next = here
       more true (P.Refused e) s next = s
-      more true (P.Placed op width after place) s next = next after place s
+      more true (P.Placed op width after place) s next = next (after .0) place s
 
   listed-number-small : (at : ℕ) → at ≤ length w → SmallNumber (length w) (listedNumberAt w at)
   unfolding listedNumberAt
@@ -398,7 +399,7 @@ module _ (w : List ℕ) (short : length w ≤ 16384) where
       go :
           (a : Bool) → ltb at (length w) ≡ a →
           cond (leb (kindOf (getD w at 0)) 1)
-          (cond (eqb at clock) false (cond (isConstant (payloadOf (getD w at 0))) false (void (payloadOf (getD w at 0) - 2)))) false ≡ true →
+          (cond (eqb at clock) false (voidDriver void (driverOf (payloadOf (getD w at 0))))) false ≡ true →
           at < length w
       go true a f = ltb-true _ _ a
       go false a f = absurd (silent (eqb at clock) (rw (zeroed (ltb-false _ _ a)) at f))

@@ -1,11 +1,14 @@
 -- Document 01, "Faults and what stays", Order: "Each field: outside the count 5, kind 2, bound 4, then 7 and 9 once their numbers are known,
 -- constant 8, net 6. Then leftover 5". Each definition answers what stands at a place, or the first fault met there.
-use Prim.Native.Nat.{ℕ, zero, suc, _+_, _-_}
+use Prim.Native.Nat.{ℕ, zero, suc, _+_}
 use mathlib.Core.List.{List}
-use mathlib.Core.Bool.{Bool, true, cond}
+use mathlib.Core.Bool.{Bool, true, false, cond}
 use lib.ListN.{getD}
 use lib.Dec.{ltb, leb, eqb}
 use Rattle.logic.specs.Word.{kindOf, payloadOf}
+use Rattle.logic.specs.Net.{driverOf}
+use Rattle.logic.specs.declared.Driver.{Driver}
+use Rattle.logic.specs.declared.Driver.the-variants.{Constant, Output, NoNet}
 use Rattle.logic.specs.declared.Fault.{Fault}
 use Rattle.fields.specs.declared.Number.{Number}
 use Rattle.fields.specs.declared.Number.the-variants as N
@@ -32,12 +35,22 @@ numberAt w bound end at =
     (N.Refused (fault 5 at))
 
 -- Constants 0, 1 and X.
+abbrev pub constantDriver : Driver → Bool
+constantDriver (Constant t) = true
+constantDriver (Output slot) = false
+constantDriver NoNet = false
+
 abbrev pub isConstant : ℕ → Bool
-isConstant p = cond (ltb p 2) true (eqb p 536870911)
+isConstant net = constantDriver (driverOf net)
 
 -- A constant, or a slot below the total.
+abbrev pub knownDriver : ℕ → Driver → Bool
+knownDriver total (Constant t) = true
+knownDriver total (Output slot) = ltb (slot .0) total
+knownDriver total NoNet = false
+
 abbrev pub isKnown : ℕ → ℕ → Bool
-isKnown total p = cond (isConstant p) true (ltb (p - 2) total)
+isKnown total net = knownDriver total (driverOf net)
 
 -- A net of a kind up to `most` (0: net words only; 1: a control, which may be inverted): outside the count 5, kind 2, unknown slot 6.
 unfoldable pub netAt : List ℕ → ℕ → ℕ → ℕ → ℕ → Scan

@@ -1,7 +1,9 @@
 // The fields of a record of the design list: what stands at a place, or the first fault met there.
 use cell::Decoded;
 use cell::Operation;
+use logic::Driver;
 use logic::Fault;
+use logic::Net;
 ghost use mathlib.Core.Path.{_≡_};
 ghost use Rattle.fields.specs.Field.{numberAt, isConstant, isKnown, netAt, bitAt, constantAt, netsAt, constantsAt, endsAt};
 ghost use Rattle.fields.specs.Pattern.{patternsAt};
@@ -42,8 +44,8 @@ pub fn number_at(list: &[u32], bound: u32, end: usize, at: usize) -> Number
 {
     if at < end {
         let word = logic::word_at(list, at);
-        if word / 536870912 == 3 {
-            let payload = word % 536870912;
+        if logic::kind(word) == 3 {
+            let payload = logic::payload(word);
             if payload <= bound {
                 Number::Value {
                     n: payload,
@@ -69,27 +71,26 @@ pub fn number_at(list: &[u32], bound: u32, end: usize, at: usize) -> Number
     }
 }
 
-// Whether a net payload is a constant.
-pub fn is_constant(payload: u32) -> bool
-    ensures { λ r. ⌜ r ≡ isConstant payload ⌝ }
+// Whether a net is a constant.
+pub fn is_constant(net: Net) -> bool
+    ensures { λ r. ⌜ r ≡ isConstant (net .0) ⌝ }
 {
-    if payload < 2 {
-        return true;
+    match logic::driver_of(net) {
+        Driver::Constant(_) => true,
+        Driver::Output(_) => false,
+        Driver::NoNet => false,
     }
-    payload == 536870911
 }
 
-// Whether a net payload is a constant or a slot below the total.
-pub fn is_known(total: usize, payload: u32) -> bool
-    ensures { λ r. ⌜ r ≡ isKnown total payload ⌝ }
+// Whether a net is a constant or that of a slot below the total.
+pub fn is_known(total: usize, net: Net) -> bool
+    ensures { λ r. ⌜ r ≡ isKnown total (net .0) ⌝ }
 {
-    if payload < 2 {
-        return true;
+    match logic::driver_of(net) {
+        Driver::Constant(_) => true,
+        Driver::Output(slot) => (slot.0 as usize) < total,
+        Driver::NoNet => false,
     }
-    if payload == 536870911 {
-        return true;
-    }
-    ((payload - 2) as usize) < total
 }
 
 // A net at a place of a record, of a kind up to `most`: 0 a net word, 1 a control, which may be inverted.
@@ -98,8 +99,8 @@ pub fn net_at(list: &[u32], total: usize, most: u32, end: usize, at: usize) -> S
 {
     if at < end {
         let word = logic::word_at(list, at);
-        if word / 536870912 <= most {
-            if is_known(total, word % 536870912) {
+        if logic::kind(word) <= most {
+            if is_known(total, Net(logic::payload(word))) {
                 Scan::Clean(at + 1)
             } else {
                 Scan::Refused(Fault {
@@ -127,8 +128,8 @@ pub fn bit_at(list: &[u32], end: usize, at: usize) -> Bit
 {
     if at < end {
         let word = logic::word_at(list, at);
-        if word / 536870912 == 0 {
-            if is_constant(word % 536870912) {
+        if logic::kind(word) == 0 {
+            if is_constant(Net(logic::payload(word))) {
                 Bit::Constant(at + 1)
             } else {
                 Bit::Other
@@ -207,7 +208,7 @@ pub fn patterns_at(list: &[u32], n: usize, end: usize, k: usize, start: usize) -
 {
     let mut at = start;
     let mut pattern = k;
-    'patterns: loop {
+    let place = 'patterns: loop {
         if pattern == 0 {
             return Scan::Clean(at);
         }
@@ -229,7 +230,7 @@ pub fn patterns_at(list: &[u32], n: usize, end: usize, k: usize, start: usize) -
                                 return Scan::Refused(f);
                             }
                             Bit::Other => {
-                                break 'patterns;
+                                break 'patterns at;
                             }
                             Bit::Constant(next) => {
                                 at = next;
@@ -242,11 +243,8 @@ pub fn patterns_at(list: &[u32], n: usize, end: usize, k: usize, start: usize) -
                 pattern -= 1;
             }
         }
-    }
-    Scan::Refused(Fault {
-        number: 8,
-        place: at,
-    })
+    };
+    Scan::Refused(Fault { number: 8, place })
 }
 
 // Whether the fields end where the head's count says.
@@ -289,8 +287,8 @@ pub fn head_at(list: &[u32], at: usize) -> Head
 {
     if at < list.len() {
         let word = list[at];
-        if word / 536870912 == 2 {
-            let payload = word % 536870912;
+        if logic::kind(word) == 2 {
+            let payload = logic::payload(word);
             match cell::operation_of(payload % 32) {
                 Decoded::Unknown => Head::Refused(Fault {
                     number: 3,

@@ -3,7 +3,7 @@ use mathlib.Core.Path.{_≡_, refl, sym, ap}
 use mathlib.Core.Bool.{Bool, true, false, cond}
 use Prim.Native.Nat.{ℕ, _+_, _-_, _%_, _^_, _<_, _≤_}
 use native.Mathlib.Omega.{arith}
-use borrow.Author.Tests.{ne-eqb, eqb-true, eqb-false}
+use borrow.Author.Tests.{lt-ltb, ne-eqb, eqb-true, eqb-false}
 use lib.Dec.{ltb, eqb}
 use Rattle.logic.specs.declared.Trit.{Trit}
 use Rattle.logic.specs.declared.Trit.the-variants.{Zero, One, Undef}
@@ -46,6 +46,17 @@ pub net-of-payload : (i : ℕ) → i + 2 < 536870911 → netOf (payloadOfNet (sl
 net-of-payload i low =
     rw (ne-eqb (i + 2) 0 (λ e. omega arith), ne-eqb (i + 2) 1 (λ e. omega arith), ne-eqb (i + 2) 536870911 (λ e. omega arith))
     (ap slot (omega arith))
+
+pub driver-of-slot : (i : ℕ) → i + 2 < 536870911 → driverOf (payloadOfNet (slot i)) ≡ Output (record { 0 = i })
+driver-of-slot i low = rw (lt-ltb (i + 2) (2 ^ 29) (omega arith), net-of-payload i low)
+
+pub driver-of-constant : (t : Trit) → driverOf (payloadOfNet (constant t)) ≡ Constant t
+driver-of-constant Zero = refl
+driver-of-constant One = refl
+driver-of-constant Undef = refl
+
+pub driver-of-payload : (p : ℕ) → p < 2 ^ 29 → driverOf p ≡ driverOfNet (netOf p)
+driver-of-payload p low = rw (lt-ltb p (2 ^ 29) low)
 
 pub constant-of-payload : (t : Trit) → netOf (payloadOfNet (constant t)) ≡ constant t
 constant-of-payload Zero = refl

@@ -2,8 +2,14 @@
 ghost use mathlib.Core.Path.{_≡_};
 ghost use lib.ListN.{getD, set};
 ghost use Rattle.logic.specs.Trit.{tritNumber, readbackNumber, shows};
-ghost use Rattle.logic.specs.Word.{kindOf, payloadOf, netWord, invertedWord, headWord, numberWord, termWord};
+ghost use Rattle.logic.specs.Word.{kindOf, payloadOf, netWord, headWord, numberWord, termWord};
 ghost use Rattle.logic.specs.Net.{driverOf, netOfSlot};
+
+// How many payloads there are.
+const PAYLOADS: u32 = 536870912;
+
+// The last payload: constant X as a net, and the largest number of a word.
+pub const LAST_PAYLOAD: u32 = 536870911;
 
 // An extended binary value: 0, 1 or X.
 pub enum Trit {
@@ -78,57 +84,50 @@ pub fn trit_of_bits(x: bool, y: bool) -> Trit
 pub fn kind(word: u32) -> u32
     ensures { λ r. ⌜ r ≡ kindOf word ⌝ }
 {
-    word / 536870912
+    word / PAYLOADS
 }
 
 // The payload of a word: its low 29 bits.
 pub fn payload(word: u32) -> u32
     ensures { λ r. ⌜ r ≡ payloadOf word ⌝ }
 {
-    word % 536870912
+    word % PAYLOADS
 }
 
 // The word of a net.
 pub fn net_word(net: Net) -> u32
     ensures { λ r. ⌜ r ≡ netWord (net .0) ⌝ }
 {
-    net.0 % 536870912
-}
-
-// The word of an inverted net.
-pub fn inverted_word(net: Net) -> u32
-    ensures { λ r. ⌜ r ≡ invertedWord (net .0) ⌝ }
-{
-    536870912 + net.0 % 536870912
+    payload(net.0)
 }
 
 // The word that heads a record: its operation and how many words follow.
 pub fn head_word(op: u32, count: u32) -> u32
     ensures { λ r. ⌜ r ≡ headWord op count ⌝ }
 {
-    let payload = op as u64 + 32 * (count as u64);
-    1073741824 + (payload % 536870912) as u32
+    let whole = op as u64 + 32 * (count as u64);
+    2 * PAYLOADS + (whole % (PAYLOADS as u64)) as u32
 }
 
 // The word of a number, written #n.
 pub fn number_word(n: u32) -> u32
     ensures { λ r. ⌜ r ≡ numberWord n ⌝ }
 {
-    1610612736 + n % 536870912
+    3 * PAYLOADS + payload(n)
 }
 
 // The word that refers to a term.
 pub fn term_word(term: Term) -> u32
     ensures { λ r. ⌜ r ≡ termWord (term .0) ⌝ }
 {
-    2147483648 + term.0 % 536870912
+    4 * PAYLOADS + payload(term.0)
 }
 
 // The net number of a slot, `Net::from_cell_index`.
 pub fn net_of_slot(slot: Slot) -> Net
     ensures { λ r. ⌜ r .0 ≡ netOfSlot (slot .0) ⌝ }
 {
-    Net((slot.0 % 536870912 + 2) % 536870912)
+    Net(payload(payload(slot.0) + 2))
 }
 
 // What a net number names, `Net::as_cell_index`.
@@ -136,7 +135,7 @@ pub fn driver_of(net: Net) -> Driver
     ensures { λ r. ⌜ r ≡ driverOf (net .0) ⌝ }
 {
     let n = net.0;
-    if 536870912 <= n {
+    if PAYLOADS <= n {
         return Driver::NoNet;
     }
     if n == 0 {
@@ -145,7 +144,7 @@ pub fn driver_of(net: Net) -> Driver
     if n == 1 {
         return Driver::Constant(Trit::One);
     }
-    if n == 536870911 {
+    if n == LAST_PAYLOAD {
         return Driver::Constant(Trit::Undef);
     }
     Driver::Output(Slot(n - 2))

@@ -14,7 +14,7 @@ use Rattle.fields.specs.Accepted.{IsNumber, number-read}
 use Rattle.design_list.specs.declared.Header.{Header}
 use Rattle.design_list.specs.declared.Opening.{Opening}
 use Rattle.design_list.specs.declared.Opening.the-variants as O
-use Rattle.design_list.specs.declared.Step.{Step}
+use Rattle.design_list.specs.Step.{Step}
 use Rattle.design_list.specs.Slots.{heads}
 use Rattle.design_list.specs.Items.{onHeaderNumber, countsAt, headerAt, ascending, replacementAt, newCell, pairAt, netPair}
 use Rattle.design_list.specs.Read.{read, accepted}

@@ -3,13 +3,13 @@
 use mathlib.Core.Path.{_≡_, refl, ap₂}
 use mathlib.Core.Bool.{Bool, true, false, cond}
 use mathlib.Core.List.{List, [], _∷_, map}
-use Prim.Native.Nat.{ℕ, _+_, _-_, _^_, _≤_, _<_}
+use Prim.Native.Nat.{ℕ, _+_, _^_, _≤_, _<_}
 use native.Mathlib.Omega.{arith}
 use lib.ListN.{length}
 use lib.Dec.{eqb}
-use borrow.Author.Tests.{lt-ltb, le-ltb, le-leb, ne-eqb}
+use borrow.Author.Tests.{lt-ltb, le-leb}
 use Rattle.logic.specs.Word.{kindOf, payloadOf, numberWord, kind-of-word, payload-of-word}
-use Rattle.logic.specs.Net.{Net, constant, slot, netOf, payloadOfNet, net-of-payload, constant-of-payload}
+use Rattle.logic.specs.Net.{Net, constant, slot, netOf, payloadOfNet, net-of-payload, constant-of-payload, driver-of-slot, driver-of-constant}
 use Rattle.logic.specs.declared.Trit.{Trit}
 use Rattle.logic.specs.declared.Trit.the-variants.{Zero, One, Undef}
 use Rattle.cell.specs.Cell.{Control}
@@ -52,8 +52,7 @@ module _ (total : ℕ) (few : total ≤ 4096) where
   payload-known (constant One) within = refl
   payload-known (constant Undef) within = refl
   payload-known (slot i) within =
-      let same : i + 2 - 2 ≡ i = omega arith in
-      rw (le-ltb (i + 2) 2 (omega arith), ne-eqb (i + 2) 536870911 (λ e. omega arith), same, lt-ltb i total within)
+      rw (driver-of-slot i (omega arith), lt-ltb i total within)
 
 trit-low : (t : Trit) → payloadOfNet (constant t) < 2 ^ 29
 trit-low Zero = omega arith
@@ -61,9 +60,7 @@ trit-low One = omega arith
 trit-low Undef = omega arith
 
 pub trit-constant : (t : Trit) → isConstant (payloadOfNet (constant t)) ≡ true
-trit-constant Zero = refl
-trit-constant One = refl
-trit-constant Undef = refl
+trit-constant t = rw (driver-of-constant t)
 
 -- A word that a scan of nets, of a kind up to `most`, passes.
 pub record Named (total most word : ℕ) : Type 0 where

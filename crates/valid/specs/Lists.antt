@@ -20,10 +20,11 @@ use Rattle.cell_reader.specs.declared.Record.{Record}
 use Rattle.cell_reader.specs.declared.Record.the-variants as R
 use Rattle.cell_reader.specs.Record.{recordAt}
 use Rattle.cell_reader.specs.Parse.{numberIn, cellAt}
+use Rattle.logic.specs.declared.Slot.{Slot}
 use Rattle.design_list.specs.declared.Placing.{Placing}
 use Rattle.design_list.specs.declared.Placing.the-variants as P
-use Rattle.design_list.specs.declared.Step.{Step}
-use Rattle.design_list.specs.declared.Step.the-variants as T
+use Rattle.design_list.specs.Step.{Step}
+use Rattle.design_list.specs.Step as T
 use Rattle.design_list.specs.Slots.{heads}
 use Rattle.design_list.specs.Items.{Reading, stop, push, limitOf, onRecord, placedAt, onPlaced, cellsFrom, cellsOf, ascending, listedNumberAt, onSlot, onNewCell, replaces, replacementAt, newCell, pairAt, netPair}
 use Rattle.design_list.specs.Read.{read, accepted}
@@ -50,14 +51,14 @@ listed-number w at {n} {next} = go (ltb at (length w))
 module _ (w : List ℕ) (total : ℕ) where
   -- ---- The cells.
   placed-record :
-      (base slot at : ℕ) {op : Operation} {width after next : ℕ} →
+      (base slot at : ℕ) {op : Operation} {width next : ℕ} {after : Slot} →
       placedAt w base total slot at ≡ P.Placed op width after next → recordAt w total at ≡ R.Read op width next
   unfolding placedAt
-  placed-record base slot at {op} {width} {after} {next} = go (recordAt w total at)
+  placed-record base slot at {op} {width} {next} {after} = go (recordAt w total at)
     where
       fits :
           (o : Operation) (width₁ next₁ : ℕ) (b : Bool) →
-          cond b (P.Placed o width₁ (slot + max 1 width₁) next₁) (P.Refused (fault 11 at))
+          cond b (P.Placed o width₁ (record { 0 = slot + max 1 width₁ }) next₁) (P.Refused (fault 11 at))
           ≡ P.Placed op width after next →
           R.Read o width₁ next₁ ≡ R.Read op width next
       fits o width₁ next₁ true e =
@@ -70,7 +71,7 @@ module _ (w : List ℕ) (total : ℕ) where
       go :
           (r : Record) →
           onRecord r (λ (o : Operation) (width₁ next₁ : ℕ).
-          cond (leb (slot + max 1 width₁) (limitOf base total slot)) (P.Placed o width₁ (slot + max 1 width₁) next₁)
+          cond (leb (slot + max 1 width₁) (limitOf base total slot)) (P.Placed o width₁ (record { 0 = slot + max 1 width₁ }) next₁)
           (P.Refused (fault 11 at)))
           ≡ P.Placed op width after next → r ≡ R.Read op width next
       go (R.Refused f) e = let z : _≡_ {A = ℕ} 0 1 = cc in absurd (omega arith)
@@ -98,7 +99,7 @@ module _ (w : List ℕ) (total : ℕ) where
       go (P.Refused f) p rest e = let z : _≡_ {A = ℕ} 0 1 = cc in absurd (omega arith)
       go (P.Placed op width after next) p rest e =
           spans-then (recordOf (cellAt w at)) _ (record-span w total at (placed-record base slot at p))
-          (rest after next e)
+          (rest (after .0) next e)
 
       more :
           (b : Bool) → ((after next : ℕ) → Written (cellsFrom w base total turns after next) next) →

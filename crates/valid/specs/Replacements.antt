@@ -13,8 +13,8 @@ use Rattle.cell.specs.Cell.{outputLen}
 use Rattle.cell.specs.Operation.{mayReplace}
 use Rattle.cell.specs.Design.{Placed, NetPair, Design, total}
 use Rattle.fields.specs.declared.Scan.the-variants.{Clean}
-use Rattle.design_list.specs.declared.Step.{Step}
-use Rattle.design_list.specs.declared.Step.the-variants as T
+use Rattle.design_list.specs.Step.{Step}
+use Rattle.design_list.specs.Step as T
 use Rattle.design_list.specs.Items.{ascending, listedNumberAt, listedNetAt, replaces, replacementAt, newCell, pairAt, netPair}
 use Rattle.working_out.specs.Reading.{Each, each-map}
 use Rattle.working_out.specs.Laid.{Ascending, Within, PairWithin}

@@ -1,15 +1,16 @@
 -- Words that stand from a place up to another, and the fields that a reader passed without a fault: their words are
 -- those of what they are read as.
 use mathlib.Core.Path.{_≡_, refl, sym, ap, _∙_}
-use mathlib.Core.Bool.{Bool, true, false, cond, true≢false}
+use mathlib.Core.Bool.{Bool, true, false, cond}
 use mathlib.Core.List.{List, [], _∷_, _++_, map, flatMap}
-use Prim.Native.Nat.{ℕ, zero, suc, _+_, _*_, _≤_, _<_}
+use Prim.Native.Nat.{ℕ, zero, suc, _+_, _*_, _^_, _≤_, _<_}
 use native.Mathlib.Omega.{arith}
 use lib.ListN.{length, length-append, length-map}
 use lib.Dec.{ltb, eqb}
 use borrow.Author.Tests.{eqb-true}
 use Rattle.logic.specs.Word.{kindOf, netWord, numberWord, word-of-parts}
-use Rattle.logic.specs.Net.{constant, payloadOfNet, payload-of-net}
+use Rattle.logic.specs.Net.{Net, constant, slot, payloadOfNet, driverOfNet, payload-of-net}
+use Rattle.logic.specs.declared.Driver.the-variants.{NoNet}
 use Rattle.logic.specs.Table.{tab, tab-ext, length-tab}
 use Rattle.logic.specs.declared.Trit.{Trit}
 use Rattle.fields.specs.declared.Number.{Number}
@@ -17,11 +18,11 @@ use Rattle.fields.specs.declared.Number.the-variants as N
 use Rattle.fields.specs.declared.Scan.{Scan}
 use Rattle.fields.specs.declared.Scan.the-variants as S
 use Rattle.fields.specs.declared.Bit.the-variants as B
-use Rattle.fields.specs.Field.{fault, isConstant, numberAt, netAt, bitAt, scanBit, constantAt, scanMany}
+use Rattle.fields.specs.Field.{fault, constantDriver, isConstant, numberAt, netAt, bitAt, scanBit, constantAt, scanMany}
 use Rattle.fields.specs.Pattern.{onNumber, alternateAt, patternAt, patternsAt}
 use Rattle.fields.specs.Accepted.{number-read, net-read, many-read, both-read}
 use Rattle.cell_reader.specs.Parse.{numberIn, netIn, controlIn, tritOf, tritIn, netsIn, tritsIn, patternsIn}
-use Rattle.accepted.specs.Fields.{each-tab, net-cases}
+use Rattle.accepted.specs.Fields.{each-tab}
 use Rattle.valid.specs.Words.{netWordOf, controlWordOf, tritWordOf, patternWordsOf}
 use Rattle.valid.specs.Stands.{Reads, wordAt}
 use Rattle.valid.specs.Patterns.{alternates-words}
@@ -110,9 +111,12 @@ module _ (w : List ℕ) (at : ℕ) where
       rw (payload-of-net (numberIn w at), flag-back (kindOf (wordAt w at)) kind) (sym (word-of-parts (wordAt w at)))
 
   constant-named : isConstant (numberIn w at) ≡ true → constant (tritIn w at) ≡ netIn w at
-  constant-named is =
-      net-cases (λ n. constant (tritOf n) ≡ n) (numberIn w at) (λ t. refl)
-      (λ other. absurd (true≢false (sym is ∙ other)))
+  constant-named is = go (ltb (numberIn w at) (2 ^ 29)) (netIn w at) is
+    where
+      go : (low : Bool) (n : Net) → constantDriver (cond low (driverOfNet n) NoNet) ≡ true → constant (tritOf n) ≡ n
+      go low (constant t) e = refl
+      go true (slot i) e = let z : _≡_ {A = ℕ} 0 1 = cc in absurd (omega arith)
+      go false (slot i) e = let z : _≡_ {A = ℕ} 0 1 = cc in absurd (omega arith)
 
   pub constant-word :
       (end next : ℕ) → constantAt w end at ≡ S.Clean next →

@@ -2,13 +2,13 @@
 use mathlib.Core.Path.{_≡_, refl}
 use mathlib.Core.Bool.{Bool, true, false, cond, true≢false}
 use mathlib.Core.List.{List, [], _∷_, _++_, map, flatMap}
-use Prim.Native.Nat.{ℕ, suc, _+_, _-_, _≤_, _<_}
+use Prim.Native.Nat.{ℕ, suc, _+_, _≤_, _<_}
 use native.Mathlib.Omega.{arith}
 use lib.ListN.{length}
 use lib.Dec.{ltb, leb, eqb}
-use borrow.Author.Tests.{ltb-true, lt-ltb, le-ltb, eq-eqb, ne-eqb}
+use borrow.Author.Tests.{ltb-true, lt-ltb, eq-eqb}
 use Rattle.logic.specs.Word.{kindOf, payloadOf, wordOf, numberWord, kind-of-word, payload-of-word}
-use Rattle.logic.specs.Net.{Net, constant, slot, payloadOfNet}
+use Rattle.logic.specs.Net.{Net, constant, slot, payloadOfNet, driver-of-slot, driver-of-constant}
 use Rattle.logic.specs.declared.Trit.{Trit}
 use Rattle.cell.specs.Cell.{Cell, Control, FlipFlop, standing}
 use Rattle.cell.specs.Cell as C
@@ -25,7 +25,7 @@ use Rattle.accepted.specs.Laid.{cell-takes}
 use Rattle.accepted.specs.Voids.{netsBesideClock, NoVoid}
 use Rattle.valid.specs.Words.{netWordOf, controlWordOf, tritWordOf, patternWordsOf, operationOfCell, contentsOf, bodyOf, recordOf, replacementWordsOf, pairWordsOf}
 use Rattle.valid.specs.Stands.{wordAt, Stands, stands-tail, stands-inside, scan-words, each-words, each-items}
-use Rattle.valid.specs.Fields.{payload-low, trit-constant, trit-fixed, each-any}
+use Rattle.valid.specs.Fields.{payload-low, each-any}
 use Rattle.valid.specs.Bodies.{head-count, head-operation}
 use Rattle.valid.specs.Records.{each-control, each-net, controlWords, netWords, constantWords, patternWords}
 
@@ -60,11 +60,10 @@ Readable d n = Within (total d) n × NoVoid d n
 module _ (d : Design) (few : total d ≤ 4096) (run : Run 0 (d .cells) (total d)) where
   names-none : (n : Net) → Readable d n → namesVoid (voids d) (payloadOfNet n) ≡ false
   unfolding namesVoid Slots.isVoid
-  names-none (constant t) r = rw (trit-constant t)
+  names-none (constant t) r = rw (driver-of-constant t)
   names-none (slot i) r =
-      let same : i + 2 - 2 ≡ i = omega arith in
       let low : i < total d = r .0 in
-      rw (le-ltb (i + 2) 2 (omega arith), ne-eqb (i + 2) 536870911 (λ e. omega arith), same) (go (ltb i (d .base)) refl)
+      rw (driver-of-slot i (omega arith)) (go (ltb i (d .base)) refl)
     where
       go : (b : Bool) → ltb i (d .base) ≡ b → cond b (eqb (standing (takes (d .cells) i .cell)) 0) false ≡ false
       go false b = refl
@@ -93,8 +92,8 @@ module _ (d : Design) (few : total d ≤ 4096) (run : Run 0 (d .cells) (total d)
   control-no-void k r = word-no-void (cond (k .inverted) 1 0) (k .net) r
 
   trit-no-void : (t : Trit) → Unit {0} → NoVoidWord d (tritWordOf t)
-  unfolding namesVoid
-  trit-no-void t any = let fixed = trit-fixed t in rw (fixed .kind, fixed .constant)
+  unfolding tritWordOf
+  trit-no-void t any = word-no-void 0 (constant t) (tt, tt)
 
   trits-no-void : (ts : List Trit) → Each (NoVoidWord d) (map tritWordOf ts)
   trits-no-void ts = each-words tritWordOf (λ _. Unit {0}) (NoVoidWord d) trit-no-void ts (each-any ts)

@@ -11,9 +11,10 @@ returns c =
     let at-standing-of = c .before in
     let at-op = at-standing-of .before .before in
     let at-operation-of = at-op .before .before in
-    let at-word-at = at-operation-of .before in
+    let at-payload = at-operation-of .before in
     rw (
-      ← at-word-at .word-at .ensures,
+      ← at-payload .before .word-at .ensures,
+      ← at-payload .payload .ensures,
       ← at-operation-of .operation-of .ensures,
       at-op .op .given .1,
       ← at-standing-of .standing-of .ensures,
@@ -23,9 +24,12 @@ returns c =
 returns-2 : tie.Need-returns-2
 unfolding clockAt
 returns-2 c =
+    let at-operation-of = c .before .before in
+    let at-payload = at-operation-of .before in
     rw (
-      ← c .before .before .before .word-at .ensures,
-      ← c .before .before .operation-of .ensures,
+      ← at-payload .before .word-at .ensures,
+      ← at-payload .payload .ensures,
+      ← at-operation-of .operation-of .ensures,
       c .enum-told .given .1,
     )
 
@@ -35,9 +39,10 @@ returns-3 c =
     let at-standing-of = c .before in
     let at-op = at-standing-of .before .before in
     let at-operation-of = at-op .before .before in
-    let at-word-at = at-operation-of .before in
+    let at-payload = at-operation-of .before in
     rw (
-      ← at-word-at .word-at .ensures,
+      ← at-payload .before .word-at .ensures,
+      ← at-payload .payload .ensures,
       ← at-operation-of .operation-of .ensures,
       at-op .op .given .1,
       ← at-standing-of .standing-of .ensures,
@@ -48,5 +53,5 @@ pub clock-at-spec : {M : Type 1} → statement M
 clock-at-spec =
     tie.close
     (tie.spec
-    (λ c κs. search needs) (λ c κs. search needs) (λ c. search needs) (λ c. search needs) (λ c κs. search needs)
-    (λ c. search needs) returns returns-2 returns-3)
+    (λ c κs. search needs) (λ c κs. search needs) (λ c κs. search needs) (λ c. search needs) (λ c. search needs)
+    (λ c κs. search needs) (λ c. search needs) returns returns-2 returns-3)

@@ -8,29 +8,34 @@ use Rattle.design_list.proofs.heads.Tie as tie
 returns : tie.Need-returns
 unfolding headsIn
 returns c =
+    let at-if2 = c .before in
+    let at-word-at = at-if2 .before .before in
     rw (
-      lt-ltb _ _ (c .before .before .before .if1 .taken),
-      ← c .before .before .word-at .ensures,
-      eq-eqb _ _ (c .before .if2 .taken),
+      lt-ltb _ _ (at-word-at .before .before .if1 .taken),
+      ← at-word-at .word-at .ensures,
+      eq-eqb _ _ (at-if2 .if2 .taken),
       eq-eqb _ _ (c .if3 .taken),
     )
 
 returns-2 : tie.Need-returns-2
 unfolding headsIn
 returns-2 c =
+    let at-if2 = c .before in
+    let at-word-at = at-if2 .before .before in
     rw (
-      lt-ltb _ _ (c .before .before .before .if1 .taken),
-      ← c .before .before .word-at .ensures,
-      eq-eqb _ _ (c .before .if2 .taken),
+      lt-ltb _ _ (at-word-at .before .before .if1 .taken),
+      ← at-word-at .word-at .ensures,
+      eq-eqb _ _ (at-if2 .if2 .taken),
       ne-eqb _ _ (c .if3 .left),
     )
 
 returns-3 : tie.Need-returns-3
 unfolding headsIn
 returns-3 c =
+    let at-word-at = c .before .before in
     rw (
-      lt-ltb _ _ (c .before .before .if1 .taken),
-      ← c .before .word-at .ensures,
+      lt-ltb _ _ (at-word-at .before .before .if1 .taken),
+      ← at-word-at .word-at .ensures,
       ne-eqb _ _ (c .if2 .left),
     )
 
@@ -42,4 +47,5 @@ pub heads-spec : {M : Type 1} → statement M
 heads-spec =
     tie.close
     (tie.spec
-    (λ c κs. search needs) (λ c. search needs) returns (λ c. search needs) returns-2 returns-3 returns-4)
+    (λ c. search needs) (λ c. search needs) (λ c κs. search needs) returns (λ c. search needs) returns-2 returns-3
+    returns-4)

@@ -9,7 +9,7 @@ returns : tie.Need-returns
 unfolding isVoidIn
 returns c =
     rw (
-      lt-ltb _ _ (c .before .if1 .taken),
+      lt-ltb _ _ (c .before .before .if1 .taken),
       ← c .word-at .ensures,
     )
 
@@ -21,4 +21,4 @@ pub is-void-spec : {M : Type 1} → statement M
 is-void-spec =
     tie.close
     (tie.spec
-    (λ c κs. search needs) returns returns-2)
+    (λ c. search needs) (λ c. search needs) (λ c κs. search needs) returns returns-2)

@@ -1,5 +1,6 @@
 -- `design_list::limit_of` meets its contract: each answer rewrites the definition by the tests and calls that lead to it. Assumes nothing.
 use borrow.Author.Tests.{lt-ltb, le-ltb}
+use borrow.Author.Needs.{needs}
 use Rattle.design_list.proofs.limit_of.Statement.{statement}
 use Rattle.design_list.proofs.limit_of.Tie as tie
 
@@ -13,4 +14,4 @@ pub limit-of-spec : {M : Type 1} → statement M
 limit-of-spec =
     tie.close
     (tie.spec
-    returns returns-2)
+    (λ c. search needs) returns returns-2)

@@ -4,13 +4,14 @@ use borrow.Author.Needs.{needs}
 use mathlib.Core.Path.{_≡_, refl, sym, _∙_}
 use native.Mathlib.Omega.{arith}
 use Rattle.design_list.specs.Items.{netRepsFrom}
+use Rattle.design_list.specs.Step.{net-read, net-refused}
 use Rattle.design_list.specs.Laws.{ascending-none, ascending-turn, ascending-fault}
 use Rattle.design_list.proofs.net_reps_at.Statement.{statement}
 use Rattle.design_list.proofs.net_reps_at.Tie as tie
 
 abbrev Inv-loop : tie.InvT-loop
 Inv-loop list total k start at₀ left₀ least₀ at left least =
-    netRepsFrom list total k 0 start .scan ≡ netRepsFrom list total left least at .scan
+    netRepsFrom list total k 0 start .scan ≡ netRepsFrom list total left (least .0) at .scan
 
 abbrev μ-loop : tie.MeasureT-loop
 μ-loop list total k start at₀ left₀ least₀ at left least = left
@@ -24,7 +25,7 @@ returns c =
     let in-loop = call .before in
     sym
     (in-loop .before .loop .inv ∙
-    ascending-fault _ _ _ _ _ (in-loop .loop-test .taken) (sym (call .pair-at .ensures) ∙ c .before .f .given .1))
+    ascending-fault _ _ _ _ _ (in-loop .loop-test .taken) (net-refused _ (sym (call .pair-at .ensures) ∙ c .before .f .given .1)))
 
 sub-left : tie.Need-sub-left Inv-loop μ-loop
 sub-left c = omega arith
@@ -37,7 +38,7 @@ loop-again c =
     let call = c .before .before .before in
     let in-loop = call .before in
     in-loop .before .loop .inv ∙
-    ascending-turn _ _ _ _ _ (in-loop .loop-test .taken) (sym (call .pair-at .ensures) ∙ c .before .above .given .1)
+    ascending-turn _ _ _ _ _ (in-loop .loop-test .taken) (net-read _ (sym (call .pair-at .ensures) ∙ c .before .above .given .1))
 
 returns-2 : tie.Need-returns-2 Inv-loop μ-loop
 returns-2 c = sym (c .before .loop .inv ∙ ascending-none _ _ _ _ _ (c .loop-test .left))

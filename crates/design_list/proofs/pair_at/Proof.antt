@@ -1,15 +1,20 @@
 -- `design_list::pair_at` meets its contract: each answer rewrites the definition by the tests and calls that lead to it. Assumes nothing.
+use native.Mathlib.Omega.{arith}
 use borrow.Author.Tests.{le-leb, lt-leb}
 use Rattle.design_list.specs.Items.{pairAt}
 use borrow.Author.Needs.{needs}
 use Rattle.design_list.proofs.pair_at.Statement.{statement}
 use Rattle.design_list.proofs.pair_at.Tie as tie
 
+add-from : tie.Need-add-t17
+add-from c = let at-if1 = c .before in omega (arith, at-if1 .before .before .before .payload .ensures)
+
 returns : tie.Need-returns
 unfolding pairAt
 returns c =
-    let at-word-at = c .before in
-    let at-next = at-word-at .before .before in
+    let at-if1 = c .before in
+    let at-payload = at-if1 .before .before .before in
+    let at-next = at-payload .before .before .before in
     let at-listed-net-at2 = at-next .before .before in
     let at-to = at-listed-net-at2 .before .before in
     let at-listed-net-at = at-to .before .before in
@@ -18,8 +23,9 @@ returns c =
       at-to .to .given .1,
       ← at-listed-net-at2 .listed-net-at2 .ensures,
       at-next .next .given .1,
-      ← at-word-at .word-at .ensures,
-      le-leb _ _ (c .if1 .taken),
+      ← at-payload .before .word-at .ensures,
+      ← at-payload .payload .ensures,
+      le-leb _ _ (at-if1 .if1 .taken),
     )
 
 returns-2 : tie.Need-returns-2
@@ -47,8 +53,8 @@ returns-3 c =
 returns-4 : tie.Need-returns-4
 unfolding pairAt
 returns-4 c =
-    let at-word-at = c .before in
-    let at-next = at-word-at .before .before in
+    let at-payload = c .before .before .before in
+    let at-next = at-payload .before .before .before in
     let at-listed-net-at2 = at-next .before .before in
     let at-to = at-listed-net-at2 .before .before in
     let at-listed-net-at = at-to .before .before in
@@ -57,7 +63,8 @@ returns-4 c =
       at-to .to .given .1,
       ← at-listed-net-at2 .listed-net-at2 .ensures,
       at-next .next .given .1,
-      ← at-word-at .word-at .ensures,
+      ← at-payload .before .word-at .ensures,
+      ← at-payload .payload .ensures,
       lt-leb _ _ (c .if1 .left),
     )
 
@@ -66,5 +73,5 @@ pair-at-spec =
     tie.close
     (tie.spec
     (λ c κs. search needs) (λ c. search needs) (λ c. search needs) (λ c κs. search needs) (λ c. search needs)
-    (λ c. search needs) (λ c κs. search needs) (λ c. search needs) (λ c. search needs) returns returns-2 returns-3
+    (λ c. search needs) (λ c κs. search needs) (λ c κs. search needs) add-from returns returns-2 returns-3
     returns-4)

@@ -10,9 +10,16 @@ use Rattle.design_list.proofs.placed_at.Tie as tie
 
 add-after : tie.Need-add-after
 add-after c =
-    let at-record = c .before .before .before .before in
-    let read = record-read _ _ _ (sym (at-record .record-at .ensures) ∙ c .before .before .op .given .1) in
+    let at-op = c .before .before .before in
+    let read = record-read _ _ _ (sym (at-op .before .before .record-at .ensures) ∙ at-op .op .given .1) in
     omega (arith, read .low-width, c .slots-of .ensures)
+
+cast-after : tie.Need-cast-t17
+cast-after c =
+    let at-slots-of = c .before .before in
+    let at-op = at-slots-of .before .before .before in
+    let read = record-read _ _ _ (sym (at-op .before .before .record-at .ensures) ∙ at-op .op .given .1) in
+    omega (arith, read .low-width, at-slots-of .slots-of .ensures)
 
 returns : tie.Need-returns
 unfolding placedAt
@@ -27,7 +34,7 @@ unfolding placedAt
 returns-2 c =
     let at-limit-of = c .before in
     let at-slots-of = at-limit-of .before in
-    let at-op = at-slots-of .before .before in
+    let at-op = at-slots-of .before .before .before in
     let at-record-at = at-op .before .before in
     rw (
       ← at-record-at .record-at .ensures,
@@ -42,7 +49,7 @@ unfolding placedAt
 returns-3 c =
     let at-limit-of = c .before in
     let at-slots-of = at-limit-of .before in
-    let at-op = at-slots-of .before .before in
+    let at-op = at-slots-of .before .before .before in
     let at-record-at = at-op .before .before in
     rw (
       ← at-record-at .record-at .ensures,
@@ -56,5 +63,5 @@ pub placed-at-spec : {M : Type 1} → statement M
 placed-at-spec =
     tie.close
     (tie.spec
-    (λ c κs. search needs) (λ c. search needs) (λ c. search needs) (λ c κs. search needs) add-after
-    (λ c κs. search needs) returns returns-2 returns-3)
+    (λ c κs. search needs) (λ c. search needs) (λ c. search needs) (λ c. search needs) (λ c κs. search needs)
+    add-after (λ c κs. search needs) cast-after returns returns-2 returns-3)

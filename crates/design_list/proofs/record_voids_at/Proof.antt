@@ -8,10 +8,14 @@ use Rattle.design_list.proofs.record_voids_at.Tie as tie
 returns : tie.Need-returns
 unfolding recordVoidsAt
 returns c =
+    let at-clock-at = c .before in
+    let at-payload = at-clock-at .before in
+    let at-word-at = at-payload .before in
     rw (
-      lt-ltb _ _ (c .before .before .before .if1 .taken),
-      ← c .before .before .word-at .ensures,
-      ← c .before .clock-at .ensures,
+      lt-ltb _ _ (at-word-at .before .if1 .taken),
+      ← at-word-at .word-at .ensures,
+      ← at-payload .payload .ensures,
+      ← at-clock-at .clock-at .ensures,
       ← c .voids-in .ensures,
     )
 
@@ -23,5 +27,5 @@ pub record-voids-at-spec : {M : Type 1} → statement M
 record-voids-at-spec =
     tie.close
     (tie.spec
-    (λ c κs. search needs) (λ c. search needs) (λ c κs. search needs) (λ c. search needs) (λ c κs. search needs)
-    returns returns-2)
+    (λ c κs. search needs) (λ c κs. search needs) (λ c. search needs) (λ c κs. search needs) (λ c. search needs)
+    (λ c κs. search needs) returns returns-2)

@@ -3,7 +3,7 @@
 use borrow.Author.Tests.{lt-ltb, le-ltb}
 use mathlib.Core.Path.{sym, _∙_}
 use native.Mathlib.Omega.{arith}
-use Rattle.design_list.specs.Table.{table-low, table-refused, table-short, table-filled}
+use Rattle.design_list.specs.Table.{tabled, table-low, table-refused, table-short, table-filled}
 use borrow.Author.Needs.{needs}
 use Rattle.design_list.proofs.slot_table_by.Statement.{statement}
 use Rattle.design_list.proofs.slot_table_by.Tie as tie
@@ -14,41 +14,52 @@ add-if1 c =
     let call = told .before .before .before .before in
     omega (arith, table-low _ (sym (call .read-into .ensures .0) ∙ told .extent .given .1))
 
+add-room : tie.Need-add-t13
+add-room c =
+    let short = c .before in
+    let told = short .before .before .before in
+    let call = told .before .before .before .before in
+    omega (arith, table-low _ (sym (call .read-into .ensures .0) ∙ told .extent .given .1))
+
 returns : tie.Need-returns
 returns c =
-    let told = c .before .before .before in
+    let short = c .before in
+    let told = short .before .before .before in
     let call = told .before .before .before .before in
     let same = sym (call .read-into .ensures .0) ∙ told .extent .given .1 in
-    (rw (same, lt-ltb _ _ (c .if1 .taken)), table-short _ same _ (c .if1 .taken))
+    tabled _ (rw (same, lt-ltb _ _ (short .if1 .taken))) (table-short _ same _ (short .if1 .taken))
 
 copy-requires : tie.Need-copy-requires
 copy-requires c κs =
-    let told = c .before .before .before .before .before .before in
+    let enough = c .before .before .before in
+    let told = enough .before .before .before in
     let call = told .before .before .before .before in
     omega (arith, table-low _ (sym (call .read-into .ensures .0) ∙ told .extent .given .1), call .read-into .kept)
 
 returns-2 : tie.Need-returns-2
 returns-2 c =
-    let call = c .before .before .before .before .before in
-    let same = sym (call .read-into .ensures .0) ∙ c .before .f .given .1 in
-    (rw same, table-refused _ _ same)
+    let told = c .before in
+    let call = told .before .before .before .before in
+    let same = sym (call .read-into .ensures .0) ∙ told .f .given .1 in
+    tabled _ (rw same) (table-refused _ _ same)
 
 returns-3 : tie.Need-returns-3
 returns-3 c =
     let copied = c .before .before in
-    let enough = copied .before .before .before .before in
+    let lent = copied .before .before .before in
+    let enough = lent .before in
     let told = enough .before .before .before in
     let call = told .before .before .before .before in
     let start = call .before .before .before .before .before in
-    let same = sym (call .read-into .ensures .0) ∙ told .extent .given .1 in (
-      rw (same, le-ltb _ _ (enough .if1 .left)),
-      copied .copy .ensures ∙
-          table-filled _ same (start .args .table .now) _ (start .args .out .now) (call .read-into .ensures .1) (start .pre) (enough .if1 .left),
-    )
+    let same = sym (call .read-into .ensures .0) ∙ told .extent .given .1 in
+    tabled _ (rw (same, le-ltb _ _ (enough .if1 .left)))
+    (copied .copy .ensures ∙
+    table-filled _ same (start .args .table .now) _ (start .args .out .now) (call .read-into .ensures .1) (start .pre) (enough .if1 .left))
 
 pub slot-table-by-spec : {M : Type 1} → statement M
 slot-table-by-spec =
     tie.close
     (tie.spec
-    (λ c κs. search needs) (λ c. search needs) (λ c. search needs) add-if1 (λ c. search needs) returns
-    (λ c. search needs) copy-requires (λ c. search needs) returns-2 (λ c. search needs) (λ c. search needs) returns-3)
+    (λ c κs. search needs) (λ c. search needs) (λ c. search needs) add-if1 add-room (λ c. search needs) returns
+    (λ c. search needs) copy-requires (λ c. search needs) returns-2 (λ c. search needs) (λ c. search needs)
+    returns-3)

@@ -25,7 +25,7 @@ returns c =
     let arguments = c .before .before in
     let head = arguments .before .before .before .before in
     let start = head .before .before .before .before .before in
-    let head-word = head .before .head-word .ensures ∙ and-head (start .args .args .now) in
+    let head-word = head .before .head-word .ensures ∙ and-head (start .args .terms .now) in
     wrote-then (rw head-word at (head .push .ensures)) (arguments .term-words .ensures) (start .good .0 .0)
 
 pub build-and-spec : {M : Type 1} → statement M

@@ -13,11 +13,11 @@ use Rattle.engine.proofs.term_words.Statement.{statement}
 use Rattle.engine.proofs.term_words.Tie as tie
 
 abbrev Inv-loop : tie.InvT-loop
-Inv-loop calls₀ at args next₀ i₀ calls next i =
-    (i ≤ length args) × (length calls ≡ length calls₀) × Wrote calls₀ at (map termWord (take i args)) calls next
+Inv-loop calls₀ at terms next₀ i₀ calls next i =
+    (i ≤ length terms) × (length calls ≡ length calls₀) × Wrote calls₀ at (map termWord (take i terms)) calls next
 
 abbrev μ-loop : tie.MeasureT-loop
-μ-loop calls₀ at args next₀ i₀ calls next i = length args - i
+μ-loop calls₀ at terms next₀ i₀ calls next i = length terms - i
 
 loop-holds : tie.Need-loop-holds Inv-loop μ-loop
 loop-holds c = (omega arith, refl, wrote-none _ _ (omega arith))
@@ -50,7 +50,7 @@ loop-again c =
     let short : length (start .args .calls .now) < 2 ^ 64 = omega arith in (
       omega arith,
       made .push .kept .0 ∙ inv .1,
-      rw (more-words termWord (start .args .args .now) (turn .before .loop .i) (turn .loop-test .taken)) at (wrote-then (inv .2) one short),
+      rw (more-words termWord (start .args .terms .now) (turn .before .loop .i) (turn .loop-test .taken)) at (wrote-then (inv .2) one short),
     )
 
 same-length : tie.Need-same-length Inv-loop μ-loop
@@ -59,7 +59,7 @@ same-length c = c .before .loop .inv .1
 returns : tie.Need-returns Inv-loop μ-loop
 returns c =
     let inv = c .before .loop .inv in
-    rw (take-all (c .before .loop .i) (c .before .before .before .before .args .args .now) (c .loop-test .left)) at (inv .2)
+    rw (take-all (c .before .loop .i) (c .before .before .before .before .args .terms .now) (c .loop-test .left)) at (inv .2)
 
 pub term-words-spec : {M : Type 1} → statement M
 term-words-spec =

@@ -20,15 +20,18 @@ enum-known-x c = search needs
 
 add-result : tie.Need-add-result
 add-result c =
-    omega (arith, table-low _ (sym (c .before .before .before .read-design .ensures) ∙ c .before .x .given .1))
+    omega (arith, table-low _ (sym (c .before .before .before .read-design .ensures .same) ∙ c .before .x .given .1))
 
 returns : tie.Need-returns
 returns c =
     let told = c .before .before in
-    rw (← told .before .before .read-design .ensures, told .f .given .1, c .packed-fault .ensures)
+    rw (← told .before .before .read-design .ensures .same, told .f .given .1, c .packed-fault .ensures)
 
 returns-2 : tie.Need-returns-2
-returns-2 c = rw (← c .before .before .before .read-design .ensures, c .before .x .given .1)
+returns-2 c =
+    let answered = c .before .before .before .read-design .ensures .same in
+    let low = table-low _ (sym answered ∙ c .before .x .given .1) in
+    rw (← answered, c .before .x .given .1) (omega (arith, low))
 
 pub vm-read-spec : {M : Type 1} → statement M
 vm-read-spec =

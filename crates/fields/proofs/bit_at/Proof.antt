@@ -9,13 +9,16 @@ returns : tie.Need-returns
 unfolding bitAt
 returns c =
     let at-is-constant = c .before in
-    let at-if2 = at-is-constant .before in
-    let at-word-at = at-if2 .before in
-    let at-if1 = at-word-at .before in
+    let at-payload = at-is-constant .before in
+    let at-if2 = at-payload .before in
+    let at-kind = at-if2 .before in
+    let at-word-at = at-kind .before in
     rw (
-      lt-ltb _ _ (at-if1 .if1 .taken),
+      lt-ltb _ _ (at-word-at .before .if1 .taken),
       ← at-word-at .word-at .ensures,
+      ← at-kind .kind .ensures,
       eq-eqb _ _ (at-if2 .if2 .taken),
+      ← at-payload .payload .ensures,
       ← at-is-constant .is-constant .ensures,
       c .if3 .taken,
     )
@@ -24,13 +27,16 @@ returns-2 : tie.Need-returns-2
 unfolding bitAt
 returns-2 c =
     let at-is-constant = c .before in
-    let at-if2 = at-is-constant .before in
-    let at-word-at = at-if2 .before in
-    let at-if1 = at-word-at .before in
+    let at-payload = at-is-constant .before in
+    let at-if2 = at-payload .before in
+    let at-kind = at-if2 .before in
+    let at-word-at = at-kind .before in
     rw (
-      lt-ltb _ _ (at-if1 .if1 .taken),
+      lt-ltb _ _ (at-word-at .before .if1 .taken),
       ← at-word-at .word-at .ensures,
+      ← at-kind .kind .ensures,
       eq-eqb _ _ (at-if2 .if2 .taken),
+      ← at-payload .payload .ensures,
       ← at-is-constant .is-constant .ensures,
       c .if3 .left,
     )
@@ -38,9 +44,12 @@ returns-2 c =
 returns-3 : tie.Need-returns-3
 unfolding bitAt
 returns-3 c =
+    let at-kind = c .before in
+    let at-word-at = at-kind .before in
     rw (
-      lt-ltb _ _ (c .before .before .if1 .taken),
-      ← c .before .word-at .ensures,
+      lt-ltb _ _ (at-word-at .before .if1 .taken),
+      ← at-word-at .word-at .ensures,
+      ← at-kind .kind .ensures,
       ne-eqb _ _ (c .if2 .left),
     )
 
@@ -52,4 +61,5 @@ pub bit-at-spec : {M : Type 1} → statement M
 bit-at-spec =
     tie.close
     (tie.spec
-    (λ c κs. search needs) (λ c κs. search needs) (λ c. search needs) returns returns-2 returns-3 returns-4)
+    (λ c κs. search needs) (λ c κs. search needs) (λ c κs. search needs) (λ c κs. search needs) (λ c. search needs)
+    returns returns-2 returns-3 returns-4)

@@ -9,11 +9,14 @@ returns : tie.Need-returns
 unfolding headAt
 returns c =
     let at-operation-of = c .before .before in
-    let at-if2 = at-operation-of .before in
-    let at-if1 = at-if2 .before .before in
+    let at-payload = at-operation-of .before in
+    let at-if2 = at-payload .before in
+    let at-kind = at-if2 .before in
     rw (
-      lt-ltb _ _ (at-if1 .if1 .taken),
+      lt-ltb _ _ (at-kind .before .before .if1 .taken),
+      ← at-kind .kind .ensures,
       eq-eqb _ _ (at-if2 .if2 .taken),
+      ← at-payload .payload .ensures,
       ← at-operation-of .operation-of .ensures,
       c .enum-told .given .1,
     )
@@ -23,11 +26,14 @@ unfolding headAt
 returns-2 c =
     let at-op = c .before .before in
     let at-operation-of = at-op .before .before in
-    let at-if2 = at-operation-of .before in
-    let at-if1 = at-if2 .before .before in
+    let at-payload = at-operation-of .before in
+    let at-if2 = at-payload .before in
+    let at-kind = at-if2 .before in
     rw (
-      lt-ltb _ _ (at-if1 .if1 .taken),
+      lt-ltb _ _ (at-kind .before .before .if1 .taken),
+      ← at-kind .kind .ensures,
       eq-eqb _ _ (at-if2 .if2 .taken),
+      ← at-payload .payload .ensures,
       ← at-operation-of .operation-of .ensures,
       at-op .op .given .1,
       ← c .record-of .ensures,
@@ -36,8 +42,10 @@ returns-2 c =
 returns-3 : tie.Need-returns-3
 unfolding headAt
 returns-3 c =
+    let at-kind = c .before in
     rw (
-      lt-ltb _ _ (c .before .before .if1 .taken),
+      lt-ltb _ _ (at-kind .before .before .if1 .taken),
+      ← at-kind .kind .ensures,
       ne-eqb _ _ (c .if2 .left),
     )
 
@@ -49,5 +57,5 @@ pub head-at-spec : {M : Type 1} → statement M
 head-at-spec =
     tie.close
     (tie.spec
-    (λ c. search needs) (λ c. search needs) (λ c κs. search needs) (λ c. search needs) (λ c. search needs)
-    (λ c κs. search needs) returns returns-2 returns-3 returns-4)
+    (λ c. search needs) (λ c. search needs) (λ c κs. search needs) (λ c κs. search needs) (λ c κs. search needs)
+    (λ c. search needs) (λ c. search needs) (λ c κs. search needs) returns returns-2 returns-3 returns-4)

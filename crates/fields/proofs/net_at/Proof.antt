@@ -9,13 +9,16 @@ returns : tie.Need-returns
 unfolding netAt
 returns c =
     let at-is-known = c .before in
-    let at-if2 = at-is-known .before in
-    let at-word-at = at-if2 .before in
-    let at-if1 = at-word-at .before in
+    let at-payload = at-is-known .before in
+    let at-if2 = at-payload .before in
+    let at-kind = at-if2 .before in
+    let at-word-at = at-kind .before in
     rw (
-      lt-ltb _ _ (at-if1 .if1 .taken),
+      lt-ltb _ _ (at-word-at .before .if1 .taken),
       ← at-word-at .word-at .ensures,
+      ← at-kind .kind .ensures,
       le-leb _ _ (at-if2 .if2 .taken),
+      ← at-payload .payload .ensures,
       ← at-is-known .is-known .ensures,
       c .if3 .taken,
     )
@@ -24,13 +27,16 @@ returns-2 : tie.Need-returns-2
 unfolding netAt
 returns-2 c =
     let at-is-known = c .before in
-    let at-if2 = at-is-known .before in
-    let at-word-at = at-if2 .before in
-    let at-if1 = at-word-at .before in
+    let at-payload = at-is-known .before in
+    let at-if2 = at-payload .before in
+    let at-kind = at-if2 .before in
+    let at-word-at = at-kind .before in
     rw (
-      lt-ltb _ _ (at-if1 .if1 .taken),
+      lt-ltb _ _ (at-word-at .before .if1 .taken),
       ← at-word-at .word-at .ensures,
+      ← at-kind .kind .ensures,
       le-leb _ _ (at-if2 .if2 .taken),
+      ← at-payload .payload .ensures,
       ← at-is-known .is-known .ensures,
       c .if3 .left,
     )
@@ -38,9 +44,12 @@ returns-2 c =
 returns-3 : tie.Need-returns-3
 unfolding netAt
 returns-3 c =
+    let at-kind = c .before in
+    let at-word-at = at-kind .before in
     rw (
-      lt-ltb _ _ (c .before .before .if1 .taken),
-      ← c .before .word-at .ensures,
+      lt-ltb _ _ (at-word-at .before .if1 .taken),
+      ← at-word-at .word-at .ensures,
+      ← at-kind .kind .ensures,
       lt-leb _ _ (c .if2 .left),
     )
 
@@ -52,4 +61,5 @@ pub net-at-spec : {M : Type 1} → statement M
 net-at-spec =
     tie.close
     (tie.spec
-    (λ c κs. search needs) (λ c κs. search needs) (λ c. search needs) returns returns-2 returns-3 returns-4)
+    (λ c κs. search needs) (λ c κs. search needs) (λ c κs. search needs) (λ c κs. search needs) (λ c. search needs)
+    returns returns-2 returns-3 returns-4)

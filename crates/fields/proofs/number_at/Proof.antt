@@ -8,29 +8,44 @@ use Rattle.fields.proofs.number_at.Tie as tie
 returns : tie.Need-returns
 unfolding numberAt
 returns c =
+    let at-payload = c .before in
+    let at-if2 = at-payload .before in
+    let at-kind = at-if2 .before in
+    let at-word-at = at-kind .before in
     rw (
-      lt-ltb _ _ (c .before .before .before .if1 .taken),
-      ← c .before .before .word-at .ensures,
-      eq-eqb _ _ (c .before .if2 .taken),
+      lt-ltb _ _ (at-word-at .before .if1 .taken),
+      ← at-word-at .word-at .ensures,
+      ← at-kind .kind .ensures,
+      eq-eqb _ _ (at-if2 .if2 .taken),
+      ← at-payload .payload .ensures,
       le-leb _ _ (c .if3 .taken),
     )
 
 returns-2 : tie.Need-returns-2
 unfolding numberAt
 returns-2 c =
+    let at-payload = c .before in
+    let at-if2 = at-payload .before in
+    let at-kind = at-if2 .before in
+    let at-word-at = at-kind .before in
     rw (
-      lt-ltb _ _ (c .before .before .before .if1 .taken),
-      ← c .before .before .word-at .ensures,
-      eq-eqb _ _ (c .before .if2 .taken),
+      lt-ltb _ _ (at-word-at .before .if1 .taken),
+      ← at-word-at .word-at .ensures,
+      ← at-kind .kind .ensures,
+      eq-eqb _ _ (at-if2 .if2 .taken),
+      ← at-payload .payload .ensures,
       lt-leb _ _ (c .if3 .left),
     )
 
 returns-3 : tie.Need-returns-3
 unfolding numberAt
 returns-3 c =
+    let at-kind = c .before in
+    let at-word-at = at-kind .before in
     rw (
-      lt-ltb _ _ (c .before .before .if1 .taken),
-      ← c .before .word-at .ensures,
+      lt-ltb _ _ (at-word-at .before .if1 .taken),
+      ← at-word-at .word-at .ensures,
+      ← at-kind .kind .ensures,
       ne-eqb _ _ (c .if2 .left),
     )
 
@@ -42,4 +57,5 @@ pub number-at-spec : {M : Type 1} → statement M
 number-at-spec =
     tie.close
     (tie.spec
-    (λ c κs. search needs) (λ c. search needs) returns returns-2 returns-3 returns-4)
+    (λ c κs. search needs) (λ c κs. search needs) (λ c κs. search needs) (λ c. search needs) returns returns-2
+    returns-3 returns-4)
