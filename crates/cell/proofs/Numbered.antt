@@ -1,5 +1,5 @@
--- The numbers of the operations: an operation's number stands for it, and no other does. By computation, operation by operation and
--- number by number. Assumes nothing.
+-- The numbers of the operations: an operation's number stands for it, and no other does. By computation, operation by
+-- operation and number by number. Assumes nothing.
 use mathlib.Core.Path.{_≡_, refl, sym, ap, _∙_}
 use mathlib.Core.List.{List, map}
 use Prim.Native.Nat.{ℕ, zero, suc, _<_}

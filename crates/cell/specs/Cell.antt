@@ -6,10 +6,14 @@ use lib.ListN.{length}
 use Rattle.logic.specs.Net.{Net}
 use Rattle.logic.specs.declared.Trit.{Trit}
 use Rattle.operators.specs.Operators.{compares}
+-- Operations on one vector, #n n*.
 pub use Rattle.operators.specs.declared.Unary.{Unary}
 pub use Rattle.operators.specs.declared.Unary.the-variants.{Buf as buf, Not as not}
+-- Operations on two vectors of one width, #n n* n*.
 pub use Rattle.operators.specs.declared.Binary.{Binary}
-pub use Rattle.operators.specs.declared.Binary.the-variants.{And as and, Or as or, Xor as xor, Eq as eq, ULt as ult, SLt as slt, Mul as mul}
+pub use Rattle.operators.specs.declared.Binary.the-variants.{And as and, Or as or, Xor as xor, Mul as mul}
+pub use Rattle.operators.specs.declared.Binary.the-variants.{Eq as eq, ULt as ult, SLt as slt}
+-- Shifts, #n #m #stride n* m*.
 pub use Rattle.operators.specs.declared.Shift.{Shift}
 pub use Rattle.operators.specs.declared.Shift.the-variants.{Shl as shl, UShr as ushr, SShr as sshr, XShr as xshr}
 

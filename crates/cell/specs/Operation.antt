@@ -1,6 +1,7 @@
 -- Document 01, "Words", "Operations and bodies": which operations there are, how the body of each is laid out, and its output width.
--- Every body is a few numbers, then controls, then nets, then constants, then patterns. An operation on one vector, on two or a shift is
--- known by its layout and its kind (`Cell`): a new one of them is a row of `operations` and of the tables of its kind.
+-- Every body is a few numbers, then controls, then nets, then constants, then patterns, as its layout says. Operations of one
+-- layout are told apart by their operator (`operators`): a new one of them is a row of `operations` and `numberOf` here, and
+-- of the tables there.
 use Prim.Native.Nat.{ℕ, _+_}
 use mathlib.Core.Bool.{Bool, true, false}
 use mathlib.Core.List.{List, [], _∷_, map}

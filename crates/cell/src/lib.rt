@@ -6,7 +6,7 @@ ghost use mathlib.Core.Path.{_≡_};
 ghost use Rattle.cell.specs.Cell.{binaryWidth};
 ghost use Rattle.cell.specs.Operation.{operationOf, lead, body, layoutOf, numbersIn, fieldsIn, numbersOf, fieldsOf, standingOf, mayReplace};
 
-// The operations, those of one layout together.
+// The operations; those on one vector, those on two and the shifts are told apart by their operator.
 pub enum Operation {
     Void,
     Note,
@@ -23,7 +23,7 @@ pub enum Operation {
     Dff,
 }
 
-// How a body is laid out; an operation on two vectors and a shift have numbers or an output width of their own.
+// How a body is laid out; of two vectors and of a shift the least n or the output width goes by the operator.
 pub enum Layout {
     Empty,
     Port,
