@@ -1,10 +1,10 @@
 #!/usr/bin/env python3
 """Writes crates/against_rust/specs/Rows.antt: the lists of a sample of the Rust's calls, with those calls and marks.
 
-    tests/against_rust.py LONGEST < oracle/sample/calls.txt > crates/against_rust/specs/Rows.antt
+    tests/against_rust.py < oracle/sample/calls.txt > crates/against_rust/specs/Rows.antt
 
 A line of the sample is the number of the list's words, of the call words and of the marks, then all of them, in
-hexadecimal (oracle/README.md). Lines of more than LONGEST words are left out."""
+hexadecimal (oracle/README.md)."""
 import sys
 import textwrap
 
@@ -22,17 +22,14 @@ pub record Row : Type 0 where
 
 def field(name, words):
     text = f"{name} = " + " ∷ ".join([str(int(w, 16)) for w in words] + ["[]"]) + ";"
-    return textwrap.fill(text, 120, initial_indent="  ", subsequent_indent="    ")
+    return textwrap.fill(text, 120, initial_indent="  ", subsequent_indent=" " * 6)
 
 
 def main():
-    longest = int(sys.argv[1])
     names = []
     print(HEAD)
     for number, line in enumerate(sys.stdin, 1):
         words = line.split()
-        if len(words) > longest:
-            continue
         n, calls, marks = (int(w, 16) for w in words[:3])
         assert len(words) == 3 + n + calls + marks
         body = words[3:]
