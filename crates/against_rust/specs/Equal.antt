@@ -2,6 +2,7 @@
 -- the prover, from the words of the list to the words of the calls.
 use mathlib.Core.Path.{_≡_, refl}
 use mathlib.Core.List.{map}
+use lib.Ieee as digits
 use Rattle.logic.specs.Table as table
 use Rattle.bitvec.specs.Bits as bits
 use Rattle.fields.specs.Field as field
@@ -26,7 +27,7 @@ abbrev pub answered : Row → Row
 answered r = record { list = r .list; calls = answer.callWords (r .list); marks = answer.marks (r .list) }
 
 pub equal : map answered rows ≡ rows
-unfolding table.tab bits.bv2nat bits.nat2bv field.numberAt field.netAt field.bitAt field.constantAt field.scanMany
+unfolding digits.span digits.climb digits.size table.tab bits.bv2nat bits.nat2bv field.numberAt field.netAt field.bitAt field.constantAt field.scanMany
     field.endsAt head.recordOf head.headAt pattern.alternateAt pattern.patternAt pattern.patternsAt parse.patternsIn
     parse.cellAt body.thirdAt body.secondAt body.firstAt body.leadingAt body.tailAt body.bodyAt body.contentsAt
     body.recordAt items.countsAt items.headerAt items.placedAt items.cellsFrom items.cellsOf items.listedNumberAt
@@ -37,7 +38,7 @@ unfolding table.tab bits.bv2nat bits.nat2bv field.numberAt field.netAt field.bit
     builder.bvConcat builder.bvIsZero builder.bvToBool builder.boolToBv builder.tvLit builder.tvConst
     builder.tvConcatOn builder.tvConcat builder.tvExtract builder.tvIs0 builder.tvIs1 builder.tvEq builder.tvRefines
     builder.tvNot builder.tvAnd builder.tvOr builder.tvXor builder.tvMux builder.collect builder.netOf builder.valueOf
-    builder.invertNet builder.clockNet builder.halvings builder.shiftWidth builder.bvNoX builder.carryX builder.tvAdc
+    builder.invertNet builder.clockNet builder.shiftWidth builder.bvNoX builder.carryX builder.tvAdc
     builder.tvEquals builder.tvLess builder.tvMul builder.tvShift builder.firstMatch builder.net builder.controlNet
     builder.prepareAt builder.shifted builder.compared builder.product builder.sum builder.matchOf builder.matchCell
     builder.enabled builder.resetTo builder.loaded builder.cleared builder.dffCell builder.adcCell builder.cell

@@ -2,11 +2,9 @@
 use mathlib.Core.Path.{_≡_, refl, sym, ap, subst}
 use mathlib.Core.Bool.{Bool, true, false, cond}
 use mathlib.Core.List.{List, [], _∷_, _++_}
-use Prim.Native.Nat.{ℕ, zero, suc, _+_, _-_, _*_, _/_, _≤_, _<_, _^_, max}
+use Prim.Native.Nat.{ℕ, zero, suc, _+_, _-_, _*_, _≤_, _<_, _^_, max}
 use native.Mathlib.Omega.{arith}
-use native.Mathlib.Nat.{pow-suc}
-use lib.Dec.{ltb, eqb}
-use borrow.Author.Tests.{lt-ltb}
+use lib.Dec.{eqb}
 use lib.ListN.{length, getD, replicate, length-replicate, length-append}
 use Rattle.logic.specs.Table.{length-tab}
 use Rattle.logic.specs.Net.{Net, constant, slot}
@@ -56,7 +54,6 @@ use Rattle.smt.specs.Builder.{
   tvBinary,
   tvShift,
   Prepared,
-  halvings,
   oneHot,
   firstMatch,
   overwritten,
@@ -80,6 +77,7 @@ use Rattle.smt.specs.Builder.{
   cell,
   hasClear,
 }
+use Rattle.smt.specs.ShowsShift.{shiftWidth-narrow}
 use Rattle.bound.specs.Costs.{termCost, Costs, CostsOnly, costs-ret, costs-more, costs-seq, costs-weaken, sumBy}
 use Rattle.bound.specs.Builder.{
   tvNot-costs,
@@ -205,15 +203,13 @@ tvLess-costs o a b n l =
     then 3 _ _ _ (bool-call 3 _ (omega arith)) λ less.
     then 10 0 _ _ (boolToBv-costs less) λ y. costs-ret 0 _ _ tt)
 
-tvMul-costs : (a b : TritVec) (n : ℕ) → n ≤ 64 → CostsOnly 68 (tvMul a b n)
+tvMul-costs : (defined : ℕ) (a b : TritVec) (n : ℕ) → n ≤ 64 → CostsOnly 19 (tvMul defined a b n)
 unfolding tvMul
-tvMul-costs a b n l =
-    costs-more (21 + (6 + (6 + (4 + 3)))) 68 _ _ (omega arith)
-    (then 21 _ _ _ (bvNoX-costs a b n l) λ noX.
+tvMul-costs defined a b n l =
     then 6 _ _ _ (one-call 6 _ _ (rw (length-replicate n false) (omega arith))) λ none.
     then 6 _ _ _ (one-call 6 _ _ (rw (length-replicate n true) (omega arith))) λ all.
     then 4 _ _ _ (one-call 4 _ _ (omega arith)) λ x.
-    then 3 0 _ _ (one-call 3 _ _ (omega arith)) λ y. costs-ret 0 _ _ tt)
+    then 3 0 _ _ (one-call 3 _ _ (omega arith)) λ y. costs-ret 0 _ _ tt
 
 pub tvBinary-costs : (o : Binary) (a b : TritVec) (n w : ℕ) → n ≤ 64 → CostsOnly 68 (tvBinary o a b n w)
 tvBinary-costs cells.and a b n w l = tvAnd-costs a b w
@@ -222,7 +218,8 @@ tvBinary-costs cells.xor a b n w l = costs-more 6 68 _ _ (omega arith) (tvXor-co
 tvBinary-costs cells.eq a b n w l = tvEquals-costs a b n l
 tvBinary-costs cells.ult a b n w l = tvLess-costs c.bvult a b n l
 tvBinary-costs cells.slt a b n w l = tvLess-costs c.bvslt a b n l
-tvBinary-costs cells.mul a b n w l = tvMul-costs a b n l
+tvBinary-costs cells.mul a b n w l =
+    costs-more (21 + 19) 68 _ _ (omega arith) (then 21 19 _ _ (bvNoX-costs a b n l) λ noX. tvMul-costs noX a b n l)
 
 -- ---- shifts, at a width of at most 64
 
@@ -235,23 +232,6 @@ tvShift-costs onX onY n p l =
     then 6 _ _ _ (one-call 6 _ _ (rw (length-replicate (p .width) true) (omega arith))) λ all.
     then 4 _ _ _ (one-call 4 _ _ (omega arith)) λ x.
     then 3 _ _ _ (one-call 3 _ _ (omega arith)) λ y. tvExtract-costs (n - 1) 0 (tv x y))
-
-halvings-low : (b f n : ℕ) → n < 2 ^ suc b → halvings f n ≤ b
-unfolding halvings
-halvings-low b zero n h = omega arith
-halvings-low zero (suc f) n h = rw (lt-ltb n 2 h) (omega arith)
-halvings-low (suc b) (suc f) n h = go (ltb n 2) (halvings-low b f (n / 2) (let e = pow-suc 2 (suc b) in omega arith))
-  where
-    go : (t : Bool) → halvings f (n / 2) ≤ b → cond t 0 (suc (halvings f (n / 2))) ≤ suc b
-    go true r = omega arith
-    go false r = omega arith
-
--- An amount of at most 32 nets and a stride that a number word holds leave the width within 64.
-pub shift-width : (n m stride : ℕ) → n ≤ 64 → m ≤ 32 → stride < 2 ^ 29 → shiftWidth n m stride ≤ 64
-unfolding shiftWidth
-shift-width n m stride ln lm ls =
-    let h = halvings-low 28 (max stride 1) (max stride 1) (omega arith) in
-    omega arith
 
 le-of-max : (v a : List Net) (stride : ℕ) → length v ≤ shiftWidth (length v) (length a) stride
 unfolding shiftWidth
@@ -303,7 +283,7 @@ module _ (readsPast : ℕ → Bool) where
       (length-extended signed v _ (le-of-max v a stride)) (length-zext a _ (amount-of-max v a stride)))
     where
       width : shiftWidth (length v) (length a) stride ≤ 64
-      width = shift-width (length v) (length a) stride lv la ls
+      width = shiftWidth-narrow (length v) (length a) stride lv la ls
 
   prepared-costs : (u a : List Net) (stride n : ℕ) (signed : Bool) (onX onY : BinaryOp) → length u ≤ 64 → length a ≤ 32 → stride < 2 ^ 29
       → CostsOnly 2090 (prepareShift readsPast u a stride signed >>= tvShift onX onY n)

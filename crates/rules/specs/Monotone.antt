@@ -18,7 +18,7 @@ use Rattle.rules.specs.Reads.{compared, comparedByAny, comparedNets}
 use Rattle.rules.specs.Number.{sum-low}
 use Rattle.rules.specs.Refine.{Refines, refines-same, Refine, empty, both, neither}
 use Rattle.rules.specs.Refine as f
-use Rattle.rules.specs.Width.{Width, cond-width, tab-width, replicate-width, shift-width}
+use Rattle.rules.specs.Width.{Width, defined-width, one-width, tab-width, shift-width}
 
 -- ---- Single trits.
 pub not-monotone : (a a′ : Trit) → Refines a a′ → Refines (t.not a) (t.not a′)
@@ -86,21 +86,28 @@ eq-monotone {a} {a′} {b} {b′} h k = go (r.anyMismatch a b) (anyX a || anyX b
         let none = neither (anyX a) (anyX b) ex in
         rw (← f.refine-defined h (none .0), ← f.refine-defined k (none .1), em, ex) tt
 
--- ---- ULt, SLt, Mul: of operands with an X all is X, which refines every vector of the width; without X they stay.
-strict : {a a′ b b′ : List Trit} → Refine a a′ → Refine b b′ → (n : ℕ) (result : List Trit → List Trit → List Trit)
-    → Width n (r.defined a′ b′ n (result a′ b′))
-    → Refine (r.defined a b n (result a b)) (r.defined a′ b′ n (result a′ b′))
-strict {a} {a′} {b} {b′} h k n result width = go (anyX a || anyX b) refl
-  where
-    go : (x : Bool) → (anyX a || anyX b) ≡ x
-        → Refine (cond x (replicate n Undef) (result a b)) (r.defined a′ b′ n (result a′ b′))
-    go true e = rw (width .is) at (f.refine-allX (r.defined a′ b′ n (result a′ b′)))
-    go false e =
-        let none = neither (anyX a) (anyX b) e in
-        rw (← f.refine-defined h (none .0), ← f.refine-defined k (none .1), e) (f.refine-same (result a b))
+-- ---- ULt, SLt, Mul: undefined wherever an operand has an X. Then all is X, which refines every vector of the width; without
+-- X the operands stay.
+module _ (undefined : List Trit → List Trit → Bool)
+    (no-x : (a b : List Trit) → undefined a b ≡ false → r.someX a b ≡ false) where
+  strict : {a a′ b b′ : List Trit} → Refine a a′ → Refine b b′ → (n : ℕ) (result : List Trit → List Trit → List Trit)
+      → Width n (result a′ b′)
+      → Refine (r.defined (undefined a b) n (result a b)) (r.defined (undefined a′ b′) n (result a′ b′))
+  strict {a} {a′} {b} {b′} h k n result width = go (undefined a b) refl
+    where
+      given : List Trit
+      given = r.defined (undefined a′ b′) n (result a′ b′)
 
-one-bit : (a b : List Trit) (result : Trit) → Width 1 (r.defined a b 1 (result ∷ []))
-one-bit a b result = cond-width (anyX a || anyX b) (replicate-width 1 Undef) (record { is = refl })
+      go : (u : Bool) → undefined a b ≡ u → Refine (r.defined u n (result a b)) given
+      go true e = rw ((defined-width (undefined a′ b′) n (result a′ b′) width) .is) at (f.refine-allX given)
+      go false e =
+          let none = neither (anyX a) (anyX b) (no-x a b e) in
+          rw (← f.refine-defined h (none .0), ← f.refine-defined k (none .1), e) (f.refine-same (result a b))
+
+on-x : {a a′ b b′ : List Trit} → Refine a a′ → Refine b b′ → (n : ℕ) (result : List Trit → List Trit → List Trit)
+    → Width n (result a′ b′)
+    → Refine (r.defined (r.someX a b) n (result a b)) (r.defined (r.someX a′ b′) n (result a′ b′))
+on-x = strict (λ a b. r.someX a b) (λ a b e. e)
 
 pub binary-monotone : (op : Binary) {a a′ b b′ : List Trit} → Refine a a′ → Refine b b′
     → Refine (r.binary op a b) (r.binary op a′ b′)
@@ -108,13 +115,10 @@ binary-monotone c.and h k = f.refine-zip t.and t.and and-monotone h k
 binary-monotone c.or h k = f.refine-zip t.or t.or or-monotone h k
 binary-monotone c.xor h k = f.refine-zip t.xor t.xor xor-monotone h k
 binary-monotone c.eq h k = both (eq-monotone h k) empty
-binary-monotone c.ult {a′ = a′} {b′ = b′} h k =
-    strict h k 1 (λ a b. trit (r.less a b) ∷ []) (one-bit a′ b′ (trit (r.less a′ b′)))
-binary-monotone c.slt {a′ = a′} {b′ = b′} h k =
-    strict h k 1 (λ a b. trit (r.signedLess a b) ∷ []) (one-bit a′ b′ (trit (r.signedLess a′ b′)))
-binary-monotone c.mul {a} {a′} {b′ = b′} h k =
-    rw (← f.refine-length h) (strict h k (length a) (λ x y. r.trits (length a) (number x * number y))
-    (cond-width (anyX a′ || anyX b′) (replicate-width (length a) Undef) (tab-width (length a) _)))
+binary-monotone c.ult h k = on-x h k 1 (λ a b. trit (r.less a b) ∷ []) (one-width _)
+binary-monotone c.slt h k = on-x h k 1 (λ a b. trit (r.signedLess a b) ∷ []) (one-width _)
+binary-monotone c.mul {a} h k =
+    rw (← f.refine-length h) (on-x h k (length a) (λ x y. r.trits (length a) (number x * number y)) (tab-width (length a) _))
 
 -- ---- Adc: bit i, where it is no X, reads only defined trits, and those stay.
 pub adc-monotone : {a a′ b b′ : List Trit} → Refine a a′ → Refine b b′ → (c c′ : Trit) → Refines c c′

@@ -51,9 +51,13 @@ anyMismatch [] b = false
 anyMismatch (x ∷ a) [] = false
 anyMismatch (x ∷ a) (y ∷ b) = mismatch x y || anyMismatch a b
 
+-- Is any trit of either operand X?
+abbrev pub someX : List Trit → List Trit → Bool
+someX a b = anyX a || anyX b
+
 -- Eq: 0 on any defined mismatch, else X on any X.
 abbrev pub eq : List Trit → List Trit → Trit
-eq a b = cond (anyMismatch a b) Zero (cond (anyX a || anyX b) Undef One)
+eq a b = cond (anyMismatch a b) Zero (cond (someX a b) Undef One)
 
 -- The sign of a vector: is its top trit 1?
 abbrev pub negative : List Trit → Bool
@@ -66,18 +70,19 @@ less a b = ltb (number a) (number b)
 abbrev pub signedLess : List Trit → List Trit → Bool
 signedLess a b = cond (negative a) (cond (negative b) (less a b) true) (cond (negative b) false (less a b))
 
--- ULt, SLt, Mul: all X on any X.
-abbrev pub defined : List Trit → List Trit → ℕ → List Trit → List Trit
-defined a b n result = cond (anyX a || anyX b) (replicate n Undef) result
+-- A result of n trits: all X where it is undefined.
+abbrev pub defined : Bool → ℕ → List Trit → List Trit
+defined undefined n result = cond undefined (replicate n Undef) result
 
+-- ULt, SLt, Mul: all X on any X.
 abbrev pub binary : Binary → List Trit → List Trit → List Trit
 binary c.and a b = zipWith t.and a b
 binary c.or a b = zipWith t.or a b
 binary c.xor a b = zipWith t.xor a b
 binary c.eq a b = eq a b ∷ []
-binary c.ult a b = defined a b 1 (trit (less a b) ∷ [])
-binary c.slt a b = defined a b 1 (trit (signedLess a b) ∷ [])
-binary c.mul a b = defined a b (length a) (trits (length a) (number a * number b))
+binary c.ult a b = defined (someX a b) 1 (trit (less a b) ∷ [])
+binary c.slt a b = defined (someX a b) 1 (trit (signedLess a b) ∷ [])
+binary c.mul a b = defined (someX a b) (length a) (trits (length a) (number a * number b))
 
 -- Shifts by k places: bit i comes from i - k, or from i + k; the rest is filled.
 abbrev pub left : ℕ → List Trit → List Trit

@@ -1,6 +1,6 @@
 -- The widths of what the rules give.
 use mathlib.Core.Path.{_≡_, refl, sym, ap, _∙_}
-use mathlib.Core.Bool.{Bool, true, false, cond, _||_}
+use mathlib.Core.Bool.{Bool, true, false, cond}
 use mathlib.Core.List.{List, [], _∷_}
 use Prim.Native.Nat.{ℕ, zero, suc, _+_, _*_, _≤_}
 use native.Mathlib.Nat.{suc-inj, suc-ne-zero}
@@ -12,7 +12,7 @@ use Rattle.logic.specs.declared.Trit.the-variants.{Zero, Undef}
 use Rattle.cell.specs.Cell.{Unary, Binary, Shift, binaryWidth}
 use Rattle.cell.specs.Cell as c
 use Rattle.rules.specs.Trits as t
-use Rattle.rules.specs.Trits.{anyX, number}
+use Rattle.rules.specs.Trits.{anyX, number, trit, bitAt}
 use Rattle.rules.specs.Rules as r
 
 -- A statement about each element of a list.
@@ -48,6 +48,13 @@ tab-width n f = record { is = length-tab n f }
 pub replicate-width : (n : ℕ) (u : Trit) → Width n (replicate n u)
 replicate-width n u = record { is = length-replicate n u }
 
+pub defined-width : (undefined : Bool) (n : ℕ) (result : List Trit) → Width n result
+    → Width n (r.defined undefined n result)
+defined-width undefined n result p = cond-width undefined (replicate-width n Undef) p
+
+pub one-width : (t : Trit) → Width 1 (t ∷ [])
+one-width t = record { is = refl }
+
 pub unary-width : (op : Unary) {n : ℕ} {a : List Trit} → Width n a → Width n (r.unary op a)
 unary-width c.buf p = p
 unary-width c.not {a = a} p = record { is = length-map a t.not ∙ p .is }
@@ -58,10 +65,10 @@ binary-width c.and p q = zip-width t.and p q
 binary-width c.or p q = zip-width t.or p q
 binary-width c.xor p q = zip-width t.xor p q
 binary-width c.eq p q = record { is = refl }
-binary-width c.ult {a = a} {b = b} p q = cond-width (anyX a || anyX b) (replicate-width 1 Undef) (record { is = refl })
-binary-width c.slt {a = a} {b = b} p q = cond-width (anyX a || anyX b) (replicate-width 1 Undef) (record { is = refl })
+binary-width c.ult {a = a} {b = b} p q = defined-width (r.someX a b) 1 _ (one-width (trit (r.less a b)))
+binary-width c.slt {a = a} {b = b} p q = defined-width (r.someX a b) 1 _ (one-width (trit (r.signedLess a b)))
 binary-width c.mul {n} {a} {b} p q =
-    rw (p .is) (cond-width (anyX a || anyX b) (replicate-width n Undef) (tab-width n _))
+    rw (p .is) (defined-width (r.someX a b) n _ (tab-width n (bitAt (number a * number b))))
 
 pub adc-width : {n : ℕ} {a : List Trit} → Width n a → (b : List Trit) (carry : Trit) → Width (n + 1) (r.adc a b carry)
 adc-width {a = a} p b carry = rw (← p .is) (tab-width (length a + 1) (r.adcBit a b carry))

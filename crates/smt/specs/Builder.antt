@@ -2,8 +2,9 @@
 -- (arguments left to right, the fields of a struct as the Rust writes them), one line for each engine call.
 use mathlib.Core.Bool.{Bool, true, false, cond, not}
 use mathlib.Core.List.{List, [], _∷_, _++_, map}
-use Prim.Native.Nat.{ℕ, zero, suc, _+_, _-_, _/_, max}
-use lib.Dec.{eqb, ltb}
+use Prim.Native.Nat.{ℕ, zero, suc, _+_, _-_, max}
+use lib.Dec.{eqb}
+use lib.Ieee.{size}
 use lib.ListN.{length, getD, take, drop, replicate}
 use Rattle.logic.specs.Table.{tab}
 use Rattle.logic.specs.Trit.{xOf, yOf}
@@ -297,13 +298,9 @@ hasClear f = not (isAlwaysInactive (f .clear .inverted) (f .clear .net))
 
 -- ---- prepare_shift
 
--- The whole part of the logarithm to the base 2 of a number above 0, by halving it; the number itself bounds how often.
-unfoldable pub halvings : ℕ → ℕ → ℕ
-halvings zero n = 0
-halvings (suc more) n = cond (ltb n 2) 0 (suc (halvings more (n / 2)))
-
+-- The whole part of the logarithm to the base 2 of a number above 0: one less than it has binary digits.
 abbrev pub ilog2 : ℕ → ℕ
-ilog2 n = halvings n n
+ilog2 n = size n - 1
 
 unfoldable pub shiftWidth : ℕ → ℕ → ℕ → ℕ
 shiftWidth n m stride = max n (m + ilog2 (max stride 1) + 1)
@@ -386,12 +383,12 @@ tvLess o a b n = do
   y ← boolToBv less
   ret (tv x y)
 
-unfoldable pub tvMul : TritVec → TritVec → ℕ → Prog TritVec
-tvMul a b n = do
-  noX ← bvNoX a b n
+-- All X unless the term `defined` holds.
+unfoldable pub tvMul : ℕ → TritVec → TritVec → ℕ → Prog TritVec
+tvMul defined a b n = do
   none ← buildBitvecLit (zeros n)
   all ← buildBitvecLit (ones n)
-  x ← buildBitvecIte noX none all
+  x ← buildBitvecIte defined none all
   y ← buildBvmul (a .y) (b .y)
   ret (tv x y)
 
@@ -403,7 +400,7 @@ tvBinary cells.xor a b n w = tvXor a b
 tvBinary cells.eq a b n w = tvEquals a b n
 tvBinary cells.ult a b n w = tvLess c.bvult a b n
 tvBinary cells.slt a b n w = tvLess c.bvslt a b n
-tvBinary cells.mul a b n w = tvMul a b n
+tvBinary cells.mul a b n w = bvNoX a b n >>= λ noX. tvMul noX a b n
 
 -- The four shifts, from what prepare_shift made: the operations on x and on y, and the value's width.
 unfoldable pub tvShift : BinaryOp → BinaryOp → ℕ → Prepared → Prog TritVec

@@ -117,7 +117,7 @@ use Rattle.smt.specs.Shows.{
   shown-at,
   extract-shows,
 }
-use Rattle.smt.specs.ShowsNumber.{zero-x, equals-shows, ult-shows, slt-shows, mul-shows, adc-shows}
+use Rattle.smt.specs.ShowsNumber.{zero-x, no-x, equals-shows, ult-shows, slt-shows, mul-shows, adc-shows}
 use Rattle.smt.specs.ShowsShift.{
   getD-pad,
   by-number,
@@ -279,7 +279,7 @@ module _ (readsPast : ℕ → Bool) (b : NetBits) where
   binary-shows cells.eq p q = equals-shows p q
   binary-shows cells.ult p q = ult-shows p q
   binary-shows cells.slt p q = slt-shows p q
-  binary-shows cells.mul p q = mul-shows p q
+  binary-shows cells.mul p q = rw (no-x p q) (mul-shows p q _ (λ e. e))
 
   -- ---- shifts
 

@@ -131,8 +131,12 @@ equalsBits a b n =
 unfoldable pub lessBits : Compare → TritBits → TritBits → ℕ → TritBits
 lessBits o a b n = tb (oneBit (not (noX a b n))) (oneBit (denoteCompare o (a .y) (b .y)))
 
-unfoldable pub mulBits : TritBits → TritBits → ℕ → TritBits
-mulBits a b n = tb (cond (noX a b n) (zeros n) (ones n)) (bvmul (a .y) (b .y))
+-- The x of n bits: all set unless `defined`.
+abbrev pub undefX : Bool → ℕ → Bits
+undefX defined n = cond defined (zeros n) (ones n)
+
+unfoldable pub mulBits : Bool → TritBits → TritBits → ℕ → TritBits
+mulBits defined a b n = tb (undefX defined n) (bvmul (a .y) (b .y))
 
 -- The carry's x: the running or, and the last once more.
 abbrev pub carryOr : Bool → Bool → Bool → Bool
@@ -160,4 +164,4 @@ binaryBits cells.xor a b n = xorBits a b
 binaryBits cells.eq a b n = equalsBits a b n
 binaryBits cells.ult a b n = lessBits c.bvult a b n
 binaryBits cells.slt a b n = lessBits c.bvslt a b n
-binaryBits cells.mul a b n = mulBits a b n
+binaryBits cells.mul a b n = mulBits (noX a b n) a b n

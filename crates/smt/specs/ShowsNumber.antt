@@ -1,7 +1,7 @@
 -- Eq, ULt, SLt, Mul and Adc show their rules: where no operand's trit is X, the trits are the bits of y, and a number
 -- of trits is the number of these bits; where one is X, the result's x is set whatever y is.
 use mathlib.Core.Path.{_≡_, refl, sym, ap, ap₂, _∙_}
-use mathlib.Core.Bool.{Bool, true, false, not, cond, _&&_, _||_, false≢true}
+use mathlib.Core.Bool.{Bool, true, false, not, cond, _&&_, _||_, false≢true, Bool·not-not}
 use mathlib.Core.List.{List, [], _∷_, _++_, map}
 use Prim.Native.Nat.{ℕ, zero, suc, _+_, _-_, _*_, _/_, _%_, _^_, _<_}
 use native.Mathlib.Nat.{pow-suc, mul-comm, div-div-eq-div-mul, div-one, mod-add-mod}
@@ -22,9 +22,22 @@ use Rattle.engine.specs.Call as c
 use Rattle.rules.specs.Trits.{isX, anyX, digit, number, trit, bitAt}
 use Rattle.rules.specs.Rules as r
 use Rattle.rules.specs.Number.{sum-low}
+use Rattle.rules.specs.Refine.{neither}
 use Rattle.smt.specs.Builder.{zeros, ones}
 use Rattle.smt.specs.Wp.{equal-eq}
-use Rattle.smt.specs.Formula.{tb, isZero, noX, oneBit, equalsBits, lessBits, mulBits, carryOr, carryBits, adcBits}
+use Rattle.smt.specs.Formula.{
+  tb,
+  isZero,
+  noX,
+  oneBit,
+  equalsBits,
+  lessBits,
+  undefX,
+  mulBits,
+  carryOr,
+  carryBits,
+  adcBits,
+}
 use Rattle.smt.specs.Shows.{Shown, empty, lane, Shows, shown-x, shown-y, shown-ts, one-more}
 
 -- ---- X or not
@@ -127,17 +140,21 @@ equals-shows {x = x} {y = y} {u = u} {v = v} {ts = ts} {us = us} p q =
 
 -- ---- ULt and SLt
 
--- A comparison of numbers: X on any X, else the Bool that y says.
-less-shows : {n : ℕ} {x y u v : Bits} {ts us : List Trit} (l m : Bool) → Shown n x y ts → Shown n u v us
-    → (anyX ts ≡ false → anyX us ≡ false → l ≡ m)
-    → Shown 1 (oneBit (not (noX (tb x y) (tb u v) n))) (oneBit m) (r.defined ts us 1 (trit l ∷ []))
-less-shows {ts = ts} {us = us} l m p q h = rw (zero-x p, zero-x q) (go (anyX ts) (anyX us) refl refl)
+-- No bit of either x is set just where no operand has an X.
+pub no-x : {n : ℕ} {x y u v : Bits} {ts us : List Trit} → Shown n x y ts → Shown n u v us
+    → noX (tb x y) (tb u v) n ≡ not (r.someX ts us)
+no-x {ts = ts} {us = us} p q = rw (zero-x p, zero-x q) (both (anyX ts) (anyX us))
   where
-    go : (a b : Bool) → anyX ts ≡ a → anyX us ≡ b
-        → Shown 1 (oneBit (not (not a && (not b && true)))) (oneBit m) (cond (a || b) (replicate 1 Undef) (trit l ∷ []))
-    go true b ea eb = one-trit true m
-    go false true ea eb = one-trit true m
-    go false false ea eb = rw (h ea eb) (one-trit false m)
+    both : (a b : Bool) → (not a && (not b && true)) ≡ not (a || b)
+    both true b = refl
+    both false true = refl
+    both false false = refl
+
+-- A comparison of numbers: X where it is undefined, else the Bool that y says.
+less-shows : (undefined l m : Bool) → (undefined ≡ false → l ≡ m)
+    → Shown 1 (oneBit undefined) (oneBit m) (r.defined undefined 1 (trit l ∷ []))
+less-shows true l m h = one-trit true m
+less-shows false l m h = rw (h refl) (one-trit false m)
 
 -- The sign: the top trit.
 negative-msb : {n : ℕ} {x y : Bits} {ts : List Trit} → Shown n x y ts → anyX ts ≡ false → r.negative ts ≡ msb y
@@ -153,16 +170,19 @@ negative-msb {y = y} {ts = ts} p e = ap r.negative (defined-ts p e) ∙ go y
     go y = rw (length-map y trit) (top y (length y - 1))
 
 pub ult-shows : {n : ℕ} {x y u v : Bits} {ts us : List Trit} → Shown n x y ts → Shown n u v us
-    → Shows 1 (lessBits c.bvult (tb x y) (tb u v) n) (r.defined ts us 1 (trit (r.less ts us) ∷ []))
+    → Shows 1 (lessBits c.bvult (tb x y) (tb u v) n) (r.defined (r.someX ts us) 1 (trit (r.less ts us) ∷ []))
 unfolding lessBits
-ult-shows {x = x} {y = y} {u = u} {v = v} {ts = ts} {us = us} p q =
-    less-shows (r.less ts us) (bvult y v) p q (λ ea eb. rw (number-defined p ea, number-defined q eb))
+ult-shows {y = y} {v = v} {ts = ts} {us = us} p q =
+    rw (no-x p q, Bool·not-not (r.someX ts us)) (less-shows (r.someX ts us) (r.less ts us) (bvult y v) numbers)
+  where
+    numbers : r.someX ts us ≡ false → r.less ts us ≡ bvult y v
+    numbers e = let none = neither (anyX ts) (anyX us) e in rw (number-defined p (none .0), number-defined q (none .1))
 
 pub slt-shows : {n : ℕ} {x y u v : Bits} {ts us : List Trit} → Shown n x y ts → Shown n u v us
-    → Shows 1 (lessBits c.bvslt (tb x y) (tb u v) n) (r.defined ts us 1 (trit (r.signedLess ts us) ∷ []))
+    → Shows 1 (lessBits c.bvslt (tb x y) (tb u v) n) (r.defined (r.someX ts us) 1 (trit (r.signedLess ts us) ∷ []))
 unfolding lessBits
-slt-shows {x = x} {y = y} {u = u} {v = v} {ts = ts} {us = us} p q =
-    less-shows (r.signedLess ts us) (bvslt y v) p q signed
+slt-shows {y = y} {v = v} {ts = ts} {us = us} p q =
+    rw (no-x p q, Bool·not-not (r.someX ts us)) (less-shows (r.someX ts us) (r.signedLess ts us) (bvslt y v) signed)
   where
     by-signs : (a b l : Bool) → cond a (cond b l true) (cond b false l) ≡ cond (same a b) l a
     by-signs true true l = refl
@@ -170,9 +190,10 @@ slt-shows {x = x} {y = y} {u = u} {v = v} {ts = ts} {us = us} p q =
     by-signs false true l = refl
     by-signs false false l = refl
 
-    signed : anyX ts ≡ false → anyX us ≡ false → r.signedLess ts us ≡ bvslt y v
-    signed ea eb =
-        rw (negative-msb p ea, negative-msb q eb, number-defined p ea, number-defined q eb)
+    signed : r.someX ts us ≡ false → r.signedLess ts us ≡ bvslt y v
+    signed e =
+        let none = neither (anyX ts) (anyX us) e in
+        rw (negative-msb p (none .0), negative-msb q (none .1), number-defined p (none .0), number-defined q (none .1))
         (by-signs (msb y) (msb v) (bvult y v) ∙ sym (bvslt-signs y v))
 
 -- ---- Mul
@@ -204,18 +225,24 @@ number-shows (suc n) v =
     low : (v : ℕ) → shows false (odd v) ≡ bitAt v 0
     low v = as-trit (odd v) ∙ ap (λ (q : ℕ). trit (eqb (q % 2) 1)) (sym (div-one v))
 
+-- A number of n bits: all X where it is undefined, else its bits.
+undefined-shows : (undefined : Bool) (n m : ℕ) (y : Bits) → length y ≡ n → (undefined ≡ false → y ≡ nat2bv n m)
+    → Shown n (undefX (not undefined) n) y (r.defined undefined n (r.trits n m))
+undefined-shows true n m y e h = ones-shows n y e
+undefined-shows false n m y e h = rw (h refl) (number-shows n m)
+
 pub mul-shows : {n : ℕ} {x y u v : Bits} {ts us : List Trit} → Shown n x y ts → Shown n u v us
-    → Shows n (mulBits (tb x y) (tb u v) n) (r.defined ts us (length ts) (r.trits (length ts) (number ts * number us)))
+    → (undefined : Bool) → (undefined ≡ false → r.someX ts us ≡ false)
+    → Shows n (mulBits (not undefined) (tb x y) (tb u v) n)
+    (r.defined undefined (length ts) (r.trits (length ts) (number ts * number us)))
 unfolding mulBits
-mul-shows {n} {x = x} {y = y} {u = u} {v = v} {ts = ts} {us = us} p q =
-    rw (zero-x p, zero-x q, shown-y p, shown-ts p) (go (anyX ts) (anyX us) refl refl)
+mul-shows {n} {y = y} {v = v} {ts = ts} {us = us} p q undefined h =
+    rw (shown-y p, shown-ts p)
+    (undefined-shows undefined n (number ts * number us) (nat2bv n (bv2nat y * bv2nat v)) (length-nat2bv n _) numbers)
   where
-    go : (a b : Bool) → anyX ts ≡ a → anyX us ≡ b
-        → Shown n (cond (not a && (not b && true)) (zeros n) (ones n)) (nat2bv n (bv2nat y * bv2nat v))
-        (cond (a || b) (replicate n Undef) (tab n (bitAt (number ts * number us))))
-    go true b ea eb = ones-shows n _ (length-nat2bv n _)
-    go false true ea eb = ones-shows n _ (length-nat2bv n _)
-    go false false ea eb = rw (number-defined p ea, number-defined q eb) (number-shows n (bv2nat y * bv2nat v))
+    numbers : undefined ≡ false → nat2bv n (bv2nat y * bv2nat v) ≡ nat2bv n (number ts * number us)
+    numbers d =
+        let none = neither (anyX ts) (anyX us) (h d) in rw (number-defined p (none .0), number-defined q (none .1))
 
 -- ---- Adc
 

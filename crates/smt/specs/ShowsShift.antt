@@ -3,8 +3,8 @@
 use mathlib.Core.Path.{_≡_, refl, sym, ap, _∙_}
 use mathlib.Core.Bool.{Bool, true, false, not, cond, Bool·not-not}
 use mathlib.Core.List.{List, [], _∷_, _++_}
-use Prim.Native.Nat.{ℕ, zero, suc, _+_, _-_, _*_, _/_, _^_, _≤_, _<_, max}
-use native.Mathlib.Nat.{pow-suc, mul-le-mul, mod-eq-of-lt, add-comm}
+use Prim.Native.Nat.{ℕ, zero, suc, _+_, _-_, _*_, _^_, _≤_, _<_, max}
+use native.Mathlib.Nat.{lt-of-not-le, pow-suc, mul-le-mul, mod-eq-of-lt, add-comm}
 use native.Mathlib.Omega.{arith}
 use lib.Dec.{ltb}
 use borrow.Author.Tests.{ltb-true, ltb-false}
@@ -22,6 +22,8 @@ use lib.ListN.{
   getD-replicate,
 }
 use lib.Seq.{getD-take, getD-drop, getD-append-add, length-take-le}
+use lib.Ieee.{size, span, climb}
+use lib.Ieee.Digits.{size-lt, size-le}
 use lib.Pow.{pow-pos, pow-add, pow-mono}
 use Rattle.logic.specs.Table.{tab}
 use Rattle.logic.specs.Trit.{shows}
@@ -33,7 +35,7 @@ use Rattle.bitvec.specs.Laws.{length-bvnot, length-bvlshr, bv2nat-nat2bv}
 use Rattle.bitvec.specs.Numbers.{bv2nat-bvmul}
 use Rattle.bitvec.specs.Shifts.{shl-list, lshr-list}
 use Rattle.rules.specs.Trits.{anyX, number}
-use Rattle.smt.specs.Builder.{ones, ilog2, halvings}
+use Rattle.smt.specs.Builder.{ones, ilog2, shiftWidth}
 use Rattle.smt.specs.Shows.{Shown, lane, shown-x, shown-y, shown-ts, shown-at, getD-any}
 use Rattle.smt.specs.ShowsNumber.{number-defined, ones-shows, shown-tab}
 
@@ -109,22 +111,32 @@ top-pad l m d e some top =
 -- ---- the places to shift by
 
 -- A number is below the power of two after its logarithm.
-halved : (more n : ℕ) → n ≤ more → n < 2 ^ suc (halvings more n)
-unfolding halvings
-halved zero n h = omega arith
-halved (suc more) n h = by (halved more (n / 2)) (ltb n 2) refl
+ilog2-lt : (n : ℕ) → n < 2 ^ suc (ilog2 n)
+ilog2-lt n = let up : 2 ^ size n ≤ 2 ^ suc (size n - 1) = pow-mono (omega arith) in omega (arith, size-lt n)
+
+-- It is the one exponent whose power of two the number reaches without reaching the next.
+pub ilog2-is : (n k : ℕ) → 2 ^ k ≤ n → n < 2 ^ suc k → ilog2 n ≡ k
+ilog2-is n k reached below =
+    let least : k < size n = lt-of-not-le (λ (few : size n ≤ k). reaches-no-more (pow-mono few)) in
+    omega (arith, size-le n (suc k) below)
   where
-    by : (n / 2 ≤ more → n / 2 < 2 ^ suc (halvings more (n / 2))) → (b : Bool) → ltb n 2 ≡ b
-        → n < 2 ^ suc (cond b 0 (suc (halvings more (n / 2))))
-    by half true e = omega (arith, ltb-true n 2 e)
-    by half false e =
-        let l : 2 ≤ n = omega (arith, ltb-false n 2 e) in
-        rw (pow-suc 2 (suc (halvings more (n / 2)))) (omega (arith, half (omega arith)))
+    reaches-no-more : 2 ^ size n ≤ 2 ^ k → ⊥
+    reaches-no-more few = omega (arith, size-lt n)
+
+-- Computed, at the largest stride of a number word.
+pub ilog2-largest : ilog2 (2 ^ 29 - 1) ≡ 28
+unfolding size span climb
+ilog2-largest = refl
+
+-- An amount of at most 32 nets and a stride that a number word holds leave the width within 64.
+pub shiftWidth-narrow : (n m stride : ℕ) → n ≤ 64 → m ≤ 32 → stride < 2 ^ 29 → shiftWidth n m stride ≤ 64
+unfolding shiftWidth
+shiftWidth-narrow n m stride hn hm hs = omega (arith, size-le (max stride 1) 29 (omega arith))
 
 pub stride-fits : (stride m w : ℕ) → m + ilog2 (max stride 1) + 1 ≤ w → stride * 2 ^ m < 2 ^ w
 stride-fits stride m w h =
     let l = ilog2 (max stride 1) in
-    let a = halved (max stride 1) (max stride 1) (omega arith) in
+    let a = ilog2-lt (max stride 1) in
     let b = mul-le-mul {n₁ = stride + 1} {m₁ = 2 ^ m} {n₂ = 2 ^ suc l} {m₂ = 2 ^ m} (omega arith) (omega arith) in
     let c : 2 ^ (suc l + m) ≤ 2 ^ w = pow-mono (omega arith) in
     let p = pow-pos m in

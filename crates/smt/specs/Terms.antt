@@ -72,6 +72,7 @@ use Rattle.smt.specs.Formula.{
   sameBits,
   refinesBits,
   equalsBits,
+  noX,
   lessBits,
   mulBits,
   carryOr,
@@ -225,10 +226,16 @@ module _ (ρ : Assignment) (v : ℕ → Value) where
   tvLess-wp o a b n A B ha hb =
       λ k1 e1 k2 e2 k3 e3 k4 e4 k5 e5 k6 e6 k7 e7 k8 e8 x ex k9 e9 k10 e10 k11 e11 y ey. (cc, cc)
 
-  pub tvMul-wp : (a b : TritVec) (n : ℕ) (A B : TritBits) → Is ρ v a A → Is ρ v b B
-      → wp ρ v (tvMul a b n) (λ r. Is ρ v r (mulBits A B n))
-  unfolding tvMul bvNoX bvIsZero _>>=_ mulBits
-  tvMul-wp a b n A B ha hb = λ k1 e1 k2 e2 k3 e3 k4 e4 k5 e5 k6 e6 k7 e7 x ex y ey. (cc, cc)
+  bvNoX-wp : (a b : TritVec) (n : ℕ) (A B : TritBits) → Is ρ v a A → Is ρ v b B
+      → wp ρ v (bvNoX a b n) (λ k. v k ≡ bool (noX A B n))
+  unfolding bvNoX bvIsZero _>>=_
+  bvNoX-wp a b n A B ha hb = λ k1 e1 k2 e2 k3 e3 k4 e4 k5 e5. cc
+
+  pub tvMul-wp : (k : ℕ) (a b : TritVec) (n : ℕ) (defined : Bool) (A B : TritBits) → v k ≡ bool defined
+      → Is ρ v a A → Is ρ v b B
+      → wp ρ v (tvMul k a b n) (λ r. Is ρ v r (mulBits defined A B n))
+  unfolding tvMul _>>=_ mulBits
+  tvMul-wp k a b n defined A B hk ha hb = λ k1 e1 k2 e2 x ex y ey. (cc, cc)
 
   pub tvBinary-wp : (o : Binary) (a b : TritVec) (n w : ℕ) (A B : TritBits) → Is ρ v a A → Is ρ v b B
       → wp ρ v (tvBinary o a b n w) (λ r. Is ρ v r (binaryBits o A B n))
@@ -238,7 +245,8 @@ module _ (ρ : Assignment) (v : ℕ → Value) where
   tvBinary-wp cells.eq a b n w = tvEquals-wp a b n
   tvBinary-wp cells.ult a b n w = tvLess-wp c.bvult a b n
   tvBinary-wp cells.slt a b n w = tvLess-wp c.bvslt a b n
-  tvBinary-wp cells.mul a b n w = tvMul-wp a b n
+  tvBinary-wp cells.mul a b n w =
+      λ A B ha hb. wp-seq ρ v (bvNoX a b n) _ _ _ (bvNoX-wp a b n A B ha hb) λ k hk. tvMul-wp k a b n _ A B hk ha hb
 
   -- What prepare_shift made: a value and an amount at width w, and the places to shift by.
   pub record Prepares (p : Prepared) (w : ℕ) (value amount : TritBits) (by : Bits) : Type 0 where

@@ -2,12 +2,11 @@
 use mathlib.Core.Path.{_≡_, refl}
 use mathlib.Core.Bool.{Bool, true, false, not, cond}
 use mathlib.Core.List.{List, [], _∷_, _++_}
-use Prim.Native.Nat.{ℕ, zero, suc, _+_, _-_, _^_, _/_, _≤_, _<_, max}
-use native.Mathlib.Nat.{pow-suc, le-trans}
+use Prim.Native.Nat.{ℕ, zero, suc, _+_, _-_, _^_, _≤_, _<_}
+use native.Mathlib.Nat.{le-trans}
 use native.Mathlib.Numerals.{add-one}
 use native.Mathlib.Omega.{arith}
-use lib.Dec.{ltb, eqb}
-use borrow.Author.Tests.{ltb-false}
+use lib.Dec.{eqb}
 use lib.ListN.{length, getD, take, drop, replicate, length-append, length-replicate}
 use Rattle.logic.specs.Net.{Net, constant, slot}
 use Rattle.logic.specs.Table.{tab, length-tab}
@@ -44,7 +43,6 @@ use Rattle.smt.specs.Builder.{
   oneHot,
   overwritten,
   hasClear,
-  halvings,
   shiftWidth,
   zext,
   extended,
@@ -67,6 +65,7 @@ use Rattle.smt.specs.Builder.{
   adcCell,
   cell,
 }
+use Rattle.smt.specs.ShowsShift.{shiftWidth-narrow}
 use Rattle.smt.specs.CellBits.{NotInput, wide, length-overwritten}
 use Rattle.soundness.specs.Safe.{
   Width,
@@ -132,33 +131,6 @@ module _ {A : Type 0} (P : A → Type 0) where
   unfolding tab
   each-tab zero f h = tt
   each-tab (suc n) f h = (h 0 (omega arith), each-tab n (λ i. f (suc i)) (λ i l. h (suc i) (omega arith)))
-
--- ---- the width of a shift
-
--- A number below a power of two has its logarithm below the exponent.
-halvings-below : (more n e : ℕ) → n < 2 ^ e → 0 < e → halvings more n < e
-unfolding halvings
-halvings-below zero n e h p = p
-halvings-below (suc more) n zero h p = absurd (omega arith)
-halvings-below (suc more) n (suc e) h p = by (halvings-below more (n / 2) e) (ltb n 2) refl
-  where
-    by : (n / 2 < 2 ^ e → 0 < e → halvings more (n / 2) < e) → (b : Bool) → ltb n 2 ≡ b
-        → cond b 0 (suc (halvings more (n / 2))) < suc e
-    by rec true q = omega arith
-    by rec false q =
-        let l : 2 ≤ n = omega (arith, ltb-false n 2 q) in
-        let d = pow-suc 2 e in
-        let some : 0 < e = exponent e (omega arith) in
-        omega (arith, rec (omega arith) some)
-      where
-        exponent : (e : ℕ) → 2 ≤ 2 ^ suc e - 1 → 0 < e
-        exponent zero h = absurd (omega arith)
-        exponent (suc e) h = omega arith
-
-pub shiftWidth-narrow : (n m stride : ℕ) → n ≤ 64 → m ≤ 32 → stride < 2 ^ 29 → shiftWidth n m stride ≤ 64
-unfolding shiftWidth
-shiftWidth-narrow n m stride hn hm hs =
-    let l = halvings-below (max stride 1) (max stride 1) 29 (omega arith) (omega arith) in omega arith
 
 module _ (slots : ℕ) (σ : ℕ → Sort) (readsPast : ℕ → Bool) where
   abbrev Tv : ℕ → ℕ → TritVec → Type 0

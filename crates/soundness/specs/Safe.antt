@@ -397,12 +397,13 @@ module _ (slots : ℕ) (σ : ℕ → Sort) where
             ),
       )
 
-  tvMul-safe : (n w : ℕ) (a b : TritVec) → Width w → TritsOf w n a → TritsOf w n b → safe n (tvMul a b w) (TritsOf w)
+  tvMul-safe : (n w k : ℕ) (a b : TritVec) → Width w → Truth n σ k → TritsOf w n a → TritsOf w n b
+      → safe n (tvMul k a b w) (TritsOf w)
   unfolding tvMul _>>=_
-  tvMul-safe n w a b h p q =
+  tvMul-safe n w k a b h g p q =
       let z = length-replicate w false in
       let o = length-replicate w true in
-      safe-seq n (bvNoX a b w) _ (λ m k. Truth m σ k) (TritsOf w) (bvNoX-safe n w a b h p q) λ i k li g. omega arith
+      omega arith
 
   tvEquals-safe : (n w : ℕ) (a b : TritVec) → Width w → TritsOf w n a → TritsOf w n b
       → safe n (tvEquals a b w) (TritsOf 1)
@@ -448,7 +449,9 @@ module _ (slots : ℕ) (σ : ℕ → Sort) where
   tvBinary-safe cells.eq n w a b = tvEquals-safe n w a b
   tvBinary-safe cells.ult n w a b = tvLess-safe n w c.bvult a b
   tvBinary-safe cells.slt n w a b = tvLess-safe n w c.bvslt a b
-  tvBinary-safe cells.mul n w a b = tvMul-safe n w a b
+  tvBinary-safe cells.mul n w a b = λ h p q.
+      safe-seq n (bvNoX a b w) _ (λ m k. Truth m σ k) (TritsOf w) (bvNoX-safe n w a b h p q) λ i k li g.
+      tvMul-safe i w k a b h g (omega arith) (omega arith)
 
   -- What prepare_shift made.
   pub record PreparedOf (w n : ℕ) (p : Prepared) : Type 0 where
