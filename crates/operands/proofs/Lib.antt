@@ -1,0 +1,3 @@
+-- Laws of operands, for the proofs of this crate and of those that use it.
+pub mod Stores
+pub mod Nets
