@@ -5,7 +5,7 @@ use mathlib.Core.List.{List, [], _∷_, _++_, map, map-append}
 use Prim.Native.Nat.{ℕ, zero, suc, _+_, _-_, _%_, _^_, _<_, _≤_}
 use native.Mathlib.Nat.{zero-add}
 use native.Mathlib.Omega.{arith}
-use lib.ListN.{length, getD, take, drop, replicate, length-append, length-take, length-drop, length-map, length-replicate, List·getD-append, List·getD-map}
+use lib.ListN.{length, getD, set, take, drop, replicate, length-append, length-take, length-drop, length-map, length-replicate, List·getD-append, List·getD-map}
 use lib.Seq.{sets}
 use Rattle.logic.specs.Net.{Net, constant, slot, netOfSlot, net-of-payload}
 use Rattle.logic.specs.Table.{tab, tab-ext, as-tab, length-tab, map-tab}
@@ -13,8 +13,8 @@ use Rattle.logic.specs.Word.{payloadOf, netWord}
 use Rattle.logic.specs.declared.Trit.the-variants.{Zero, Undef}
 use Rattle.cell_reader.specs.Parse.{netsIn}
 use Rattle.smt.specs.Builder.{outputNets, zext, sext, extended, overwritten}
-use Rattle.operands.specs.Words.{netOfWord, wordsIn, outputWords, msbWord, extendedWords}
-use Rattle.operands.proofs.Stores.{sets-front, sets-within}
+use Rattle.operands.specs.Words.{netOfWord, wordsIn, outputWords, msbWord, extension, extendedWords}
+use Rattle.operands.proofs.Stores.{sets-append, sets-front, sets-within}
 
 -- ---- lists of words and lists of nets
 
@@ -61,6 +61,11 @@ nets-output l s w room low =
 
 -- ---- extension
 
+-- What is stored behind the n words at the start is stored with them.
+behind : (l ws more : List ℕ) (n : ℕ) → length ws ≡ n → sets (sets l 0 ws) n more ≡ sets l 0 (ws ++ more)
+behind l ws more n e =
+    let place : n ≡ 0 + length ws = omega arith in rw place (sets-append l 0 ws more)
+
 extended-words : (signed : Bool) (ws : List ℕ) (w : ℕ)
     → map netOfWord (extendedWords signed ws w) ≡ extended signed (map netOfWord ws) w
 extended-words true ws w =
@@ -74,6 +79,24 @@ extended-words false ws w =
 length-extended : (signed : Bool) (ws : List ℕ) (n w : ℕ) → length ws ≡ n → n ≤ w → length (extendedWords signed ws w) ≡ w
 length-extended signed ws n w e wide = simp (length-append, length-replicate) (omega arith)
 
+getD-tab : {A : Type 0} (n : ℕ) (f : ℕ → A) (i : ℕ) (d : A) → i < n → getD (tab n f) i d ≡ f i
+unfolding tab
+getD-tab zero f i d low = absurd (omega arith)
+getD-tab (suc n) f zero d low = refl
+getD-tab (suc n) f (suc i) d low = getD-tab n (λ j. f (suc j)) i d (omega arith)
+
+-- The word of the top net is the last of the words.
+pub msb-last : (words : List ℕ) (n at : ℕ) → (n ≡ 0 → ⊥) → getD words (at + (n - 1)) 0 ≡ msbWord (wordsIn words n at)
+msb-last words n at some = rw length-tab (sym (getD-tab n (λ i. getD words (at + i) 0) (n - 1) 536870911 (omega arith)))
+
+-- A run of words, and after it one word up to a width.
+pub extended-stored : (signed : Bool) (l words : List ℕ) (n at w : ℕ)
+    → sets (sets l 0 (wordsIn words n at)) n (replicate (w - n) (extension signed (wordsIn words n at)))
+    ≡ sets l 0 (extendedWords signed (wordsIn words n at) w)
+extended-stored signed l words n at w =
+    let ws = wordsIn words n at in
+    let more = replicate (w - n) (extension signed ws) in behind l ws more n (length-tab n _) ∙ rw length-tab
+
 pub nets-extended : (signed : Bool) (l words : List ℕ) (n at w : ℕ) → n ≤ w → w ≤ length l
     → netsIn (sets l 0 (extendedWords signed (wordsIn words n at) w)) w 0 ≡ extended signed (netsIn words n at) w
 nets-extended signed l words n at w wide room =
@@ -82,6 +105,10 @@ nets-extended signed l words n at w wide room =
     extended-words signed ws w ∙ ap (λ (v : List Net). extended signed v w) (sym (nets-words words n at))
 
 -- One net X above the others.
+pub topped-stored : (l words : List ℕ) (n at : ℕ)
+    → set (sets l 0 (wordsIn words n at)) n 536870911 ≡ sets l 0 (wordsIn words n at ++ (536870911 ∷ []))
+topped-stored l words n at = behind l (wordsIn words n at) (536870911 ∷ []) n (length-tab n _)
+
 pub nets-topped : (l words : List ℕ) (n at : ℕ) → n + 1 ≤ length l
     → netsIn (sets l 0 (wordsIn words n at ++ (536870911 ∷ []))) (n + 1) 0 ≡ netsIn words n at ++ (constant Undef ∷ [])
 nets-topped l words n at room =

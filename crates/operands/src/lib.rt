@@ -64,3 +64,58 @@ pub fn output_nets(out: &mut [u32], slot: Slot, width: u32)
         i += 1;
     }
 }
+
+// ---- prepare_shift
+
+// The word by which a value is extended: that of its top net, X where it has none, or that of the constant 0.
+fn extension(words: &[u32], at: u32, n: u32, signed: bool) -> u32
+    ensures { λ r. ⌜ r ≡ extension signed (wordsIn (now (words .entry)) n at) ⌝ }
+{
+    if signed {
+        if n == 0 {
+            return 536870911;
+        }
+        return logic::word_at(words, at as usize + (n - 1) as usize);
+    }
+    0
+}
+
+// `sext` or `zext` of a value of n nets to a width.
+pub fn extended_nets(out: &mut [u32], words: &[u32], at: u32, n: u32, width: u32, signed: bool)
+    ensures stored { λ _. ⌜ now (out .exit) ≡ sets (now (out .entry)) 0 (extendedWords signed (wordsIn (now (words .entry)) n at) width) ⌝ }
+    ensures nets { λ _. ⌜ (n ≤ width → width ≤ length (now (out .entry))
+        → netsIn (now (out .exit)) width 0 ≡ extended signed (netsIn (now (words .entry)) n at) width) ⌝ }
+{
+    copy(out, 0, words, at, n);
+    fill(out, n, width, extension(words, at, n, signed));
+}
+
+// A value of n nets with one net X above them, as XShr shifts it.
+pub fn concat_undef(out: &mut [u32], words: &[u32], at: u32, n: u32)
+    ensures stored { λ _. ⌜ now (out .exit) ≡ sets (now (out .entry)) 0 (wordsIn (now (words .entry)) n at ++ (536870911 ∷ [])) ⌝ }
+    ensures nets { λ _. ⌜ (n + 1 ≤ length (now (out .entry))
+        → netsIn (now (out .exit)) (n + 1) 0 ≡ netsIn (now (words .entry)) n at ++ (constant t.Undef ∷ [])) ⌝ }
+{
+    copy(out, 0, words, at, n);
+    logic::put(out, n as usize, logic::net_word(Net(536870911)));
+}
+
+// ---- Assign
+
+// A value of n nets with an update of u nets from the offset on.
+pub fn overwritten_nets(
+    out: &mut [u32],
+    words: &[u32],
+    value: u32,
+    n: u32,
+    update: u32,
+    u: u32,
+    offset: u32,
+)
+    ensures stored { λ _. ⌜ now (out .exit) ≡ sets (sets (now (out .entry)) 0 (wordsIn (now (words .entry)) n value)) offset (wordsIn (now (words .entry)) u update) ⌝ }
+    ensures nets { λ _. ⌜ (n ≤ length (now (out .entry)) → offset + u ≤ n
+        → netsIn (now (out .exit)) n 0 ≡ overwritten (netsIn (now (words .entry)) n value) offset (netsIn (now (words .entry)) u update)) ⌝ }
+{
+    copy(out, 0, words, value, n);
+    copy(out, offset, words, update, u);
+}
