@@ -17,7 +17,7 @@ ghost use Rattle.logic.specs.declared.Trit.the-variants as t;
 ghost use Rattle.bitvec.specs.Bits.{bit, nat2bv};
 ghost use Rattle.cell_reader.specs.Parse.{netsIn, tritOf, tritIn, tritsIn};
 ghost use Rattle.smt.specs.Builder.{outputNets, extended, overwritten, ilog2, shiftWidth};
-ghost use Rattle.operands.specs.Words.{wordsIn, outputWords, msbWord, extension, extendedWords, xNumber, yNumber};
+ghost use Rattle.operands.specs.Words.{wordsIn, outputWords, msbWord, extension, extendedWords, Wide, packed, Packed};
 
 // n words from a place on, copied to another.
 fn copy(out: &mut [u32], to: u32, words: &[u32], from: u32, n: u32)
@@ -100,6 +100,35 @@ pub fn concat_undef(out: &mut [u32], words: &[u32], at: u32, n: u32)
     logic::put(out, n as usize, logic::net_word(Net(536870911)));
 }
 
+// `stride.max(1).ilog2()`: the exponent of the last power of two that the stride reaches.
+fn ilog2(stride: u32) -> u32
+    ensures { λ r. ⌜ r ≡ ilog2 (max stride 1) ⌝ }
+{
+    let reached = stride as u64;
+    let mut exponent: u32 = 0;
+    let mut next: u64 = 2;
+    while next <= reached {
+        next = 2 * next;
+        exponent += 1;
+    }
+    exponent
+}
+
+// The width at which a shift is made: the value's, or what the amount times the stride needs if that is more; at most 2^32 - 1.
+pub fn shift_width(n: u32, m: u32, stride: u32) -> u32
+    ensures width { λ r. ⌜ r ≡ min (shiftWidth n m stride) 4294967295 ⌝ }
+    ensures wide { λ r. ⌜ (n ≤ 64 → m ≤ 32 → stride < 2 ^ 29 → Wide n m stride r) ⌝ }
+{
+    let needed = m as u64 + ilog2(stride) as u64 + 1;
+    if needed <= n as u64 {
+        return n;
+    }
+    if needed < 4294967296 {
+        return needed as u32;
+    }
+    4294967295
+}
+
 // ---- Assign
 
 // A value of n nets with an update of u nets from the offset on.
@@ -118,4 +147,76 @@ pub fn overwritten_nets(
 {
     copy(out, 0, words, value, n);
     copy(out, offset, words, update, u);
+}
+
+// ---- constants
+
+// The constant of a word, X where it is another net.
+pub fn trit_of(word: u32) -> Trit
+    ensures { λ r. ⌜ r ≡ tritOf (netOf (payloadOf word)) ⌝ }
+{
+    match logic::driver_of(Net(logic::payload(word))) {
+        Driver::Constant(trit) => trit,
+        Driver::Output(_) => Trit::Undef,
+        Driver::NoNet => Trit::Undef,
+    }
+}
+
+// The constant at a place of a pattern, or of a reset or clear value.
+pub fn trit_at(words: &[u32], at: usize) -> Trit
+    ensures { λ r. ⌜ r ≡ tritIn (now (words .entry)) at ⌝ }
+{
+    trit_of(logic::word_at(words, at))
+}
+
+// Is a trit undefined, as a bit?
+fn x_bit(trit: Trit) -> u64
+    ensures { λ r. ⌜ r ≡ bit (xOf trit) ⌝ }
+{
+    match trit {
+        Trit::Zero => 0,
+        Trit::One => 0,
+        Trit::Undef => 1,
+    }
+}
+
+// If not, is it one?
+fn y_bit(trit: Trit) -> u64
+    ensures { λ r. ⌜ r ≡ bit (yOf trit) ⌝ }
+{
+    match trit {
+        Trit::Zero => 0,
+        Trit::One => 1,
+        Trit::Undef => 0,
+    }
+}
+
+// The numbers of the x and of the y of some constants, as `tv_lit` takes them.
+pub struct Const {
+    pub x: u64,
+    pub y: u64,
+}
+
+// A literal has at most 64 bits.
+fn at_most_64(n: u32) -> u32
+    ensures { λ r. ⌜ r ≡ min n 64 ⌝ }
+{
+    if n < 64 { n } else { 64 }
+}
+
+// n constants from a place on, the first 64 of them where there are more.
+pub fn constants(words: &[u32], at: u32, n: u32) -> Const
+    ensures numbers { λ r. ⌜ (r .x ≡ packed xOf (now (words .entry)) (min n 64) at) × (r .y ≡ packed yOf (now (words .entry)) (min n 64) at) ⌝ }
+    ensures literal { λ r. ⌜ (n ≤ 64 → Packed (now (words .entry)) n at (r .x) (r .y)) ⌝ }
+{
+    let mut i = at_most_64(n);
+    let mut x: u64 = 0;
+    let mut y: u64 = 0;
+    while 0 < i {
+        i -= 1;
+        let trit = trit_at(words, at as usize + i as usize);
+        x = 2 * x + x_bit(trit);
+        y = 2 * y + y_bit(trit);
+    }
+    Const { x, y }
 }
