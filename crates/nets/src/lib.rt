@@ -227,3 +227,10 @@ pub fn is_always_inactive(control: ControlNet) -> bool
     }
     false
 }
+
+// `flip_flop.has_clear()`, of its clear.
+pub fn has_clear(clear: ControlNet) -> bool
+    ensures { λ r. ⌜ r ≡ not (isAlwaysInactive (clear .inverted) (netOf (clear .net .0))) ⌝ }
+{
+    !is_always_inactive(clear)
+}
