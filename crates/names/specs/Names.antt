@@ -25,7 +25,8 @@ halfOf IsUndef = m.isUndef
 halfOf IsOne = m.isOne
 
 -- A name was declared: its call is written, and the table has one more than its term.
-pub record Declared (a : m.Age) (i : ℕ) (h : m.Half) (calls names : List ℕ) (c : Counts) (at : ℕ) (calls′ names′ : List ℕ) (r : Built) : Type 0 where
+pub record Declared (a : m.Age) (i : ℕ) (h : m.Half) (calls names : List ℕ) (c : Counts) (at : ℕ)
+    (calls′ names′ : List ℕ) (r : Built) : Type 0 where
   pub words : ℕ
   pub wrote : Wrote calls (c .words) (recordOf (k.declare (netName a i h) 1)) calls′ words
   pub built : r ≡ builtAt c words

@@ -70,7 +70,8 @@ unfolding net
 net-aged readsPast (constant t) = refl
 net-aged readsPast (slot i) = go (readsPast i)
   where
-    go : (b : Bool) → cond b (model.netOf past (slot i)) (model.netOf curr (slot i)) ≡ model.netOf (cond b past curr) (slot i)
+    go : (b : Bool)
+        → cond b (model.netOf past (slot i)) (model.netOf curr (slot i)) ≡ model.netOf (cond b past curr) (slot i)
     go true = refl
     go false = refl
 

@@ -1,5 +1,5 @@
--- A loop that runs one program after the other (`collect`), front to back: its invariant is that if the rest is run from here, then the whole was
--- run from the start. Assumes nothing.
+-- A loop that runs one program after the other (`collect`), front to back: its invariant is that if the rest is run from
+-- here, then the whole was run from the start. Assumes nothing.
 use mathlib.Core.Path.{_≡_}
 use mathlib.Core.List.{List, [], _∷_, _++_, append-assoc, append-nil}
 use Prim.Native.Nat.{ℕ, suc, _+_, _<_, _≤_}
@@ -23,7 +23,8 @@ module _ {A B : Type 0} (f : A → Prog B) (list : List A) {calls₀ names₀ ma
   pub left-start : Left f list 0 calls₀ names₀ marks₀ c₀ calls₀ names₀ marks₀ c₀ []
   left-start = record { rest = λ p. p }
 
-  pub left-turn : (i : ℕ) (a : A) {calls names marks calls₁ names₁ marks₁ : List ℕ} {c c₁ : Counts} {done : List B} {b : B}
+  pub left-turn : (i : ℕ) (a : A) {calls names marks calls₁ names₁ marks₁ : List ℕ} {c c₁ : Counts}
+      {done : List B} {b : B}
       → drop i list ≡ a ∷ drop (suc i) list
       → Left f list i calls₀ names₀ marks₀ c₀ calls names marks c done
       → Ran (f a) calls names marks c calls₁ names₁ marks₁ c₁ b
@@ -44,7 +45,8 @@ module _ {A B : Type 0} (f : A → Prog B) (list : List A) {calls₀ names₀ ma
 
 -- ---- the nets of some words
 
-pub nets-next : (w : List ℕ) (n at i : ℕ) → i < n → drop i (netsIn w n at) ≡ netIn w (at + i) ∷ drop (suc i) (netsIn w n at)
+pub nets-next : (w : List ℕ) (n at i : ℕ) → i < n
+    → drop i (netsIn w n at) ≡ netIn w (at + i) ∷ drop (suc i) (netsIn w n at)
 nets-next w n at i low = drop-tab n i _ low
 
 pub nets-end : (w : List ℕ) (n at i : ℕ) → n ≤ i → drop i (netsIn w n at) ≡ []

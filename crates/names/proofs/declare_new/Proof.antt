@@ -1,4 +1,4 @@
--- `names::declare_new` meets its contract: one call, whose letter and suffix are the model's, and one store. Assumes nothing.
+-- `names::declare_new` meets its contract: one call, of the model's letter and suffix, and one store. Assumes nothing.
 use borrow.Author.Needs.{needs}
 use Rattle.names.proofs.declare_new.Statement.{statement}
 use Rattle.names.proofs.declare_new.Tie as tie
@@ -12,7 +12,9 @@ returns c =
     let at-letter-of = at-suffix-of .before in
     record {
       words = at-declare .declare-bitvec-const .result;
-      wrote = rw (at-letter-of .letter-of .ensures, at-suffix-of .suffix-of .ensures) at (at-declare .declare-bitvec-const .ensures);
+      wrote =
+          rw (at-letter-of .letter-of .ensures, at-suffix-of .suffix-of .ensures)
+          at (at-declare .declare-bitvec-const .ensures);
       built = at-made .made .ensures;
       knows = rw (at-made .made .ensures) at (at-put .put .ensures);
     }

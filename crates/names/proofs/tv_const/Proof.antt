@@ -11,7 +11,8 @@ returns c =
     let at-trits = c in
     let at-bv-const2 = at-trits .before .before .before .before .before .before .before in
     let at-bv-const = at-bv-const2 .before .before .before .before .before .before .before .before .before .before in
-    rw (at-trits .trits .ensures) (ran-bind _ (at-bv-const .bv-const .ensures) (ran-ret _ (at-bv-const2 .bv-const2 .ensures)))
+    rw (at-trits .trits .ensures)
+    (ran-bind _ (at-bv-const .bv-const .ensures) (ran-ret _ (at-bv-const2 .bv-const2 .ensures)))
 
 pub tv-const-spec : {M : Type 1} → statement M
 tv-const-spec =

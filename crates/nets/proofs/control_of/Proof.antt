@@ -1,4 +1,4 @@
--- `nets::control_of` meets its contract: the payload is the net, the kind tells whether it is inverted. Assumes nothing.
+-- `nets::control_of` meets its contract: the payload is the net, the kind tells if it is inverted. Assumes nothing.
 use borrow.Author.Needs.{needs}
 use Rattle.nets.proofs.control_of.Statement.{statement}
 use Rattle.nets.proofs.control_of.Tie as tie

@@ -16,7 +16,8 @@ returns c =
     let at-build-bitvec-lit = at-build-binary .before .before .before .before in
     let at-active = at-build-bitvec-lit .before in
     rw (at-trits .trits .ensures)
-    (ran-bind _ (at-build-bitvec-lit .build-bitvec-lit .ensures (_ ∷ []) (rw (at-active .active .ensures) (bit-lit _)) names marks)
+    (ran-bind _
+    (at-build-bitvec-lit .build-bitvec-lit .ensures (_ ∷ []) (rw (at-active .active .ensures) (bit-lit _)) names marks)
     (ran-ret _ (at-build-binary .build-binary .ensures 1 1 names marks)))
 
 pub invert-net-spec : {M : Type 1} → statement M

@@ -10,7 +10,8 @@ returns c =
     let at-tv-lit = c .before .before in
     let at-y-number = at-tv-lit .before in
     let at-x-number = at-y-number .before in
-    at-tv-lit .tv-lit .ensures (_ ∷ []) (rw (at-x-number .x-number .ensures) (bit-lit _)) (rw (at-y-number .y-number .ensures) (bit-lit _))
+    at-tv-lit .tv-lit .ensures (_ ∷ [])
+    (rw (at-x-number .x-number .ensures) (bit-lit _)) (rw (at-y-number .y-number .ensures) (bit-lit _))
 
 pub trit-lit-spec : {M : Type 1} → statement M
 trit-lit-spec =

@@ -1,5 +1,6 @@
--- `values::net_terms` meets its contract: after i turns the terms have the first i elements, and if the rest of the nets is read from here, all of
--- them were read from the start; each turn reads one net more. What is left of n nets falls. Assumes nothing.
+-- `values::net_terms` meets its contract: after i turns the terms have the first i elements, and if the rest of the nets is
+-- read from here, all of them were read from the start; each turn reads one net more. What is left of n nets falls.
+-- Assumes nothing.
 use borrow.Author.Needs.{needs}
 use mathlib.Core.Path.{_≡_, refl, _∙_}
 use Prim.Native.Nat.{_≤_, _<_, _+_, _*_, _-_, _^_}
@@ -15,8 +16,10 @@ use Rattle.values.proofs.net_terms.Tie as tie
 
 abbrev Inv-loop : tie.InvT-loop
 Inv-loop words at n reading table calls₀ names₀ marks₀ terms₀ counts₀ i₀ calls names marks terms counts i =
-    (i ≤ n) × (length calls ≡ length calls₀) × (length names ≡ length names₀) × (length marks ≡ length marks₀) × (length terms ≡ length terms₀)
-    × (2 * n ≤ length terms₀ → Left (reader reading table) (netsIn words n at) i calls₀ names₀ marks₀ counts₀ calls names marks counts (elements terms i))
+    (i ≤ n) × (length calls ≡ length calls₀) × (length names ≡ length names₀) × (length marks ≡ length marks₀)
+    × (length terms ≡ length terms₀)
+    × (2 * n ≤ length terms₀ → Left (reader reading table) (netsIn words n at) i
+    calls₀ names₀ marks₀ counts₀ calls names marks counts (elements terms i))
 
 abbrev μ-loop : tie.MeasureT-loop
 μ-loop words at n reading table calls₀ names₀ marks₀ terms₀ counts₀ i₀ calls names marks terms counts i = n - i
@@ -61,10 +64,12 @@ loop-again c =
       kept .1 .1 .0 ∙ inv .3,
       at-put-element .put-element .kept .0 ∙ inv .4,
       λ room.
-          let inside : 2 * i + 1 < length (at-loop .loop .terms) = omega (arith, inv .4, at-test .loop-test .taken, room) in
-          let next = nets-next (args .words .now) (args .n) (args .at) i (at-test .loop-test .taken) in
+          let more = at-test .loop-test .taken in
+          let inside : 2 * i + 1 < length (at-loop .loop .terms) = omega (arith, inv .4, more, room) in
+          let next = nets-next (args .words .now) (args .n) (args .at) i more in
           rw (at-put-element .put-element .ensures, elements-turn _ i _ _ inside)
-          (left-turn _ _ i _ next (inv .5 room) (rw (at-payload .payload .ensures, at-word-at .word-at .ensures) at read)),
+          (left-turn _ _ i _ next (inv .5 room)
+          (rw (at-payload .payload .ensures, at-word-at .word-at .ensures) at read)),
     )
 
 same-length : tie.Need-same-length Inv-loop μ-loop
