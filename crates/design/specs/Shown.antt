@@ -1,8 +1,7 @@
 -- From bits to trits: nets whose bits pass the asserted tests show trits that solve the design's equations, and the test of an
 -- obligation is false exactly when the obligation is broken.
 use mathlib.Core.Path.{_≡_, refl, sym, ap, _∙_}
-use mathlib.Core.Bool.{Bool, true, false, not, _&&_, false≢true}
-use mathlib.Core.Option.{some}
+use mathlib.Core.Bool.{Bool, true, false, _&&_, false≢true}
 use mathlib.Core.List.{List, [], _∷_, _++_, map}
 use Prim.Native.Nat.{ℕ, _+_}
 use native.Mathlib.Omega.{arith}
@@ -35,9 +34,8 @@ use Rattle.smt.specs.Shows.{Shown, Shows, empty, lane, shown-is}
 use Rattle.smt.specs.CellBits.{currBits, netBit, cellBits}
 use Rattle.smt.specs.CellShows.{tritsOf, read-shows, value-shows, cell-bits-show}
 use Rattle.design.specs.BitRule.{asserted-not-input, asserted-some}
-use Rattle.design.specs.Verify.{isInput, newCellIn}
-use Rattle.design.specs.Meant.{Meant, meantAdd, meantNew, meantCell, meantCells, meantPair, meantPairs, meantSteps, claimTest, voidTest}
-use Rattle.design.specs.WorkSound.{SaidOf}
+use Rattle.order.specs.Verify.{isInput, newCellIn}
+use Rattle.order.specs.Meant.{Meant, meantAdd, meantNew, meantCell, meantCells, meantPair, meantPairs, meantSteps, claimTest, voidTest, SaidOf}
 
 -- ---- tv_refines: false exactly where some bit of from is defined and to is not the same trit
 

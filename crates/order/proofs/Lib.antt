@@ -1,0 +1,9 @@
+pub mod Found
+pub mod EachStep
+pub mod StepsMean
+pub mod WorkSound
+pub mod Numbered
+pub mod Ascending
+pub mod NetReads
+pub mod Marks
+pub mod Pairs
