@@ -52,7 +52,7 @@ use Rattle.order.specs.Verify.{
   verify,
 }
 use Rattle.order.proofs.Found.{found, own-cells, new-found}
-use Rattle.design.specs.Replacements.{foundAt, inCells, wide, design-in-order}
+use Rattle.order.proofs.Replacements.{foundAt, inCells, wide, design-in-order}
 use Rattle.design.specs.StepsSafe.{output-narrow}
 use Rattle.design.specs.Exists.{but, asked}
 use Rattle.order.proofs.StepsMean.{steps-are}

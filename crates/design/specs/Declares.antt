@@ -59,8 +59,7 @@ use Rattle.order.specs.Verify.{
 use Rattle.order.specs.Reads.{NetRead, netRead, nameOf, reads, stepReads, readsOf}
 use Rattle.order.proofs.NetReads.{reads-seq, slot-reads}
 use Rattle.order.proofs.Pairs.{reads-pairs}
-use Rattle.design.specs.BitRule.{asserted-some}
-use Rattle.design.specs.Shown.{asserted-claimed}
+use Rattle.order.proofs.Asserted.{asserted-some, asserted-claimed}
 use Rattle.design.specs.Exists.{zeros-none}
 use Rattle.design.specs.Requirement3.{declaredNames, IsDeclared, Declared}
 

@@ -1,9 +1,6 @@
 pub mod Accepted
 pub mod BitLocal
 pub mod BitRule
-pub mod Replacements
-pub mod Shown
-pub mod Judged
 pub mod WorkMeets
 pub mod StepsSafe
 pub mod Requirement3

@@ -55,9 +55,8 @@ use Rattle.design.specs.BitRule.{
   bit-wide,
   bit-local,
   outputs-bits,
-  asserted-not-input,
-  asserted-some,
 }
+use Rattle.order.proofs.Asserted.{asserted-not-input, asserted-some}
 use Rattle.order.specs.Verify.{declared, asserted, isInput, claim, newCellIn}
 use Rattle.order.specs.Meant.{
   meantAdd,

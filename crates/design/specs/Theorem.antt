@@ -39,8 +39,8 @@ use Rattle.order.specs.Meant.{Meant, stepsOf, meantCells, meantPair, meantPairs
 use Rattle.order.proofs.StepsMean.{steps-are, steps-mean}
 use Rattle.order.proofs.WorkSound.{work-sound}
 use Rattle.bound.specs.Bounded.{Bounds}
-use Rattle.design.specs.Shown.{left, right, tests-solve}
-use Rattle.design.specs.Judged.{steps-judged}
+use Rattle.order.proofs.Shown.{left, right, tests-solve}
+use Rattle.order.proofs.Judged.{steps-judged}
 use Rattle.order.proofs.Numbered.{work-next}
 use Rattle.order.proofs.Ascending.{obligations-ascend}
 use Rattle.design.specs.Declares.{declared-left, declared-cases, built-together, nodes-declared}

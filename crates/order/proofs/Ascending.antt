@@ -9,7 +9,7 @@ use Rattle.cell.specs.Design.{Design, total}
 use Rattle.working_out.specs.Reading.{Each, each-map, readsPast}
 use Rattle.working_out.specs.Laid.{Ascending}
 use Rattle.smt.specs.Prog.{Prog, _>>=_, TritVec}
-use Rattle.smt.specs.Builder.{tvRefines, currNet, currValue, outputNets, net, cell}
+use Rattle.smt.specs.Builder.{tvRefines, net, cell}
 use Rattle.smt.specs.Emit.{St, emit}
 use Rattle.smt.specs.Wp.{emit-seq}
 use Rattle.order.specs.Verify.{Step, declared, asserted, obliged, newCell, replaceNet, currents, steps, work, start, built}
@@ -40,15 +40,15 @@ module _ (rp : ℕ → Bool) where
   fresh-new : (s w : ℕ) (a : Cell) → Fresh (newCell rp s w a)
   unfolding newCell
   fresh-new s w a =
-      fresh-after (cell rp s w a) _ λ terms. fresh-after (currValue (outputNets s w)) _ λ out. fresh-refines out terms
+      fresh-after _ _ λ terms. fresh-after _ _ λ out. fresh-refines _ _
 
   fresh-net : (from to : Net) → Fresh (replaceNet rp from to)
   unfolding replaceNet
-  fresh-net from to = fresh-after (currNet from) _ λ a. fresh-after (net rp to) _ λ b. fresh-refines a b
+  fresh-net from to = fresh-after _ _ λ a. fresh-after _ _ λ b. fresh-refines _ _
 
 fresh-currents : (from to : Net) → Fresh (currents from to)
 unfolding currents
-fresh-currents from to = fresh-after (currNet from) _ λ a. fresh-after (currNet to) _ λ b. fresh-refines a b
+fresh-currents from to = fresh-after _ _ λ a. fresh-after _ _ λ b. fresh-refines _ _
 
 fresh-steps : (d : Design) → Each FreshStep (steps d)
 fresh-steps d = each-step FreshStep d (record {

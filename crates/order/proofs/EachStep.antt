@@ -16,6 +16,7 @@ use Rattle.order.specs.Verify.{
   obliged,
   isInput,
   claim,
+  addCell,
   newCell,
   replaceNet,
   replaceVoidNet,
@@ -41,22 +42,24 @@ pub record OfEachKind (P : Step → Type 0) (rp : ℕ → Bool) : Type 0 where
 
 module _ (P : Step → Type 0) (d : Design) (of : OfEachKind P (readsPast d)) where
   of-cell : (p : Placed) → Each P (cellSteps d p)
-  of-cell p = go (eqb (outputLen (p .cell)) 0) (isInput (p .cell)) (newCellIn (d .cellReps) (p .slot))
+  of-cell p = go (eqb (outputLen (p .cell)) 0)
     where
       w : ℕ
       w = outputLen (p .cell)
 
-      new-too : (o : Option Cell) → Each P (withNew (readsPast d) (p .slot) (outputLen (p .cell)) o)
-      new-too none = tt
-      new-too (some a) = (of .new (p .slot) w a, tt)
+      add : (i : Bool) → P (cond i (declared (currValue (outputNets (p .slot) (outputLen (p .cell)))))
+          (asserted (claim (readsPast d) (p .slot) (outputLen (p .cell)) (p .cell))))
+      add true = of .input (p .slot) w
+      add false = of .cell (p .slot) w (p .cell)
 
-      go : (z i : Bool) (o : Option Cell) → Each P (cond z []
-          (cond i (declared (currValue (outputNets (p .slot) (outputLen (p .cell)))))
-          (asserted (claim (readsPast d) (p .slot) (outputLen (p .cell)) (p .cell)))
-          ∷ withNew (readsPast d) (p .slot) (outputLen (p .cell)) o))
-      go true i o = tt
-      go false true o = (of .input (p .slot) w, new-too o)
-      go false false o = (of .cell (p .slot) w (p .cell), new-too o)
+      new : (o : Option Cell) → Each P (withNew (readsPast d) (p .slot) (outputLen (p .cell)) o)
+      new none = tt
+      new (some a) = (of .new (p .slot) w a, tt)
+
+      go : (z : Bool) → Each P (cond z [] (addCell (readsPast d) (p .slot) (outputLen (p .cell)) (p .cell)
+          ∷ withNew (readsPast d) (p .slot) (outputLen (p .cell)) (newCellIn (d .cellReps) (p .slot))))
+      go true = tt
+      go false = (add (isInput (p .cell)), new (newCellIn (d .cellReps) (p .slot)))
 
   of-pair : (k : Pair) (p : NetPair) → Each P (pairSteps (readsPast d) k p)
   of-pair equal p = tt

@@ -461,38 +461,38 @@ module _ (readsPast : ℕ → Bool) where
   paired-claim : (s w : ℕ) (a : Cell) → Paired (claim readsPast s w a)
   unfolding claim
   paired-claim s w a =
-      paired-seq _ _ (paired-cell readsPast s w a) λ terms.
-      paired-seq _ _ (paired-output s w) λ out. paired-tvEq out terms
+      paired-seq _ _ (paired-cell _ s w a) λ terms.
+      paired-seq _ _ (paired-output s w) λ out. paired-tvEq _ _
 
   paired-newCell : (s w : ℕ) (a : Cell) → Paired (newCell readsPast s w a)
   unfolding newCell
   paired-newCell s w a =
-      paired-seq _ _ (paired-cell readsPast s w a) λ terms.
-      paired-seq _ _ (paired-output s w) λ out. paired-tvRefines out terms
+      paired-seq _ _ (paired-cell _ s w a) λ terms.
+      paired-seq _ _ (paired-output s w) λ out. paired-tvRefines _ _
 
   paired-replaceNet : (from to : Net) → Paired (replaceNet readsPast from to)
   unfolding replaceNet
   paired-replaceNet from to =
-      paired-seq _ _ (paired-netOf curr from) λ a.
-      paired-seq _ _ (paired-net readsPast to) λ b. paired-tvRefines a b
+      paired-seq _ _ (paired-netOf _ _) λ a.
+      paired-seq _ _ (paired-net _ _) λ b. paired-tvRefines _ _
 
   paired-replaceVoidNet : (from to : Net) → Paired (replaceVoidNet readsPast from to)
   unfolding replaceVoidNet
   paired-replaceVoidNet from to =
-      paired-seq _ _ (paired-netOf curr from) λ a.
-      paired-seq _ _ (paired-net readsPast to) λ b. paired-tvEq a b
+      paired-seq _ _ (paired-netOf _ _) λ a.
+      paired-seq _ _ (paired-net _ _) λ b. paired-tvEq _ _
 
 paired-joinPasts : (from to : Net) → Paired (joinPasts from to)
 unfolding joinPasts
 paired-joinPasts from to =
-    paired-seq _ _ (paired-netOf past from) λ a.
-    paired-seq _ _ (paired-netOf past to) λ b. paired-tvEq a b
+    paired-seq _ _ (paired-netOf _ _) λ a.
+    paired-seq _ _ (paired-netOf _ _) λ b. paired-tvEq _ _
 
 paired-currents : (from to : Net) → Paired (currents from to)
 unfolding currents
 paired-currents from to =
-    paired-seq _ _ (paired-netOf curr from) λ a.
-    paired-seq _ _ (paired-netOf curr to) λ b. paired-tvRefines a b
+    paired-seq _ _ (paired-netOf _ _) λ a.
+    paired-seq _ _ (paired-netOf _ _) λ b. paired-tvRefines _ _
 
 paired-steps : (d : Design) → Each PairedStep (steps d)
 paired-steps d = each-step PairedStep d (record {

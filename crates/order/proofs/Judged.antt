@@ -18,10 +18,10 @@ use Rattle.smt.specs.Builder.{currValue, outputNets}
 use Rattle.smt.specs.Formula.{NetBits}
 use Rattle.smt.specs.CellBits.{NotInput}
 use Rattle.smt.specs.CellShows.{tritsOf, value-shows, cell-bits-show}
 use Rattle.order.specs.Verify.{Step, declared, asserted, obliged, claim, addCell, isInput, newCellIn}
 use Rattle.order.proofs.Found.{placed, own-cells, may-replace, new-found}
-use Rattle.design.specs.Replacements.{foundAt, inCells, wide, design-in-order}
+use Rattle.order.proofs.Replacements.{foundAt, inCells, wide, design-in-order}
 use Rattle.order.specs.Meant.{
   Meant,
   meantAdd,
   meantNew,
@@ -36,8 +36,8 @@ use Rattle.order.specs.Meant.{
   ask,
   asks,
 }
 use Rattle.order.proofs.StepsMean.{positive}
-use Rattle.design.specs.Shown.{refines-shown, current-shows, outputs-show}
+use Rattle.order.proofs.Shown.{refines-shown, current-shows, outputs-show}
 
 pub asks-append : (b : NetBits) (k l : List Meant) → asks b (k ++ l) ≡ asks b k ++ asks b l
 unfolding asks
