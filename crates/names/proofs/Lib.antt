@@ -1,0 +1,2 @@
+-- Laws of the table of names, for the proofs of this crate.
+pub mod Laws

@@ -1,0 +1,3 @@
+-- Laws of vectors made of elements, for the proofs of this crate and of those that use it.
+pub mod Tables
+pub mod Concat
