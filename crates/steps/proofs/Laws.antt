@@ -10,10 +10,11 @@ use Rattle.engine.specs.Emit.{Wrote, wrote-none, length-overwrite}
 use Rattle.smt.specs.Prog.{Prog, TritVec, _>>=_}
 use Rattle.smt.specs.Emit.{St, Out, after, emit}
 use Rattle.builder.specs.declared.Counts.{Counts}
+use Rattle.builder.specs.declared.Built.{Built}
 use Rattle.builder.specs.Ran.{stateOf, Lent, Fits, Ends, Ran, Writes}
 use Rattle.builder.proofs.Laws.{Grows, emit-grows, encode-append, wrote-call, wrote-calls}
 use Rattle.order.specs.Verify.{Step, declared, asserted, obliged, work, query, asked}
-use Rattle.steps.specs.Did.{Did, Asked, Asks}
+use Rattle.steps.specs.Did.{Did, Asserts, Asked, Asks}
 
 work-grows : (steps : List Step) (s : St) → Grows s ((work steps s) .st)
 unfolding work
@@ -41,18 +42,21 @@ unfolding work encode
 did-none calls names marks c = record { ends = λ lent fits. record { state = refl; res = refl; wrote = wrote-none calls (c .words) (lent .low) } }
 
 -- A claim, made and asserted.
-pub did-asserted : {m : Prog ℕ} {calls names marks calls₁ names₁ marks₁ calls₂ : List ℕ} {c c₁ : Counts} {a words : ℕ}
-    → Ran m calls names marks c calls₁ names₁ marks₁ c₁ a → Wrote calls₁ (c₁ .words) (recordOf (assert a)) calls₂ words
-    → Did (asserted m ∷ []) calls names marks c calls₂ names₁ marks₁ (record { terms = c₁ .terms; temporaries = c₁ .temporaries; words = words }) []
+pub did-asserted : {m : Prog ℕ} {calls names marks calls₁ names₁ marks₁ calls₂ : List ℕ} {c c₂ : Counts} {claim : Built}
+    → Ran m calls names marks c calls₁ names₁ marks₁ (claim .counts) (claim .term .0) → Asserts claim calls₁ calls₂ c₂
+    → Did (asserted m ∷ []) calls names marks c calls₂ names₁ marks₁ c₂ []
 unfolding work
-did-asserted {m} {calls} {names} {marks} {c = c} {a = a} p w =
+did-asserted {m} {calls} {names} {marks} {names₁ = names₁} {marks₁ = marks₁} {c = c} {c₂ = c₂} {claim = claim} p done =
     record {
       ends = λ lent fits.
           let first = p .ends lent fits in
+          let written = wrote-call (assert (claim .term .0)) (done .wrote) in
           record {
-            state = first .state;
+            state = first .state ∙ sym (ap (λ (d : Counts). stateOf d names₁ marks₁) (done .same));
             res = refl;
-            wrote = rw (first .res) (wrote-calls ((emit m (stateOf c names marks)) .calls) (assert a ∷ []) (first .wrote) (wrote-call (assert a) w) (lent .short));
+            wrote =
+                rw (first .res)
+                (wrote-calls ((emit m (stateOf c names marks)) .calls) (assert (claim .term .0) ∷ []) (first .wrote) written (lent .short));
           };
     }
 
