@@ -1,5 +1,5 @@
--- A net's name read: declared where the table has 0 for it (`ran-new`), else known by its term (`ran-known`); its slot is
--- marked both times.
+-- A net's name read: declared where the table has 0 for it (`ran-new`), else known by its term (`ran-known`); its slot
+-- is marked both times.
 use mathlib.Core.Path.{_≡_, refl}
 use mathlib.Core.List.{List}
 use Prim.Native.Nat.{ℕ, suc, _≤_}

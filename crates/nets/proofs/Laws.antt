@@ -1,6 +1,6 @@
 -- What a net number's driver says of the net, and which trit each way of reading takes. Assumes nothing.
 use mathlib.Core.Path.{_≡_, refl, sym, ap, _∙_}
-use mathlib.Core.Bool.{Bool, true, false, cond, not}
+use mathlib.Core.Bool.{Bool, true, false, cond}
 use mathlib.Core.List.{List, [], _∷_}
 use Prim.Native.Nat.{ℕ, _<_, _^_, _-_}
 use native.Mathlib.Omega.{arith}
@@ -12,8 +12,8 @@ use Rattle.logic.specs.declared.Trit.{Trit}
 use Rattle.logic.specs.declared.Trit.the-variants.{Undef}
 use Rattle.logic.specs.declared.Driver.the-variants.{Constant, Output, NoNet}
 use Rattle.bitvec.specs.Bits.{bit, nat2bv}
-use Rattle.smt.specs.Prog.{Prog, TritVec, curr, past}
-use Rattle.smt.specs.Builder.{tvConst, tvLit, net, isAlwaysInactive}
+use Rattle.smt.specs.Prog.{curr, past}
+use Rattle.smt.specs.Builder.{net, isAlwaysInactive}
 use Rattle.smt.specs.Builder as model
 use Rattle.nets.specs.declared.Reading.{Reading}
 use Rattle.nets.specs.declared.Reading.the-variants.{Curr, Past, Either}

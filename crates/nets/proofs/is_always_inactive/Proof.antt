@@ -1,6 +1,4 @@
 -- `nets::is_always_inactive` meets its contract: only the constants 0 and 1 decide. Assumes nothing.
-use borrow.Author.Needs.{needs}
-use borrow.Author.Tests.{eq-eqb}
 use Rattle.nets.proofs.Laws.{never-inactive}
 use Rattle.nets.proofs.is_always_inactive.Statement.{statement}
 use Rattle.nets.proofs.is_always_inactive.Tie as tie

@@ -1,5 +1,5 @@
--- `nets::net_of` meets its contract: a constant is a literal, a slot its two names; a number below 2^29 names one of them.
--- Assumes nothing.
+-- `nets::net_of` meets its contract: a constant is a literal, a slot its two names; a number below 2^29 names one of
+-- them. Assumes nothing.
 use borrow.Author.Needs.{needs}
 use mathlib.Core.Path.{sym, _∙_}
 use Rattle.smt.specs.Builder.{netOf}
