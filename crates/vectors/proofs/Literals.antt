@@ -40,12 +40,14 @@ hot-x k i = zeros-lit k ∙ tab-const k false ∙ tab-ext k _ _ (λ j low. defin
 power-bits : (k i : ℕ) → nat2bv k (2 ^ i) ≡ tab k (λ j. eqb j i)
 unfolding nat2bv tab
 power-bits zero i = refl
-power-bits (suc k) zero = ap (λ l. true ∷ l) (zeros-lit k ∙ tab-const k false ∙ tab-ext k _ _ (λ j low. sym (eqb·suc-zero j)))
+power-bits (suc k) zero =
+    ap (λ l. true ∷ l) (zeros-lit k ∙ tab-const k false ∙ tab-ext k _ _ (λ j low. sym (eqb·suc-zero j)))
 power-bits (suc k) (suc i) =
     let double : 2 ^ suc i ≡ 2 ^ i * 2 = pow-suc 2 i in
     let half : 2 ^ suc i / 2 ≡ 2 ^ i = omega arith in
     let even : 2 ^ suc i % 2 ≡ 0 = omega arith in
-    ap₂ _∷_ (ap (λ m. eqb m 1) even ∙ sym (eqb·zero-suc i)) (ap (nat2bv k) half ∙ power-bits k i ∙ tab-ext k _ _ (λ j low. sym (eqb·suc-suc j i)))
+    ap₂ _∷_ (ap (λ m. eqb m 1) even ∙ sym (eqb·zero-suc i))
+    (ap (nat2bv k) half ∙ power-bits k i ∙ tab-ext k _ _ (λ j low. sym (eqb·suc-suc j i)))
 
 pub hot-y : (k i : ℕ) → nat2bv k (2 ^ i) ≡ map yOf (oneHot k i)
 hot-y k i = power-bits k i ∙ tab-ext k _ _ (λ j low. shown (eqb j i)) ∙ sym (map-tab yOf k _)

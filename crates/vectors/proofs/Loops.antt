@@ -1,4 +1,5 @@
--- Loops whose model runs forward. Kept in a turn: if the rest is run from here, the whole was run from the start. Assumes nothing.
+-- Loops whose model runs forward. Kept in a turn: if the rest is run from here, the whole was run from the start.
+-- Assumes nothing.
 use mathlib.Core.Path.{_≡_}
 use mathlib.Core.List.{List, [], _∷_, _++_, append-assoc}
 use Prim.Native.Nat.{ℕ, zero, suc, _+_, _-_, _<_}

@@ -15,7 +15,9 @@ same-length c =
     let at-build-not = at-build-bool-ite .before .before .before .before in
     let at-bv-no-x = at-build-not .before .before .before .before in
     let at-build-bool-lit = at-bv-no-x .before .before .before .before in
-    at-build-binary .build-binary .kept .0 ∙ at-bool-to-bv .bool-to-bv .kept .0 ∙ at-build-bool-ite .build-bool-ite .kept .0 ∙ at-build-not .build-not .kept .0 ∙ at-bv-no-x .bv-no-x .kept .0 ∙ at-build-bool-lit .build-bool-lit .kept .0
+    at-build-binary .build-binary .kept .0 ∙ at-bool-to-bv .bool-to-bv .kept .0
+    ∙ at-build-bool-ite .build-bool-ite .kept .0 ∙ at-build-not .build-not .kept .0
+    ∙ at-bv-no-x .bv-no-x .kept .0 ∙ at-build-bool-lit .build-bool-lit .kept .0
 
 returns : tie.Need-returns
 unfolding equalsUnless
@@ -38,4 +40,13 @@ returns c =
 pub equals-unless-spec : {M : Type 1} → statement M
 equals-unless-spec =
     tie.close
-    (tie.spec (λ c κs. search needs) (λ c κs. search needs) (λ c κs. search needs) (λ c κs. search needs) (λ c κs. search needs) (λ c κs. search needs) (λ c κs. search needs) same-length returns)
+    (tie.spec
+    (λ c κs. search needs)
+    (λ c κs. search needs)
+    (λ c κs. search needs)
+    (λ c κs. search needs)
+    (λ c κs. search needs)
+    (λ c κs. search needs)
+    (λ c κs. search needs)
+    same-length
+    returns)

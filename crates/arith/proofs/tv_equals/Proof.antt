@@ -16,7 +16,10 @@ same-length c =
     let at-build-bvnot = at-build-binary3 .before .before .before .before in
     let at-build-binary2 = at-build-bvnot .before .before .before .before in
     let at-build-binary = at-build-binary2 .before .before .before .before in
-    at-equals-unless .equals-unless .kept .0 ∙ at-build-not .build-not .kept .0 ∙ at-bv-is-zero .bv-is-zero .kept .0 ∙ at-build-binary3 .build-binary3 .kept .0 ∙ at-build-bvnot .build-bvnot .kept .0 ∙ at-build-binary2 .build-binary2 .kept .0 ∙ at-build-binary .build-binary .kept .0
+    at-equals-unless .equals-unless .kept .0 ∙ at-build-not .build-not .kept .0
+    ∙ at-bv-is-zero .bv-is-zero .kept .0 ∙ at-build-binary3 .build-binary3 .kept .0
+    ∙ at-build-bvnot .build-bvnot .kept .0 ∙ at-build-binary2 .build-binary2 .kept .0
+    ∙ at-build-binary .build-binary .kept .0
 
 returns : tie.Need-returns
 unfolding tvEquals equalsUnless
@@ -40,4 +43,13 @@ returns c =
 pub tv-equals-spec : {M : Type 1} → statement M
 tv-equals-spec =
     tie.close
-    (tie.spec (λ c κs. search needs) (λ c κs. search needs) (λ c κs. search needs) (λ c κs. search needs) (λ c κs. search needs) (λ c κs. search needs) (λ c κs. search needs) same-length returns)
+    (tie.spec
+    (λ c κs. search needs)
+    (λ c κs. search needs)
+    (λ c κs. search needs)
+    (λ c κs. search needs)
+    (λ c κs. search needs)
+    (λ c κs. search needs)
+    (λ c κs. search needs)
+    same-length
+    returns)

@@ -14,7 +14,8 @@ same-length c =
     let at-bool-to-bv = at-build-compare .before .before .before .before in
     let at-build-not = at-bool-to-bv .before .before .before .before in
     let at-bv-no-x = at-build-not .before .before .before .before in
-    at-bool-to-bv2 .bool-to-bv2 .kept .0 ∙ at-build-compare .build-compare .kept .0 ∙ at-bool-to-bv .bool-to-bv .kept .0 ∙ at-build-not .build-not .kept .0 ∙ at-bv-no-x .bv-no-x .kept .0
+    at-bool-to-bv2 .bool-to-bv2 .kept .0 ∙ at-build-compare .build-compare .kept .0
+    ∙ at-bool-to-bv .bool-to-bv .kept .0 ∙ at-build-not .build-not .kept .0 ∙ at-bv-no-x .bv-no-x .kept .0
 
 returns : tie.Need-returns
 unfolding tvLess
@@ -35,4 +36,12 @@ returns c =
 pub tv-less-spec : {M : Type 1} → statement M
 tv-less-spec =
     tie.close
-    (tie.spec (λ c κs. search needs) (λ c κs. search needs) (λ c κs. search needs) (λ c κs. search needs) (λ c κs. search needs) (λ c κs. search needs) same-length returns)
+    (tie.spec
+    (λ c κs. search needs)
+    (λ c κs. search needs)
+    (λ c κs. search needs)
+    (λ c κs. search needs)
+    (λ c κs. search needs)
+    (λ c κs. search needs)
+    same-length
+    returns)

@@ -15,7 +15,8 @@ same-length c =
     let at-build-bitvec-ite = at-build-binary .before .before .before .before in
     let at-build-bitvec-lit2 = at-build-bitvec-ite .before .before .before .before in
     let at-build-bitvec-lit = at-build-bitvec-lit2 .before .before .before .before in
-    at-build-binary .build-binary .kept .0 ∙ at-build-bitvec-ite .build-bitvec-ite .kept .0 ∙ at-build-bitvec-lit2 .build-bitvec-lit2 .kept .0 ∙ at-build-bitvec-lit .build-bitvec-lit .kept .0
+    at-build-binary .build-binary .kept .0 ∙ at-build-bitvec-ite .build-bitvec-ite .kept .0
+    ∙ at-build-bitvec-lit2 .build-bitvec-lit2 .kept .0 ∙ at-build-bitvec-lit .build-bitvec-lit .kept .0
 
 returns : tie.Need-returns
 unfolding tvMul
@@ -26,7 +27,8 @@ returns c =
     let at-build-bitvec-ite = at-build-binary .before .before .before .before in
     let at-build-bitvec-lit2 = at-build-bitvec-ite .before .before .before .before in
     let at-build-bitvec-lit = at-build-bitvec-lit2 .before .before .before .before in
-    rw (at-trits .trits .ensures) (ran-as (ran-bind _ (at-build-bitvec-lit .build-bitvec-lit .ensures _ (rw (narrow _ low) (zeros-lit _)) names marks)
+    rw (at-trits .trits .ensures)
+    (ran-as (ran-bind _ (at-build-bitvec-lit .build-bitvec-lit .ensures _ (rw (narrow _ low) (zeros-lit _)) names marks)
     (ran-bind _ (at-build-bitvec-lit2 .build-bitvec-lit2 .ensures _ (rw (narrow _ low) (ones-lit _ low)) names marks)
     (ran-bind _ (at-build-bitvec-ite .build-bitvec-ite .ensures _ j names marks)
     (ran-ret _ (at-build-binary .build-binary .ensures _ j names marks))))) (rw length-replicate))
@@ -34,4 +36,11 @@ returns c =
 pub tv-mul-spec : {M : Type 1} → statement M
 tv-mul-spec =
     tie.close
-    (tie.spec (λ c κs. search needs) (λ c κs. search needs) (λ c κs. search needs) (λ c κs. search needs) (λ c κs. search needs) same-length returns)
+    (tie.spec
+    (λ c κs. search needs)
+    (λ c κs. search needs)
+    (λ c κs. search needs)
+    (λ c κs. search needs)
+    (λ c κs. search needs)
+    same-length
+    returns)

@@ -19,7 +19,9 @@ same-length c =
     let at-build-bitvec-lit = at-build-bitvec-ite .before .before .before .before in
     let at-build-binary = at-build-bitvec-lit .before .before .before .before in
     let at-bv-is-zero = at-build-binary .before .before .before .before in
-    at-tv-extract .tv-extract .kept .0 ∙ at-build-binary2 .build-binary2 .kept .0 ∙ at-build-bitvec-ite .build-bitvec-ite .kept .0 ∙ at-build-bitvec-lit .build-bitvec-lit .kept .0 ∙ at-build-binary .build-binary .kept .0 ∙ at-bv-is-zero .bv-is-zero .kept .0
+    at-tv-extract .tv-extract .kept .0 ∙ at-build-binary2 .build-binary2 .kept .0
+    ∙ at-build-bitvec-ite .build-bitvec-ite .kept .0 ∙ at-build-bitvec-lit .build-bitvec-lit .kept .0
+    ∙ at-build-binary .build-binary .kept .0 ∙ at-bv-is-zero .bv-is-zero .kept .0
 
 returns : tie.Need-returns
 unfolding tvShift tvExtract
@@ -42,9 +44,20 @@ returns c =
     (ran-bind _ (at-build-bitvec-lit .build-bitvec-lit .ensures _ (rw (narrow _ low) (ones-lit _ low)) names marks)
     (ran-bind _ (at-build-bitvec-ite .build-bitvec-ite .ensures _ w names marks)
     (ran-bind _ (at-build-binary2 .build-binary2 .ensures w w names marks)
-    (rw (at-highest .highest .ensures, at-trits .trits .ensures) at (at-tv-extract .tv-extract .ensures w names marks))))))) (rw width)
+    (rw (at-highest .highest .ensures, at-trits .trits .ensures)
+    at (at-tv-extract .tv-extract .ensures w names marks))))))) (rw width)
 
 pub tv-shift-spec : {M : Type 1} → statement M
 tv-shift-spec =
     tie.close
-    (tie.spec (λ c κs. search needs) (λ c κs. search needs) (λ c κs. search needs) (λ c κs. search needs) (λ c κs. search needs) (λ c κs. search needs) (λ c κs. search needs) (λ c κs. search needs) same-length returns)
+    (tie.spec
+    (λ c κs. search needs)
+    (λ c κs. search needs)
+    (λ c κs. search needs)
+    (λ c κs. search needs)
+    (λ c κs. search needs)
+    (λ c κs. search needs)
+    (λ c κs. search needs)
+    (λ c κs. search needs)
+    same-length
+    returns)

@@ -16,7 +16,9 @@ same-length c =
     let at-bv-lit2 = at-build-concat2 .before .before .before .before in
     let at-build-concat = at-bv-lit2 .before .before .before .before in
     let at-bv-lit = at-build-concat .before .before .before .before in
-    at-adc-carry .adc-carry .kept .0 ∙ at-build-binary .build-binary .kept .0 ∙ at-build-concat2 .build-concat2 .kept .0 ∙ at-bv-lit2 .bv-lit2 .kept .0 ∙ at-build-concat .build-concat .kept .0 ∙ at-bv-lit .bv-lit .kept .0
+    at-adc-carry .adc-carry .kept .0 ∙ at-build-binary .build-binary .kept .0
+    ∙ at-build-concat2 .build-concat2 .kept .0 ∙ at-bv-lit2 .bv-lit2 .kept .0
+    ∙ at-build-concat .build-concat .kept .0 ∙ at-bv-lit .bv-lit .kept .0
 
 returns : tie.Need-returns
 unfolding adcSum nat2bv
@@ -38,4 +40,12 @@ returns c =
 pub adc-sum-spec : {M : Type 1} → statement M
 adc-sum-spec =
     tie.close
-    (tie.spec (λ c κs. search needs) (λ c κs. search needs) (λ c κs. search needs) (λ c κs. search needs) (λ c κs. search needs) (λ c κs. search needs) same-length returns)
+    (tie.spec
+    (λ c κs. search needs)
+    (λ c κs. search needs)
+    (λ c κs. search needs)
+    (λ c κs. search needs)
+    (λ c κs. search needs)
+    (λ c κs. search needs)
+    same-length
+    returns)

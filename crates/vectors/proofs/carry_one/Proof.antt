@@ -13,7 +13,9 @@ same-length c =
     let at-build-binary = at-build-binary2 .before .before .before .before in
     let at-build-extract2 = at-build-binary .before .before .before .before in
     let at-build-extract = at-build-extract2 .before .before .before .before in
-    at-bv-bind .bv-bind .kept .0 ∙ at-build-binary2 .build-binary2 .kept .0 ∙ at-build-binary .build-binary .kept .0 ∙ at-build-extract2 .build-extract2 .kept .0 ∙ at-build-extract .build-extract .kept .0
+    at-bv-bind .bv-bind .kept .0 ∙ at-build-binary2 .build-binary2 .kept .0
+    ∙ at-build-binary .build-binary .kept .0 ∙ at-build-extract2 .build-extract2 .kept .0
+    ∙ at-build-extract .build-extract .kept .0
 
 returns : tie.Need-returns
 unfolding carryOne
@@ -33,4 +35,11 @@ returns c =
 pub carry-one-spec : {M : Type 1} → statement M
 carry-one-spec =
     tie.close
-    (tie.spec (λ c κs. search needs) (λ c κs. search needs) (λ c κs. search needs) (λ c κs. search needs) (λ c κs. search needs) same-length returns)
+    (tie.spec
+    (λ c κs. search needs)
+    (λ c κs. search needs)
+    (λ c κs. search needs)
+    (λ c κs. search needs)
+    (λ c κs. search needs)
+    same-length
+    returns)

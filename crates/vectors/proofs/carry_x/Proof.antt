@@ -1,5 +1,6 @@
--- `vectors::carry_x` meets its contract. Invariant: the carries of the positions below `index` are stored, and what the model does from `index` on
--- completes its whole run (`CarryLeft`); each turn is one position. After the loop the last carry is stored once more. Assumes nothing.
+-- `vectors::carry_x` meets its contract. Invariant: the carries of the positions below `index` are stored, and what the
+-- model does from `index` on completes its whole run (`CarryLeft`); each turn is one position. After the loop the last
+-- carry is stored once more. Assumes nothing.
 use borrow.Author.Needs.{needs}
 use mathlib.Core.Path.{_≡_, refl, _∙_}
 use mathlib.Core.List.{List}

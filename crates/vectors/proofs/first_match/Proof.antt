@@ -1,5 +1,6 @@
--- `vectors::first_match` meets its contract. Invariant: the patterns from `index` on are chosen from, and what the model does below `index`
--- completes its whole run (`MatchLeft`); each turn is one pattern. The measure is `index`. Assumes nothing.
+-- `vectors::first_match` meets its contract. Invariant: the patterns from `index` on are chosen from, and what the model
+-- does below `index` completes its whole run (`MatchLeft`); each turn is one pattern. The measure is `index`.
+-- Assumes nothing.
 use borrow.Author.Needs.{needs}
 use mathlib.Core.Path.{_≡_, refl, _∙_}
 use mathlib.Core.List.{List}

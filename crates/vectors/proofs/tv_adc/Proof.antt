@@ -18,7 +18,8 @@ same-length c =
     let at-carry-x = at-following .before .before .before .before .before .before in
     let at-tv-bind2 = at-carry-x .before .before .before .before .before in
     let at-tv-bind = at-tv-bind2 .before .before .before .before in
-    at-adc-sum .adc-sum .kept .0 ∙ at-bv-concat .bv-concat .kept .0 ∙ at-carry-x .carry-x .kept .0 ∙ at-tv-bind2 .tv-bind2 .kept .0 ∙ at-tv-bind .tv-bind .kept .0
+    at-adc-sum .adc-sum .kept .0 ∙ at-bv-concat .bv-concat .kept .0 ∙ at-carry-x .carry-x .kept .0
+    ∙ at-tv-bind2 .tv-bind2 .kept .0 ∙ at-tv-bind .tv-bind .kept .0
 
 returns : tie.Need-returns
 unfolding tvAdc adcSum adcCarry
@@ -42,4 +43,14 @@ returns c =
 pub tv-adc-spec : {M : Type 1} → statement M
 tv-adc-spec =
     tie.close
-    (tie.spec (λ c κs. search needs) (λ c κs. search needs) (λ c. search needs) (λ c κs. search needs) (λ c. search needs) (λ c κs. search needs) (λ c κs. search needs) (λ c κs. search needs) same-length returns)
+    (tie.spec
+    (λ c κs. search needs)
+    (λ c κs. search needs)
+    (λ c. search needs)
+    (λ c κs. search needs)
+    (λ c. search needs)
+    (λ c κs. search needs)
+    (λ c κs. search needs)
+    (λ c κs. search needs)
+    same-length
+    returns)
