@@ -20,7 +20,8 @@ from on g n i = on (g i) (drop (suc i) (tab n g))
 
 module _ {A : Type 0} (on : A → List A → Prog A) (join : A → A → Prog A) (one : (e : A) → on e [] ≡ ret e)
     (more : (e f : A) (fs : List A) → on e (f ∷ fs) ≡ (on f fs >>= λ msb. join msb e)) (g : ℕ → A) (n : ℕ) where
-  from-top : 0 < n → (calls names marks : List ℕ) (c : Counts) → Ran (from on g n (n - 1)) calls names marks c calls names marks c (g (n - 1))
+  from-top : 0 < n → (calls names marks : List ℕ) (c : Counts)
+      → Ran (from on g n (n - 1)) calls names marks c calls names marks c (g (n - 1))
   from-top some calls names marks c =
       rw (drop-all n (suc (n - 1)) g (omega arith), one (g (n - 1))) (ran-none (g (n - 1)) calls names marks c)
 

@@ -1,5 +1,6 @@
--- `vectors::bv_concat` meets its contract. Invariant: the elements from i on are joined, as the model joins them, to a vector of n - i bits.
--- It holds of the last element alone, and each turn is one step of the model (`bv-from-turn`). The measure is i. Assumes nothing.
+-- `vectors::bv_concat` meets its contract. Invariant: the elements from i on are joined, as the model joins them, to a
+-- vector of n - i bits. It holds of the last element alone, and each turn is one step of the model (`bv-from-turn`).
+-- The measure is i. Assumes nothing.
 use borrow.Author.Needs.{needs}
 use mathlib.Core.Path.{_≡_, refl, _∙_}
 use mathlib.Core.List.{List}
@@ -37,7 +38,8 @@ loop-holds c =
     let one : n - (n - 1) ≡ 1 = omega arith in (
       omega arith,
       refl,
-      λ names marks. ran-as (bv-from-top (start .args .terms .now) n above (start .args .calls .now) names marks (start .args .c))
+      λ names marks.
+          ran-as (bv-from-top (start .args .terms .now) n above (start .args .calls .now) names marks (start .args .c))
           (rw (one, c .word-at .ensures)),
     )
 
@@ -70,7 +72,9 @@ returns-2 c =
     let n = args .n in
     let none : head .loop .i ≡ 0 = omega (arith, c .loop-test .left) in
     let width : n - 0 ≡ n = omega arith in
-    λ names marks. rw (bv-from-all (args .terms .now) n (omega (arith, inv .0))) (ran-as (rw none at (inv .2 names marks)) (rw width))
+    λ names marks.
+    rw (bv-from-all (args .terms .now) n (omega (arith, inv .0)))
+    (ran-as (rw none at (inv .2 names marks)) (rw width))
 
 pub bv-concat-spec : {M : Type 1} → statement M
 bv-concat-spec =
