@@ -103,8 +103,7 @@ pub fn build_not(calls: &mut [u32], c: Counts, arg: Term) -> Built
 pub fn build_and(calls: &mut [u32], c: Counts, arg1: Term, arg2: Term) -> Built
     ensures { λ r. ⌜ MakesBool (buildAnd (arg1 .0 ∷ arg2 .0 ∷ [])) (now (calls .entry)) c (now (calls .exit)) r ⌝ }
 {
-    let args = [arg1.0, arg2.0];
-    made(c, engine::build_and(calls, c.words, &args))
+    made(c, engine::build_and2(calls, c.words, arg1, arg2))
 }
 
 // The and of terms, by their numbers.

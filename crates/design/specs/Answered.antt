@@ -8,7 +8,7 @@ use native.Mathlib.Omega.{arith}
 use lib.ListN.{length, getD}
 use borrow.Author.Tests.{lt-ltb, le-ltb}
 use Rattle.logic.specs.declared.Fault.{Fault}
-use Rattle.design.specs.declared.Counts.{Counts}
+use Rattle.builder.specs.declared.Counts.{Counts}
 use Rattle.design.specs.declared.Verified.the-variants.{Refused, NothingAsked}
 use Rattle.cell.specs.Design.{Design, total}
 use Rattle.engine.specs.Call.{Call}

@@ -11,7 +11,6 @@ ghost use mathlib.Core.Path.{_≡_};
 ghost use mathlib.Core.Bool.{not};
 ghost use mathlib.Core.List.{[], _∷_};
 ghost use Prim.Native.Nat.{_<_, _^_};
-ghost use Rattle.logic.specs.Trit.{xOf, yOf};
 ghost use Rattle.logic.specs.Net.{netOf};
 ghost use Rattle.bitvec.specs.Bits.{bit};
 ghost use Rattle.smt.specs.Builder.{tvLit, currNet, pastNet, invertNet, controlNet, clockNet, isAlwaysInactive};
@@ -33,31 +32,11 @@ pub struct ControlNet {
     pub inverted: bool,
 }
 
-fn x_number(trit: Trit) -> u64
-    ensures { λ r. ⌜ r ≡ bit (xOf trit) ⌝ }
-{
-    match trit {
-        Trit::Zero => 0,
-        Trit::One => 0,
-        Trit::Undef => 1,
-    }
-}
-
-fn y_number(trit: Trit) -> u64
-    ensures { λ r. ⌜ r ≡ bit (yOf trit) ⌝ }
-{
-    match trit {
-        Trit::Zero => 0,
-        Trit::One => 1,
-        Trit::Undef => 0,
-    }
-}
-
 // `self.tv_lit(trit)`
 pub fn trit_lit(calls: &mut [u32], c: Counts, trit: Trit) -> BuiltTrits
     ensures { λ r. ⌜ MakesTrits (tvLit (trit ∷ [])) 1 (now (calls .entry)) c (now (calls .exit)) r ⌝ }
 {
-    trits::tv_lit(calls, c, 1, x_number(trit), y_number(trit))
+    trits::tv_lit(calls, c, 1, operands::x_bit(trit), operands::y_bit(trit))
 }
 
 // The current or the past trit of a net.

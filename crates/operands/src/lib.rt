@@ -176,7 +176,7 @@ pub fn trit_at(words: &[u32], at: usize) -> Trit
 }
 
 // Is a trit undefined, as a bit?
-fn x_bit(trit: Trit) -> u64
+pub fn x_bit(trit: Trit) -> u64
     ensures { λ r. ⌜ r ≡ bit (xOf trit) ⌝ }
 {
     match trit {
@@ -187,7 +187,7 @@ fn x_bit(trit: Trit) -> u64
 }
 
 // If not, is it one?
-fn y_bit(trit: Trit) -> u64
+pub fn y_bit(trit: Trit) -> u64
     ensures { λ r. ⌜ r ≡ bit (yOf trit) ⌝ }
 {
     match trit {

@@ -8,10 +8,10 @@ use Rattle.nets.proofs.trit_lit.Tie as tie
 returns : tie.Need-returns
 returns c =
     let at-tv-lit = c .before .before in
-    let at-y-number = at-tv-lit .before in
-    let at-x-number = at-y-number .before in
+    let at-y-bit = at-tv-lit .before in
+    let at-x-bit = at-y-bit .before in
     at-tv-lit .tv-lit .ensures (_ ∷ [])
-    (rw (at-x-number .x-number .ensures) (bit-lit _)) (rw (at-y-number .y-number .ensures) (bit-lit _))
+    (rw (at-x-bit .x-bit .ensures) (bit-lit _)) (rw (at-y-bit .y-bit .ensures) (bit-lit _))
 
 pub trit-lit-spec : {M : Type 1} → statement M
 trit-lit-spec =
