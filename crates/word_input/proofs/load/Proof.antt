@@ -1,10 +1,10 @@
--- `read_calls::load` is safe and ends: the words keep their number, and the words left to read fall. Assumes nothing.
+-- `word_input::load` is safe and ends: the words keep their number, and the words left to read fall. Assumes nothing.
 use borrow.Author.Needs.{needs}
 use Prim.Native.Nat.{_-_}
 use mathlib.Core.Path.{_≡_, refl}
 use lib.ListN.{length}
-use Rattle.read_calls.proofs.load.Statement.{statement}
-use Rattle.read_calls.proofs.load.Tie as tie
+use Rattle.word_input.proofs.load.Statement.{statement}
+use Rattle.word_input.proofs.load.Tie as tie
 
 abbrev Inv-loop : tie.InvT-loop
 Inv-loop words₀ n at₀ words at = length words ≡ length words₀
