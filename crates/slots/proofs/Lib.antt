@@ -1,0 +1,3 @@
+-- What the slot table tells, for the proofs of this crate and of those that use it.
+pub mod Roles
+pub mod Laws
