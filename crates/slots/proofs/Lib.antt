@@ -2,3 +2,4 @@
 pub mod Roles
 pub mod Laws
 pub mod Pairs
+pub mod Steps
