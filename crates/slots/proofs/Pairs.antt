@@ -1,22 +1,23 @@
 -- The kind of a net replacement by the words of the table is the design's: numbers are equal where the nets are, and the words
 -- give what the design's roles decide. Assumes nothing.
 use mathlib.Core.Path.{_≡_, refl, sym, ap, _∙_}
-use mathlib.Core.Bool.{Bool, true, false, false≢true}
+use mathlib.Core.Bool.{Bool, true, false, _&&_, false≢true}
 use mathlib.Core.List.{List}
 use Prim.Native.Nat.{ℕ, _<_, _^_}
 use native.Mathlib.Omega.{arith}
 use lib.Dec.{eqb}
-use borrow.Author.Tests.{eqb-true, eqb-false, eq-eqb}
+use borrow.Author.Tests.{eqb-true, eqb-false, eq-eqb, ne-eqb}
 use Rattle.logic.specs.Net.{Net, constant, slot, netOf, driverOf, driverOfNet, payloadOfNet, driver-of-payload, payload-of-net}
 use Rattle.logic.specs.Trit.{tritNumber}
 use Rattle.logic.specs.declared.Trit.{Trit}
 use Rattle.logic.specs.declared.Trit.the-variants.{Zero, One, Undef}
 use Rattle.cell.specs.Design.{Design, total}
-use Rattle.working_out.specs.Reading.{sameNet, netRole, isVoid, isDff, pairOf}
+use Rattle.working_out.specs.Reading.{sameNet, netRole, pairOf}
 use Rattle.working_out.specs.Laid.{Within}
 use Rattle.slots.specs.Tells.{standingOf, Tells}
 use Rattle.slots.specs.Pairs.{pairKind, standingAt, pairIn, IsKind}
 use Rattle.slots.specs.declared.Pair.{Pair}
+use Rattle.slots.specs.declared.Pair.the-variants.{Equal, OfVoid, OfDffs, Ordinary}
 use Rattle.slots.proofs.Roles.{void-stands, dff-stands}
 
 -- ---- Equal nets have equal numbers.
@@ -77,10 +78,25 @@ module _ {d : Design} {table : List ℕ} (tells : Tells d table) where
         dff-stands (netRole d (netOf to)),
       )
 
--- ---- The promise, from the kind by the words.
-pub is-kind :
-    (table : List ℕ) (from to : ℕ) (kind : Pair) → pairKind kind ≡ pairIn table from to → IsKind table from to kind
-is-kind table from to kind same = record {
+-- ---- The promise, from the tests of the words.
+is-kind :
+    {table : List ℕ} {from to : ℕ} (kind : Pair) → pairKind kind ≡ pairIn table from to → IsKind table from to kind
+is-kind {table} {from} {to} kind same = record {
   same = same;
   told = λ d tells from-low to-low from-in to-in. same ∙ tells-pair tells from to from-low to-low from-in to-in;
 }
+
+pub kind-equal : (table : List ℕ) (from to : ℕ) → from ≡ to → IsKind table from to Equal
+kind-equal table from to same = is-kind Equal (rw (eq-eqb from to same))
+
+module _ (table : List ℕ) (from to : ℕ) (apart : from ≡ to → ⊥) {a b : ℕ} (from-is : a ≡ standingAt table (driverOf from))
+    (to-is : b ≡ standingAt table (driverOf to)) where
+  pub kind-void : a ≡ 0 → IsKind table from to OfVoid
+  kind-void void = is-kind OfVoid (rw (ne-eqb from to apart, ← from-is, eq-eqb a 0 void))
+
+  pub kind-dffs : (a ≡ 0 → ⊥) → eqb a 1 && eqb b 1 ≡ true → IsKind table from to OfDffs
+  kind-dffs no-void both = is-kind OfDffs (rw (ne-eqb from to apart, ← from-is, ← to-is, ne-eqb a 0 no-void, both))
+
+  pub kind-ordinary : (a ≡ 0 → ⊥) → eqb a 1 && eqb b 1 ≡ false → IsKind table from to Ordinary
+  kind-ordinary no-void one =
+      is-kind Ordinary (rw (ne-eqb from to apart, ← from-is, ← to-is, ne-eqb a 0 no-void, one))
