@@ -12,17 +12,17 @@ use lib.Dec.{ltb, eqb}
 use borrow.Author.Tests.{ltb-true, ltb-false, lt-ltb, le-ltb, ne-eqb}
 use Rattle.cell.specs.Cell.{outputLen, slotsOf, standing}
 use Rattle.cell.specs.Design.{Design, Placed, total}
-use Rattle.design_list.specs.Slots.{covering, takes, markOf, marks}
+use Rattle.design_list.specs.Slots.{covering, markOf, marks}
 use Rattle.design_list.specs.Cover.{Walk, walk-total, table-at, takes-all, Narrow, walk-narrow}
 use Rattle.design_list.specs.Read.{read, accepted}
 use Rattle.design_list.specs.Table.{tableAfter}
 use Rattle.design_list.specs.Accepted.{accepted-read}
-use Rattle.working_out.specs.Reading.{Each, role, isDff, cellOf, readsPast}
+use Rattle.working_out.specs.Reading.{role, isDff, cellOf, readsPast}
 use Rattle.working_out.specs.Laid.{Apart, Laid}
 use Rattle.working_out.specs.Layout.{Located, at, each-at, at-each}
 use Rattle.accepted.specs.Laid.{stages, accepted-laid, cell-takes}
 use Rattle.nets.specs.Reads.{pastIn}
-use Rattle.slots.specs.Tells.{widthIn, standingIn, standingOf, Tells}
+use Rattle.slots.specs.Tells.{widthIn, standingOf, Tells}
 use Rattle.slots.proofs.Roles.{standing-role, standing-low, dff-stands}
 
 -- ---- The digits of a slot's word.

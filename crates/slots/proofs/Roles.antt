@@ -1,6 +1,6 @@
 -- What stands at a slot says all that the kinds of net replacements ask of a role. Assumes nothing.
 use mathlib.Core.Path.{_≡_, refl}
-use Prim.Native.Nat.{ℕ, _≤_}
+use Prim.Native.Nat.{_≤_}
 use native.Mathlib.Omega.{arith}
 use lib.Dec.{eqb}
 use Rattle.cell.specs.Cell.{Cell, standing}

@@ -8,7 +8,7 @@ use lib.Dec.{eqb}
 use Rattle.cell.specs.Cell.{outputLen}
 use Rattle.cell.specs.Design.{Design, Placed, NetPair}
 use Rattle.working_out.specs.Reading.{readsPast, pairOf}
-use Rattle.order.specs.Verify.{Step, addCell, newCellIn, withNew, cellSteps, pairSteps}
+use Rattle.order.specs.Verify.{addCell, newCellIn, withNew, cellSteps, pairSteps}
 use Rattle.nets.specs.Reads.{pastIn}
 use Rattle.slots.specs.Tells.{Tells}
 use Rattle.slots.proofs.Laws.{tells-past}
