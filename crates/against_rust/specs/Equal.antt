@@ -19,7 +19,7 @@ use Rattle.smt.specs.Builder as builder
 use Rattle.smt.specs.Emit as emit
 use Rattle.smt.specs.Prog.{_>>=_}
 use Rattle.working_out.specs.Reading as reading
-use Rattle.design.specs.Verify as order
+use Rattle.order.specs.Verify as order
 use Rattle.design.specs.Verified as answer
 use Rattle.against_rust.specs.Rows.{Row, rows}
 

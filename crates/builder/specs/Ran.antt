@@ -61,6 +61,10 @@ MakesTrits m w calls c calls′ r = Writes m calls c calls′ (r .counts) (trits
 abbrev pub RanTrits : Prog model.TritVec → ℕ → List ℕ → List ℕ → List ℕ → Counts → List ℕ → List ℕ → List ℕ → BuiltTrits → Type 0
 RanTrits m w calls names marks c calls′ names′ marks′ r = Ran m calls names marks c calls′ names′ marks′ (r .counts) (trits w (r .value))
 
+-- The same of a cell: its terms are the model's, of some width. (Those of an accepted cell have its output width; nothing looks at it.)
+abbrev pub RanCell : Prog model.TritVec → List ℕ → List ℕ → List ℕ → Counts → List ℕ → List ℕ → List ℕ → BuiltTrits → Type 0
+RanCell m calls names marks c calls′ names′ marks′ r = (w : ℕ) × RanTrits m w calls names marks c calls′ names′ marks′ r
+
 -- A count of terms stops at the largest number of 32 bits.
 abbrev pub following : ℕ → ℕ
 following n = min (suc n) 4294967295

@@ -107,6 +107,13 @@ pub fn build_and(calls: &mut [u32], c: Counts, arg1: Term, arg2: Term) -> Built
     made(c, engine::build_and(calls, c.words, &args))
 }
 
+// The and of terms, by their numbers.
+pub fn build_and_all(calls: &mut [u32], c: Counts, args: &[u32]) -> Built
+    ensures { λ r. ⌜ MakesBool (buildAnd (now (args .entry))) (now (calls .entry)) c (now (calls .exit)) r ⌝ }
+{
+    made(c, engine::build_and(calls, c.words, args))
+}
+
 pub fn build_bitvec_eq(calls: &mut [u32], c: Counts, arg1: Term, arg2: Term) -> Built
     ensures { λ r. ⌜ ((i j : ℕ) → MakesBool (buildBitvecEq (bv (arg1 .0) i) (bv (arg2 .0) j)) (now (calls .entry)) c (now (calls .exit)) r) ⌝ }
 {

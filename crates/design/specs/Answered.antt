@@ -1,28 +1,30 @@
 -- What `verified` answers: an accepted list is refused only for want of room, at the room needed; it says "nothing asked" just where
 -- there is no obligation; its counts are those of the builder; and what the two lent slices hold after it.
 use mathlib.Core.Path.{_≡_, refl, sym, ap, _∙_, subst}
+use mathlib.Core.Logic.{_↔_}
 use mathlib.Core.List.{List, [], _∷_, _++_}
 use Prim.Native.Nat.{ℕ, zero, suc, _+_, _≤_, _<_}
 use native.Mathlib.Omega.{arith}
 use lib.ListN.{length, getD}
 use borrow.Author.Tests.{lt-ltb, le-ltb}
 use Rattle.logic.specs.declared.Fault.{Fault}
+use Rattle.design.specs.declared.Counts.{Counts}
+use Rattle.design.specs.declared.Verified.the-variants.{Refused, NothingAsked}
 use Rattle.cell.specs.Design.{Design, total}
 use Rattle.engine.specs.Call.{Call}
 use Rattle.engine.specs.Call as c
 use Rattle.engine.specs.Encode.{encode}
 use Rattle.working_out.specs.Obligations.{obligations}
-use Rattle.smt.specs.Prog.{Prog, ret, op, declare, bind, bind2, _>>=_, Age, curr, past, Half}
+use Rattle.smt.specs.Prog.{Prog, ret, op, declare, bind, bind2, _>>=_, Age, curr, past}
 use Rattle.smt.specs.Emit.{St, Out, netName, place, at, learn, reread, after, known, emit}
 use Rattle.design_list.specs.Read.{refused, accepted, read}
-use Rattle.design.specs.Verify.{Step, declared, asserted, obliged, steps, work, start, built, query, asked, verify}
-use Rattle.design.specs.Meant.{steps-are}
+use Rattle.order.specs.Verify.{Step, declared, asserted, obliged, steps, work, start, built, query, asked, verify}
+use Rattle.order.proofs.StepsMean.{steps-are}
 use Rattle.design.specs.Exists as terms-asked
 use Rattle.design.specs.Theorem.{asked-each}
+use Rattle.design.specs.WellFormed.{few-words, few-terms, few-temporaries}
 use Rattle.design.specs.Verified.{
-  Refused,
   temporaries,
-  Counts,
   counted,
   told,
   ofRead,
@@ -97,6 +99,12 @@ temporaries-are d =
 
 -- ---- the answer
 
+-- Counts that a word's payload holds, with room to spare.
+pub record Few (n : Counts) : Type 0 where
+  pub terms : n .terms ≤ 134217728
+  pub temporaries : n .temporaries ≤ 134217728
+  pub words : n .words ≤ 134217728
+
 pub refused-as-read : (w : List ℕ) {e : Fault} → read w ≡ refused e → (room recorded : ℕ) → verified w room recorded ≡ Refused e
 unfolding verified
 refused-as-read w is room recorded = ap (λ r. ofRead r room recorded) is
@@ -108,6 +116,14 @@ module _ (w : List ℕ) {d : Design} {reps pairs : ℕ} (is : read w ≡ accepte
   answered calls marks =
       let enough : length (encode (verify d)) ≤ room = rw (words-are w is) at calls in
       ap (λ r. ofRead r room recorded) is ∙ rw (le-ltb _ _ enough, le-ltb _ _ marks)
+
+  -- Its counts are at most 2^27 each.
+  pub few-counts : Few (counted (verify d))
+  few-counts =
+      let a = is-accepted w is in
+      let temps = few-temporaries d a in
+      let same = temporaries-are d in
+      record { terms = few-terms d a; temporaries = omega arith; words = few-words d a }
 
   -- 14 at the room needed: the call slice first, then the recorded one.
   pub short-of-words : room < length (callWords w) → verified w room recorded ≡ Refused (record { number = 14; place = length (callWords w) })
@@ -123,12 +139,30 @@ module _ (w : List ℕ) {d : Design} {reps pairs : ℕ} (is : read w ≡ accepte
       let enough : length (encode (verify d)) ≤ room = rw (words-are w is) at calls in
       ap (λ r. ofRead r room recorded) is ∙ rw (le-ltb _ _ enough, lt-ltb _ _ short)
 
-  -- Nothing is asked just where there is no obligation.
+  -- An obligation's term for each obligation.
   pub asked-obligations : length ((built d) .res) ≡ length (obligations d)
   unfolding terms-asked.asked
   asked-obligations =
       subst (λ (l : List Step). length ((work l (start (total d))) .res) ≡ length (obligations d)) (steps-are d)
       (asked-each d ((is-accepted w is) .laid))
+
+  -- With room, nothing is asked exactly where there is no obligation.
+  pub nothing-asked : length (callWords w) ≤ room → total d ≤ recorded
+      → (verified w room recorded ≡ NothingAsked (counted (verify d))) ↔ (obligations d ≡ [])
+  nothing-asked calls marks = (
+    λ e. none-asked ((built d) .res) (obligations d) asked-obligations (sym (answered calls marks) ∙ e),
+    λ e. answered calls marks ∙ none-told ((built d) .res) (asked-obligations ∙ ap length e),
+  )
+    where
+      none-asked : {A : Type 0} (terms : List ℕ) (l : List A) → length terms ≡ length l
+          → told terms (counted (verify d)) ≡ NothingAsked (counted (verify d)) → l ≡ []
+      none-asked [] [] q e = refl
+      none-asked [] (o ∷ l) q e = absurd (omega arith)
+      none-asked (k ∷ terms) l q e = absurd (let z : _≡_ {A = ℕ} 0 1 = cc in omega arith)
+
+      none-told : (terms : List ℕ) → length terms ≡ 0 → told terms (counted (verify d)) ≡ NothingAsked (counted (verify d))
+      none-told [] q = refl
+      none-told (k ∷ terms) q = absurd (omega arith)
 
 -- ---- the lent slices
 

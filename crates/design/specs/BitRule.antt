@@ -1,30 +1,27 @@
 -- The bits of the nets from the bits of the sources: the rules of the cells on pairs of bits, which working out solves as it does
 -- those on trits.
 use mathlib.Core.Path.{_≡_, refl, sym, ap, ap₂, _∙_}
-use mathlib.Core.Bool.{Bool, true, false, not, false≢true}
+use mathlib.Core.Bool.{Bool, false}
 use mathlib.Core.List.{List, _∷_, map}
-use Prim.Native.Nat.{ℕ, suc, _+_, _<_}
-use native.Mathlib.Omega.{arith}
-use lib.Dec.{eqb}
-use borrow.Author.Tests.{eqb-false}
+use Prim.Native.Nat.{ℕ, suc, _+_}
 use lib.ListN.{length}
 use Rattle.logic.specs.Table.{zipWith, map-tab}
 use Rattle.logic.specs.Net.{slot}
 use Rattle.logic.specs.declared.Trit.{Trit}
 use Rattle.bitvec.specs.Bits.{Bits}
-use Rattle.cell.specs.Cell.{Cell, outputLen}
-use Rattle.cell.specs.Cell as c
+use Rattle.cell.specs.Cell.{outputLen}
 use Rattle.cell.specs.Design.{Design}
 use Rattle.rules.specs.CellRule.{outputs}
 use Rattle.rules.specs.Reads.{currentReads}
-use Rattle.working_out.specs.Reading.{readsPast, asserted}
+use Rattle.working_out.specs.Reading.{readsPast}
 use Rattle.working_out.specs.Equations.{Rule, Wide, CellLocal}
 use Rattle.smt.specs.Prog.{curr, past, Half, isUndef, isOne}
 use Rattle.smt.specs.Builder.{outputNets}
 use Rattle.smt.specs.Formula.{TritBits, tb, NetBits, bitOf, readBits}
 use Rattle.smt.specs.Shows.{Shown, empty, lane}
-use Rattle.smt.specs.CellBits.{NotInput, currBits, cellBits}
+use Rattle.smt.specs.CellBits.{currBits, cellBits}
 use Rattle.smt.specs.CellShows.{cell-bits-show}
+use Rattle.order.proofs.Asserted.{asserted-not-input, asserted-not-iobuf, asserted-some}
 use Rattle.design.specs.BitLocal.{SameOn, cellBits-local}
 
 -- The two bits of a net at one age.
@@ -64,39 +61,6 @@ unpair-pairs (lane a b p) = ap (λ (t : TritBits). tb (a ∷ t .x) (b ∷ t .y))
 abbrev pub bitRule : Design → (ℕ → BitPair) → Rule BitPair
 bitRule d was s a now =
     pairs ((cellBits (readsPast d) (bitsOf now was) s (outputLen a) a) .x) ((cellBits (readsPast d) (bitsOf now was) s (outputLen a) a) .y)
-
--- ---- an asserted cell has an output and is neither Input nor IoBuf
-
-pub asserted-not-input : (a : Cell) → asserted a ≡ true → NotInput a
-asserted-not-input a h n e = false≢true (rw e at h)
-
-pub asserted-not-iobuf : (a : Cell) → asserted a ≡ true → (n : ℕ) → a ≡ c.ioBuf n → ⊥
-asserted-not-iobuf a h n e = false≢true (rw e at h)
-
-some-of : (w : ℕ) → not (eqb w 0) ≡ true → 0 < w
-some-of w h = go (eqb w 0) refl h
-  where
-    go : (b : Bool) → eqb w 0 ≡ b → not b ≡ true → 0 < w
-    go true e t = absurd (false≢true t)
-    go false e t = let ne = eqb-false w 0 e in positive w ne
-      where
-        positive : (w : ℕ) → (w ≡ 0 → ⊥) → 0 < w
-        positive w ne = omega arith
-
-pub asserted-some : (a : Cell) → asserted a ≡ true → 0 < outputLen a
-asserted-some c.void h = absurd (false≢true h)
-asserted-some c.note h = absurd (false≢true h)
-asserted-some (c.input n) h = absurd (false≢true h)
-asserted-some (c.ioBuf n) h = absurd (false≢true h)
-asserted-some (c.unary op a) h = some-of (length a) h
-asserted-some (c.binary op a b) h = some-of (c.binaryWidth op (length a)) h
-asserted-some (c.mux s a b) h = some-of (length a) h
-asserted-some (c.adc a b carry) h = some-of (length a + 1) h
-asserted-some (c.aig a b) h = some-of 1 h
-asserted-some (c.shift op value amount stride) h = some-of (length value) h
-asserted-some (c.match value enable patterns) h = some-of (length patterns) h
-asserted-some (c.assign value enable update offset) h = some-of (length value) h
-asserted-some (c.dff f) h = some-of (length (f .dat)) h
 
 -- ---- the bit rules, as working out asks
 

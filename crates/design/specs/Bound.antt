@@ -27,7 +27,7 @@ use Rattle.bound.specs.Builder.{tvEq-costs, tvRefines-costs, netOf-costs, net-c
 use Rattle.bound.specs.Cells.{then}
 use Rattle.bound.specs.CellCosts.{out-costs, cell-costs}
 use Rattle.bound.specs.Bounded.{Bounded, Bounds, recordWords, designWords}
-use Rattle.design.specs.Verify.{
+use Rattle.order.specs.Verify.{
   Step,
   declared,
   asserted,
@@ -51,11 +51,11 @@ use Rattle.design.specs.Verify.{
   start,
   verify,
 }
-use Rattle.design.specs.Found.{found, own-cells, new-found}
-use Rattle.design.specs.Replacements.{foundAt, inCells, wide, design-in-order}
+use Rattle.order.proofs.Found.{found, own-cells, new-found}
+use Rattle.order.proofs.Replacements.{foundAt, inCells, wide, design-in-order}
 use Rattle.design.specs.StepsSafe.{output-narrow}
 use Rattle.design.specs.Exists.{but, asked}
-use Rattle.design.specs.Meant.{steps-are}
+use Rattle.order.proofs.StepsMean.{steps-are}
 use Rattle.design.specs.Theorem.{verify-is}
 use Rattle.design.specs.Requirement3.{queryCalls}
 

@@ -3,14 +3,13 @@
 use mathlib.Core.Path.{_≡_, refl, sym, ap, subst, fun-ext}
 use mathlib.Core.Bool.{false}
 use mathlib.Core.List.{List, [], _∷_, _++_, append-nil}
-use Prim.Native.Nat.{ℕ, zero, suc, _+_, _*_, _<_}
+use Prim.Native.Nat.{ℕ, zero, suc, _*_, _<_}
 use native.Mathlib.Omega.{arith}
 use lib.ListN.{getD, replicate}
 use Rattle.cell.specs.Design.{Design, total}
 use Rattle.rules.specs.CellRule.{Trits}
 use Rattle.engine.specs.Call.{Call}
-use Rattle.engine.specs.Call as c
-use Rattle.engine.specs.Meaning.{Value, bool, bits, Assignment, valueAt, run, Fits, Earlier, Sat, All, terms}
+use Rattle.engine.specs.Meaning.{Value, bool, Assignment, valueAt, Fits, Earlier, Sat, All, terms}
 use Rattle.engine.specs.Laws.{All-map, holds-sat}
 use Rattle.working_out.specs.Reading.{Each, Alike}
 use Rattle.working_out.specs.Laid.{Laid}
@@ -20,10 +19,10 @@ use Rattle.smt.specs.Emit.{place}
 use Rattle.smt.specs.Formula.{NetBits, netBits}
 use Rattle.soundness.specs.Safe.{Truth}
 use Rattle.soundness.specs.Solve.{extends-refl, Temp, noTemp, Ran, assigned, assigned-net, WellSorted, sorted-earlier, Here, v, ρ, σ}
-use Rattle.design.specs.Verify.{start, work}
-use Rattle.design.specs.Numbered.{work-next}
-use Rattle.design.specs.Meant.{stepsOf, meantSteps, steps-mean}
-use Rattle.design.specs.WorkSound.{SaidOf}
+use Rattle.order.specs.Verify.{start, work}
+use Rattle.order.proofs.Numbered.{work-next}
+use Rattle.order.specs.Meant.{stepsOf, meantSteps, SaidOf}
+use Rattle.order.proofs.StepsMean.{steps-mean}
 use Rattle.design.specs.WorkMeets.{execWork, WorkMet, work-meets}
 use Rattle.bound.specs.Bounded.{Bounds}
 use Rattle.design.specs.StepsSafe.{steps-safe}
@@ -107,7 +106,7 @@ module _ (d : Design) (laid : Laid d) (bounds : Bounds d) where
     ρ*,
     record {
       fits = fits-append ρ* (but d) (queryCalls n l) (sat .0) (query-fits ρ* n l);
-      sources = λ a i h s _. shown a i s;
+      sources = λ a i s _. shown a i s;
       satisfied = asserted-on ρ* (but d) (queryCalls n l) but-earlier (sat .1);
     },
   )

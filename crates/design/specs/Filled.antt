@@ -1,7 +1,7 @@
 -- An assignment filled up on the names that a list does not declare, so that it shows given trits on every source.
-use mathlib.Core.Path.{_≡_, refl, sym, ap, ap₂, _∙_}
+use mathlib.Core.Path.{_≡_, refl, ap, ap₂, _∙_}
 use mathlib.Core.Logic.{⊎-elim}
-use mathlib.Core.Bool.{Bool, true, false}
+use mathlib.Core.Bool.{false}
 use mathlib.Core.List.{List, [], _∷_, List·Memᴰ, List·Memᴰ·head, List·Memᴰ·tail, List·Memᴰ·not-nil, List·Memᴰ·cases-cons}
 use Prim.Native.Nat.{ℕ}
 use native.Mathlib.Omega.{arith}
@@ -22,7 +22,7 @@ use Rattle.smt.specs.Formula.{NetBits}
 use Rattle.soundness.specs.Solve.{assigned, assigned-net}
 use Rattle.design.specs.Solved.{trit-of-bits}
 use Rattle.design.specs.Prefix.{AgreeOn}
-use Rattle.design.specs.Requirement3.{declaredNames, IsDeclared, bitIn, tritIn, givenTrit, IsSource}
+use Rattle.design.specs.Requirement3.{declaredNames, IsDeclared, Declared, bitIn, tritIn, givenTrit, IsSource}
 
 letter-inj : (a b : Letter) → letterNumber a ≡ letterNumber b → a ≡ b
 letter-inj c.n c.n e = refl
@@ -90,21 +90,12 @@ filled-agrees g cs ρ name m = go (decMem name (declaredNames cs))
 
 -- ---- it shows the given trits on every source
 
-half-x : (p q : Bool) → shows p (yOf (shows p q)) ≡ shows p q
-half-x true q = refl
-half-x false true = refl
-half-x false false = refl
-
-half-y : (p q : Bool) → shows (xOf (shows p q)) q ≡ shows p q
-half-y true q = refl
-half-y false true = refl
-half-y false false = refl
-
 pub filled-shows : (d : Design) (g : Trits) (cs : List Call) (ρ : Assignment)
-    → ((a : Age) (i : ℕ) (h : Half) → IsSource d a i → IsDeclared cs (netName a i h) → tritIn ρ a i ≡ givenTrit g a i)
+    → ((a : Age) (i : ℕ) (h : Half) → IsDeclared cs (netName a i h) → Declared cs a i)
+    → ((a : Age) (i : ℕ) → IsSource d a i → Declared cs a i → tritIn ρ a i ≡ givenTrit g a i)
     → (a : Age) (i : ℕ) → IsSource d a i → tritIn (filled g cs ρ) a i ≡ givenTrit g a i
 unfolding filled
-filled-shows d g cs ρ shown a i s =
+filled-shows d g cs ρ together shown a i s =
     go (decMem (netName a i isUndef) (declaredNames cs)) (decMem (netName a i isOne) (declaredNames cs))
   where
     t : Trit
@@ -116,12 +107,7 @@ filled-shows d g cs ρ shown a i s =
     go : (p : Dec (IsDeclared cs (netName a i isUndef))) (q : Dec (IsDeclared cs (netName a i isOne)))
         → shows (getD (pick p (ρ (netName a i isUndef)) (assigned (given g) [] (netName a i isUndef))) 0 false)
         (getD (pick q (ρ (netName a i isOne)) (assigned (given g) [] (netName a i isOne))) 0 false) ≡ givenTrit g a i
-    go (yes p) (yes q) = shown a i isUndef s p
-    go (yes p) (no q) =
-        let e = shown a i isUndef s p in
-        ap (shows (bitIn ρ (netName a i isUndef))) (low isOne ∙ ap yOf (sym e)) ∙ half-x (bitIn ρ (netName a i isUndef)) (bitIn ρ (netName a i isOne)) ∙ e
-    go (no p) (yes q) =
-        let e = shown a i isOne s q in
-        ap (λ (x : Bool). shows x (bitIn ρ (netName a i isOne))) (low isUndef ∙ ap xOf (sym e))
-        ∙ half-y (bitIn ρ (netName a i isUndef)) (bitIn ρ (netName a i isOne)) ∙ e
+    go (yes p) (yes q) = shown a i s (together a i isUndef p)
+    go (yes p) (no q) = absurd (q (together a i isUndef p isOne))
+    go (no p) (yes q) = absurd (p (together a i isOne q isUndef))
     go (no p) (no q) = ap₂ shows (low isUndef) (low isOne) ∙ trit-of-bits (givenTrit g a i)

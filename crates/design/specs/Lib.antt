@@ -1,17 +1,9 @@
-pub mod Verify
 pub mod Accepted
 pub mod BitLocal
 pub mod BitRule
-pub mod Found
-pub mod Replacements
-pub mod Meant
-pub mod WorkSound
-pub mod Shown
-pub mod Judged
 pub mod WorkMeets
 pub mod StepsSafe
 pub mod Requirement3
-pub mod Numbered
 pub mod Solved
 pub mod Prefix
 pub mod Exists
@@ -22,6 +14,5 @@ pub mod Theorem
 pub mod Bound
 pub mod WellFormed
 pub mod Required
-pub mod Tidy
 pub mod Marks
 pub mod Answered

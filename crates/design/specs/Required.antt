@@ -14,7 +14,7 @@ use Rattle.design_list.specs.Accepted.{IsAccepted, accepted-read}
 use Rattle.accepted.specs.Laid.{accepted-laid}
 use Rattle.accepted.specs.Bounds.{accepted-bounds, accepted-words}
 use Rattle.design.specs.Accepted.{Accepted}
-use Rattle.design.specs.Verify.{verify}
+use Rattle.order.specs.Verify.{verify}
 use Rattle.design.specs.Requirement3.{Requirement3}
 use Rattle.design.specs.Theorem.{requirement-3}
 use Rattle.design.specs.Bound.{verify-words}

@@ -12,8 +12,9 @@ use Rattle.rules.specs.CellRule.{Trits}
 use Rattle.rules.specs.Refine.{Refines}
 use Rattle.engine.specs.Call.{Name, Call}
 use Rattle.engine.specs.Call as c
-use Rattle.engine.specs.Meaning.{asBool, Assignment, Fits, Asserted, run, valueAt, terms}
+use Rattle.engine.specs.Meaning.{asBool, Assignment, Fits, Asserted, run, valueAt, terms, Earlier}
 use Rattle.working_out.specs.Reading.{source, Alike}
+use Rattle.working_out.specs.Laid.{Ascending}
 use Rattle.working_out.specs.WorkingOut.{workedOut, whole}
 use Rattle.working_out.specs.Obligations.{obligations, broken}
 use Rattle.smt.specs.Prog.{Age, curr, past, Half, isUndef, isOne}
@@ -59,8 +60,8 @@ IsSource d past i = Unit {0}
 pub record Shows (d : Design) (g : Trits) (calls but : List Call) (ρ : Assignment) : Type 0 where
   -- the declared names have values of their widths
   pub fits : Fits ρ calls
-  -- the sources of which a name is declared show the given trits
-  pub sources : (a : Age) (i : ℕ) (h : Half) → IsSource d a i → IsDeclared calls (netName a i h) → tritIn ρ a i ≡ givenTrit g a i
+  -- the sources that are declared show the given trits
+  pub sources : (a : Age) (i : ℕ) → IsSource d a i → Declared calls a i → tritIn ρ a i ≡ givenTrit g a i
   -- the assertions but the query are true
   pub satisfied : Asserted (valueAt (run ρ [] calls)) but
 
@@ -79,9 +80,9 @@ unchecked (c.declare name w ∷ cs) = unchecked cs
 unchecked (c.assert k ∷ cs) = unchecked cs
 unchecked (c.check ∷ cs) = false
 
--- Given trits made from others by turning Xs into 0 or 1.
-pub record Turned (g g′ : Trits) : Type 0 where
-  pub now : (i : ℕ) → Refines (g .now i) (g′ .now i)
+-- Given trits made from others by turning Xs of sources into 0 or 1.
+pub record Turned (d : Design) (g g′ : Trits) : Type 0 where
+  pub now : (i : ℕ) → source d i ≡ true → Refines (g .now i) (g′ .now i)
   pub was : (i : ℕ) → Refines (g .was i) (g′ .was i)
 
 -- ---- the requirement
@@ -94,6 +95,12 @@ pub record Requirement3 (d : Design) (calls : List Call) : Type 0 where
   pub query : calls ≡ but ++ queryCalls (terms but) asked
   pub claims : unchecked but ≡ true
   pub each : length asked ≡ length (obligations d)
+  -- the arguments ascend strictly: no obligation's term stands for another's
+  pub ascend : Ascending (λ (k : ℕ). k) asked
+  -- every call refers to earlier terms only
+  pub earlier : Earlier 0 calls
+  -- n x and n y of a slot are declared together or not at all, p x and p y likewise
+  pub together : (a : Age) (i : ℕ) (h : Half) → IsDeclared calls (netName a i h) → Declared calls a i
   -- for given trits, alike on joined flip-flops, some assignment shows them and satisfies every assertion but the query
   pub exists : (g : Trits) → Alike d g → (ρ : Assignment) × Shows d g calls but ρ
   -- every one that does shows on each declared current net exactly the trit of working out
@@ -104,7 +111,7 @@ pub record Requirement3 (d : Design) (calls : List Call) : Type 0 where
   -- every slot that is no source is declared as a current net
   pub declared : (i : ℕ) → i < total d → source d i ≡ false → Declared calls curr i
   -- turning given Xs into 0 or 1, joined ones alike, changes no declared net that showed 0 or 1
-  pub monotone : (g g′ : Trits) → Turned g g′ → (ρ ρ′ : Assignment) → Shows d g calls but ρ → Shows d g′ calls but ρ′
+  pub monotone : (g g′ : Trits) → Turned d g g′ → (ρ ρ′ : Assignment) → Shows d g calls but ρ → Shows d g′ calls but ρ′
       → (a : Age) (i : ℕ) → Declared calls a i → Refines (tritIn ρ a i) (tritIn ρ′ a i)
   -- an assignment that satisfies every assertion but the query shows joined flip-flops alike
   pub joined : (ρ : Assignment) → Fits ρ calls → Asserted (valueAt (run ρ [] calls)) but → Alike d (tritsIn ρ)

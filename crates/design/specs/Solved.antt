@@ -20,13 +20,10 @@ use Rattle.cell.specs.Design.{Design, Placed, NetPair, total}
 use Rattle.rules.specs.CellRule.{Trits, ofNet}
 use Rattle.working_out.specs.Reading.{
   Each,
-  each-map,
   each-append,
   cellOf,
   sameNet,
-  Role,
   role,
-  isDff,
   readsPast,
   source,
   Pair,
@@ -52,19 +49,16 @@ use Rattle.smt.specs.CellShows.{tritsOf, cell-bits-show}
 use Rattle.design.specs.BitRule.{
   BitPair,
   pair,
-  half,
   bitsOf,
   pairs,
   bitRule,
   bit-wide,
   bit-local,
   outputs-bits,
-  asserted-not-input,
-  asserted-some,
 }
-use Rattle.design.specs.Verify.{declared, asserted, isInput, claim, newCellIn}
-use Rattle.design.specs.Meant.{
-  Meant,
+use Rattle.order.proofs.Asserted.{asserted-not-input, asserted-some}
+use Rattle.order.specs.Verify.{declared, asserted, isInput, claim, newCellIn}
+use Rattle.order.specs.Meant.{
   meantAdd,
   meantNew,
   meantCell,
@@ -75,9 +69,10 @@ use Rattle.design.specs.Meant.{
   claimTest,
   voidTest,
   joinTest,
-  positive,
+  Said,
+  SaidOf,
 }
-use Rattle.design.specs.WorkSound.{Said, SaidOf}
+use Rattle.order.proofs.StepsMean.{positive}
 
 -- The bits of a given trit.
 abbrev pub bitsOfTrit : Trit → BitPair

@@ -25,19 +25,10 @@ use Rattle.smt.specs.Builder.{currNet, pastNet, currValue, outputNets, net, cel
 use Rattle.smt.specs.CellBits.{NotInput}
 use Rattle.soundness.specs.Safe.{safe, safe-mono, safe-seq, Truth, Width, Within, TritsOf, later, netOf-safe, valueOf-safe, tvEq-safe, tvRefines-safe}
 use Rattle.soundness.specs.CellSafe.{net-safe, cell-safe, output-within}
-use Rattle.design.specs.Verify.{declared, asserted, isInput, claim, newCell, replaceNet, replaceVoidNet, joinPasts, currents, newCellIn}
-use Rattle.design.specs.Found.{found, own-cells, may-replace, new-found}
-use Rattle.design.specs.Meant.{
-  Meant,
-  meantAdd,
-  meantNew,
-  meantCell,
-  meantCells,
-  meantPair,
-  meantPairs,
-  meantSteps,
-  positive,
-}
+use Rattle.order.specs.Verify.{declared, asserted, isInput, claim, newCell, replaceNet, replaceVoidNet, joinPasts, currents, newCellIn}
+use Rattle.order.proofs.Found.{found, own-cells, may-replace, new-found}
+use Rattle.order.specs.Meant.{meantAdd, meantNew, meantCell, meantCells, meantPair, meantPairs, meantSteps}
+use Rattle.order.proofs.StepsMean.{positive}
 use Rattle.design.specs.WorkMeets.{StepSafe, Safe}
 
 -- An output is at most 64 wide.

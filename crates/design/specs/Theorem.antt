@@ -1,10 +1,11 @@
 -- Requirement 3 holds of every accepted design without a current loop.
 use mathlib.Core.Path.{_≡_, refl, sym, ap, ap₂, _∙_, subst, fun-ext}
 use mathlib.Core.Bool.{Bool, true, false, not}
-use mathlib.Core.List.{List, [], _∷_, _++_, map, append-nil}
-use Prim.Native.Nat.{ℕ, zero, suc, _+_, _*_, _≤_, _<_}
+use mathlib.Core.Logic.{⊎-elim}
+use mathlib.Core.List.{List, [], _∷_, _++_, map, append-nil, List·Memᴰ·not-nil}
+use Prim.Native.Nat.{ℕ, zero, suc, _+_, _*_, _<_}
 use native.Mathlib.Omega.{arith}
-use lib.ListN.{length, length-map, getD, replicate}
+use lib.ListN.{length, length-map, getD}
 use Rattle.logic.specs.Trit.{shows}
 use Rattle.logic.specs.declared.Trit.{Trit}
 use Rattle.logic.specs.Table.{zipWith}
@@ -14,11 +15,12 @@ use Rattle.rules.specs.CellRule.{Trits, ofNet}
 use Rattle.rules.specs.Refine.{Refines}
 use Rattle.engine.specs.Call.{Name, Call}
 use Rattle.engine.specs.Call as c
-use Rattle.engine.specs.Meaning.{Value, bool, asBool, Assignment, valueAt, run, Fits, Asserted, Holds, Earlier, Sat, terms, All}
+use Rattle.engine.specs.Meaning.{Value, asBool, Assignment, valueAt, run, Fits, Asserted, Earlier, Sat, terms, All}
 use Rattle.engine.specs.Laws.{All-map, sat-holds}
-use Rattle.working_out.specs.Reading.{Each, readsPast, source, Pair, ofDffs, pairOf, Joined, Alike}
-use Rattle.working_out.specs.Laid.{Laid}
-use Rattle.working_out.specs.Loop.{hasLoop}
+use Rattle.working_out.specs.Reading.{Each, readsPast, source, ofDffs, pairOf, Joined, Alike}
+use Rattle.working_out.specs.Laid.{Laid, Ascending}
+use Rattle.working_out.specs.Loop.{Loop, hasLoop}
+use Rattle.working_out.specs.Solutions.{loop-decided}
 use Rattle.working_out.specs.Equations.{Solution}
 use Rattle.working_out.specs.WorkingOut.{tritRule, workedOut, whole, Solves}
 use Rattle.working_out.specs.WorkedOut as worked
@@ -30,26 +32,33 @@ use Rattle.smt.specs.Shows.{shown-is}
 use Rattle.smt.specs.CellBits.{pastBits}
 use Rattle.smt.specs.Refines.{same-bits}
 use Rattle.smt.specs.Wp.{Known}
-use Rattle.soundness.specs.Safe.{Truth}
 use Rattle.smt.specs.CellShows.{tritsOf, read-shows}
-use Rattle.design.specs.Verify as verify
-use Rattle.design.specs.Verify.{Step, declared, asserted, obliged, start, steps, work}
-use Rattle.design.specs.Meant.{Meant, stepsOf, meantCells, meantPair, meantPairs, meantSteps, joinTest, steps-are, steps-mean}
-use Rattle.design.specs.WorkSound.{SaidOf, ask, asks, truths, Worked, work-sound}
+use Rattle.order.specs.Verify as verify
+use Rattle.order.specs.Verify.{Step, declared, asserted, obliged, start, steps, work, built}
+use Rattle.order.specs.Meant.{Meant, stepsOf, meantCells, meantPair, meantPairs, meantSteps, joinTest, SaidOf, ask, asks, truths, Worked}
+use Rattle.order.proofs.StepsMean.{steps-are, steps-mean}
+use Rattle.order.proofs.WorkSound.{work-sound}
 use Rattle.bound.specs.Bounded.{Bounds}
-use Rattle.design.specs.Shown.{left, right, tests-solve}
-use Rattle.design.specs.Judged.{steps-judged}
-use Rattle.design.specs.Numbered.{work-next}
-use Rattle.design.specs.Declares.{declared-left, nodes-declared}
+use Rattle.order.proofs.Shown.{left, right, tests-solve}
+use Rattle.order.proofs.Judged.{steps-judged}
+use Rattle.order.proofs.Numbered.{work-next}
+use Rattle.order.proofs.Ascending.{obligations-ascend}
+use Rattle.design.specs.Declares.{declared-left, declared-cases, built-together, nodes-declared}
 use Rattle.design.specs.Prefix.{value-on, asserted-back, fits-left, run-agrees, fits-agrees}
 use Rattle.design.specs.Filled.{filled, filled-agrees, filled-shows}
 use Rattle.design.specs.Exists.{zeros-none, but, but-earlier, asked, asked-earlier, exists}
-use Rattle.design.specs.Requirement3.{IsDeclared, Declared, tritIn, tritsIn, unchecked, givenTrit, IsSource, Shows, queryCalls, Turned, Requirement3}
+use Rattle.design.specs.Requirement3.{declaredNames, IsDeclared, Declared, tritIn, tritsIn, unchecked, Shows, queryCalls, Turned, Requirement3}
 
 -- Two functions that agree on a list's elements.
 map-same : {A : Type 0} (f h : ℕ → A) (l : List ℕ) → All (λ k. f k ≡ h k) l → map f l ≡ map h l
 map-same f h [] e = refl
 map-same f h (k ∷ l) e = ap₂ (λ (x : _) (r : List _). x ∷ r) (e .0) (map-same f h l (e .1))
+
+-- The query declares nothing.
+pub query-none : (n : ℕ) (l : List ℕ) (name : Name) → IsDeclared (queryCalls n l) name → ⊥
+unfolding declaredNames
+query-none n [] name m = List·Memᴰ·not-nil m
+query-none n (o ∷ l) name m = List·Memᴰ·not-nil m
 
 module _ (d : Design) (laid : Laid d) (bounds : Bounds d) (n : ℕ) (asked-terms : List ℕ) where
   abbrev calls : List Call
@@ -57,6 +66,18 @@ module _ (d : Design) (laid : Laid d) (bounds : Bounds d) (n : ℕ) (asked-terms
 
   no-names : (ρ : Assignment) (v : ℕ → Value) → Known ρ v ((start (total d)) .names)
   no-names ρ v a i h k e = absurd (zeros-none (4 * total d) (place a i h) k e)
+
+  -- A net's two names are declared together or not at all.
+  pub together : (a : Age) (i : ℕ) (h : Half) → IsDeclared calls (netName a i h) → Declared calls a i
+  unfolding but
+  together a i h m g =
+      declared-left (but d) (queryCalls n asked-terms) (netName a i g)
+      (subst (λ (l : List Step). Declared ((work l (start (total d))) .calls) a i) (sym (steps-are d)) (built-together d a i h first) g)
+    where
+      first : IsDeclared ((built d) .calls) (netName a i h)
+      first =
+          subst (λ (l : List Step). IsDeclared ((work l (start (total d))) .calls) (netName a i h)) (steps-are d)
+          (⊎-elim (λ q. q) (λ q. absurd (query-none n asked-terms (netName a i h) q)) (declared-cases (but d) _ (netName a i h) m))
 
   -- What an assignment that satisfies the assertions but the query says.
   worked-by : (ρ : Assignment) → Fits ρ calls → Asserted (valueAt (run ρ [] calls)) (but d)
@@ -85,10 +106,10 @@ module _ (d : Design) (laid : Laid d) (bounds : Bounds d) (n : ℕ) (asked-terms
     θ = tritsOf (netBits (filled g calls ρ))
 
     was-given : (i : ℕ) → (tritsOf (netBits (filled g calls ρ))) .was i ≡ g .was i
-    was-given i = filled-shows d g calls ρ (shown-by .sources) past i tt
+    was-given i = filled-shows d g calls ρ together (shown-by .sources) past i tt
 
     now-given : (i : ℕ) → source d i ≡ true → (tritsOf (netBits (filled g calls ρ))) .now i ≡ g .now i
-    now-given i e = filled-shows d g calls ρ (shown-by .sources) curr i e
+    now-given i e = filled-shows d g calls ρ together (shown-by .sources) curr i e
 
     solves : Solves d g ((tritsOf (netBits (filled g calls ρ))) .now)
     solves =
@@ -126,10 +147,10 @@ module _ (d : Design) (laid : Laid d) (bounds : Bounds d) (n : ℕ) (asked-terms
         ∙ ap (λ (θ : Trits). map (λ (o : Obligation). not (broken d θ o)) (obligations d)) all-trits
 
   module _ (no-loop : hasLoop d ≡ false) where
-    pub monotone : (g g′ : Trits) → Turned g g′ → (ρ ρ′ : Assignment) → Shows d g calls (but d) ρ → Shows d g′ calls (but d) ρ′
+    pub monotone : (g g′ : Trits) → Turned d g g′ → (ρ ρ′ : Assignment) → Shows d g calls (but d) ρ → Shows d g′ calls (but d) ρ′
         → (a : Age) (i : ℕ) → Declared calls a i → Refines (tritIn ρ a i) (tritIn ρ′ a i)
     monotone g g′ t ρ ρ′ s s′ curr i m =
-        rw (shown no-loop g ρ s i m, shown no-loop g′ ρ′ s′ i m) (worked.monotone d laid no-loop g g′ (λ j _. t .now j) (t .was) i)
+        rw (shown no-loop g ρ s i m, shown no-loop g′ ρ′ s′ i m) (worked.monotone d laid no-loop g g′ (t .now) (t .was) i)
     monotone g g′ t ρ ρ′ s s′ past i m = rw (shown-past no-loop g ρ s i m, shown-past no-loop g′ ρ′ s′ i m) (t .was i)
 
     pub choiceless : (g : Trits) (ρ ρ′ : Assignment) → Shows d g calls (but d) ρ → Shows d g calls (but d) ρ′
@@ -193,7 +214,7 @@ work-unchecked (asserted m ∷ rest) s = emit-unchecked m s _ (pass (work-unchec
 work-unchecked (obliged m ∷ rest) s = emit-unchecked m s _ (work-unchecked rest ((emit m s) .st))
 
 -- The calls of the query are those that `check` emits.
-query-calls : (l : List ℕ) (s : St) → verify.asked l s ≡ queryCalls (s .next) l
+pub query-calls : (l : List ℕ) (s : St) → verify.asked l s ≡ queryCalls (s .next) l
 unfolding verify.asked verify.query emit _>>=_
 query-calls [] s = refl
 query-calls (o ∷ l) s = refl
@@ -234,13 +255,43 @@ asked-each d laid =
     none : NetBits
     none a i h = false
 
+-- They ascend strictly.
+asked-ascend : (d : Design) → Ascending (λ (k : ℕ). k) (asked d)
+unfolding asked
+asked-ascend d =
+    subst (λ (l : List Step). Ascending (λ (k : ℕ). k) ((work l (start (total d))) .res)) (sym (steps-are d)) (obligations-ascend d)
+
+-- Every call refers to earlier terms only, the query's too.
+earlier-append : (n k : ℕ) (cs ds : List Call) → k ≡ n + terms cs → Earlier n cs → Earlier k ds → Earlier n (cs ++ ds)
+unfolding terms
+earlier-append n k [] ds q e f = subst (λ (j : ℕ). Earlier j ds) (omega arith) f
+earlier-append n k (c.term t ∷ cs) ds q e f = (e .0, earlier-append (suc n) k cs ds (omega arith) (e .1) f)
+earlier-append n k (c.declare name w ∷ cs) ds q e f = earlier-append (suc n) k cs ds (omega arith) e f
+earlier-append n k (c.assert a ∷ cs) ds q e f = (e .0, earlier-append n k cs ds q (e .1) f)
+earlier-append n k (c.check ∷ cs) ds q e f = earlier-append n k cs ds q e f
+
+query-earlier : (n : ℕ) (l : List ℕ) → All (λ k. k < n) l → Earlier n (queryCalls n l)
+query-earlier n [] h = tt
+query-earlier n (o ∷ l) h = (h, ((omega arith, tt), (omega arith, tt)))
+
 -- ---- the theorem, of a design
 
-module _ (d : Design) (laid : Laid d) (bounds : Bounds d) (no-loop : hasLoop d ≡ false) where
+no-loop-found : (d : Design) → Laid d → (Loop d → ⊥) → hasLoop d ≡ false
+no-loop-found d laid none = go (hasLoop d) refl
+  where
+    go : (b : Bool) → hasLoop d ≡ b → hasLoop d ≡ false
+    go true e = absurd (none ((loop-decided d laid) .0 e))
+    go false e = e
+
+module _ (d : Design) (laid : Laid d) (bounds : Bounds d) (none : Loop d → ⊥) where
+  no-loop : hasLoop d ≡ false
+  no-loop = no-loop-found d laid none
+
   nodes : (i : ℕ) → i < total d → source d i ≡ false → Declared (but d ++ queryCalls (terms (but d)) (asked d)) curr i
   unfolding but
-  nodes i low node h = declared-left (but d) (queryCalls (terms (but d)) (asked d)) (netName curr i h)
-      (subst (λ (l : List Step). IsDeclared ((work l (start (total d))) .calls) (netName curr i h)) (sym (steps-are d)) (nodes-declared d laid i low node h))
+  nodes i low node h =
+      declared-left (but d) (queryCalls (terms (but d)) (asked d)) (netName curr i h)
+      (subst (λ (l : List Step). Declared ((work l (start (total d))) .calls) curr i) (sym (steps-are d)) (nodes-declared d laid i low node) h)
 
   pub requirement-3 : Requirement3 d (verify.verify d)
   requirement-3 = subst (Requirement3 d) (sym (verify-is d)) (record {
@@ -249,6 +300,10 @@ module _ (d : Design) (laid : Laid d) (bounds : Bounds d) (no-loop : hasLoop d �
     query = refl;
     claims = but-unchecked d;
     each = asked-each d laid;
+    ascend = asked-ascend d;
+    earlier = earlier-append 0 (terms (but d)) (but d) _ (omega arith) (but-earlier d laid bounds)
+        (query-earlier (terms (but d)) (asked d) (asked-earlier d laid bounds));
+    together = together d laid bounds (terms (but d)) (asked d);
     exists = exists d laid bounds no-loop (terms (but d)) (asked d);
     shown = λ g ρ s. shown d laid bounds (terms (but d)) (asked d) no-loop g ρ s;
     judged = λ g ρ s. judged d laid bounds (terms (but d)) (asked d) no-loop g ρ s;

@@ -1,20 +1,22 @@
 -- Document 01: what the order of work answers for a list of words and the room lent for its calls and its recorded marks, and what
 -- it leaves in the two slices. Every count is a count in the calls themselves.
 use mathlib.Core.Path.{_≡_}
-use mathlib.Core.Bool.{false, cond}
+use mathlib.Core.Bool.{cond}
 use mathlib.Core.List.{List, [], _∷_, _++_}
 use Prim.Native.Nat.{ℕ, _+_}
 use lib.Dec.{ltb}
 use lib.ListN.{length, drop}
-use Rattle.logic.specs.declared.Fault.{Fault}
+use Rattle.design.specs.declared.Counts.{Counts}
+use Rattle.design.specs.declared.Verified.{Verified}
+use Rattle.design.specs.declared.Verified.the-variants.{Refused, NothingAsked, Asked}
 use Rattle.cell.specs.Design.{Design, total}
 use Rattle.engine.specs.Call.{Letter, Suffix, Call}
 use Rattle.engine.specs.Call as c
 use Rattle.engine.specs.Meaning.{terms}
 use Rattle.engine.specs.Encode.{encode, decode}
 use Rattle.design_list.specs.Read.{Read, refused, accepted, read}
-use Rattle.working_out.specs.Loop.{hasLoop}
-use Rattle.design.specs.Verify.{built, verify}
+use Rattle.working_out.specs.Loop.{Loop}
+use Rattle.order.specs.Verify.{built, verify}
 use Rattle.design.specs.Requirement3.{Requirement3}
 
 -- ---- counts
@@ -34,21 +36,10 @@ temporaries (c.declare name w ∷ cs) = isTemporary (name .letter) (name .suffix
 temporaries (c.assert k ∷ cs) = temporaries cs
 temporaries (c.check ∷ cs) = temporaries cs
 
-pub record Counts : Type 0 where
-  pub terms : ℕ
-  pub temporaries : ℕ
-  pub words : ℕ
-
 abbrev pub counted : List Call → Counts
 counted cs = record { terms = Rattle.engine.specs.Meaning.terms cs; temporaries = temporaries cs; words = length (encode cs) }
 
 -- ---- the answer
-
--- A refusal, a list with no obligation, or one whose obligations are asked.
-pub data Verified : Type 0 where
-  Refused : Fault → Verified
-  NothingAsked : Counts → Verified
-  Asked : Counts → Verified
 
 -- With no obligation nothing is asked.
 abbrev pub told : List ℕ → Counts → Verified
@@ -116,4 +107,4 @@ valueOf (Asked n) = n .words
 
 abbrev pub Required : List ℕ → Type 0
 Required w =
-    (d : Design) (reps pairs : ℕ) → read w ≡ accepted d reps pairs → hasLoop d ≡ false → Requirement3 d (decode (callWords w))
+    (d : Design) (reps pairs : ℕ) → read w ≡ accepted d reps pairs → (Loop d → ⊥) → Requirement3 d (decode (callWords w))

@@ -2,8 +2,8 @@
 -- once, every number fits a word, and nothing follows check.
 use mathlib.Core.Path.{_≡_, refl, sym, ap, _∙_, subst}
 use mathlib.Core.Bool.{Bool, true, false, cond}
-use mathlib.Core.List.{List, [], _∷_, _++_, append-assoc, List·Memᴰ, List·Memᴰ·not-nil}
-use Prim.Native.Nat.{ℕ, zero, suc, _+_, _-_, _*_, _≤_, _<_}
+use mathlib.Core.List.{List, [], _∷_, _++_, append-assoc, List·Memᴰ·not-nil}
+use Prim.Native.Nat.{ℕ, zero, suc, _+_, _*_, _≤_, _<_}
 use native.Mathlib.Omega.{arith}
 use lib.Dec.{eqb}
 use lib.ListN.{length, getD, length-append, length-replicate, List·getD-eq-default}
@@ -30,9 +30,10 @@ use Rattle.soundness.specs.Safe.{safe, Truth}
 use Rattle.soundness.specs.Solve.{Extends, extends-refl, Temp, noTemp, exec, WellSorted, Here, σ, sortOfValue, assigned-net}
 use Rattle.soundness.specs.Formed.{NewNames, formed, Declared, temps-grow, Then, KnownSorts, emit-new}
 use Rattle.design.specs.Accepted.{Accepted}
-use Rattle.design.specs.Verify.{Step, declared, asserted, obliged, work, start, verify}
-use Rattle.design.specs.Meant.{Meant, stepsOf, meantSteps}
-use Rattle.design.specs.Numbered.{terms-append, work-next}
+use Rattle.order.specs.Verify.{Step, declared, asserted, obliged, work, start, built, verify}
+use Rattle.order.specs.Meant.{Meant, stepsOf, meantSteps}
+use Rattle.order.proofs.StepsMean.{steps-are}
+use Rattle.order.proofs.Numbered.{terms-append, work-next}
 use Rattle.design.specs.WorkMeets.{StepSafe, Safe, execWork, WorkMet, work-meets, met-by}
 use Rattle.design.specs.StepsSafe.{steps-safe}
 use Rattle.design.specs.Exists.{but, asked, whole, L, TS, here, met}
@@ -218,23 +219,27 @@ module _ (d : Design) (a : Accepted d) where
   }
 
   -- As few words, terms and temporaries as a word can number.
-  few-words : length (encode (verify d)) ≤ 134217728
+  pub few-words : length (encode (verify d)) ≤ 134217728
   few-words = let h = verify-words d (a .laid) (a .bounds) in let w = a .words in omega arith
 
-  few-terms : terms (verify d) ≤ 134217728
+  pub few-terms : terms (verify d) ≤ 134217728
   few-terms = let h = terms-words (verify d) in let w = few-words in omega arith
 
   next-is : (work (stepsOf (meantSteps d)) (start (total d))) .st .next ≡ terms (but d)
   unfolding but
   next-is = let e = work-next (stepsOf (meantSteps d)) (start (total d)) in omega arith
 
-  few-temps : (work (stepsOf (meantSteps d)) (start (total d))) .st .temp ≤ payloadLimit
+  few-temps : (work (stepsOf (meantSteps d)) (start (total d))) .st .temp ≤ 134217728
   few-temps =
       let t = work-temps (stepsOf (meantSteps d)) (start (total d)) in
       let n = next-is in
       let e = ap terms (verify-is d) ∙ terms-append (but d) (queryCalls (terms (but d)) (asked d)) in
       let f = few-terms in
       omega arith
+
+  pub few-temporaries : (built d) .st .temp ≤ 134217728
+  few-temporaries =
+      subst (λ (l : List Step). (work l (start (total d))) .st .temp ≤ 134217728) (steps-are d) few-temps
 
   few-asked : length (asked d) < countLimit
   few-asked = let e = asked-each d (a .laid) in let f = few-obligations d in let w = a .words in omega arith
@@ -253,7 +258,7 @@ module _ (d : Design) (a : Accepted d) where
       (done .sorted _ query-fits)
       (work-new (total d) none (L d (a .laid) (a .bounds) none) (TS d (a .laid) (a .bounds) none) (let l = a .slots in omega arith) (meantSteps d)
       (start (total d)) [] [] (steps-safe d (a .laid) (a .bounds)) (here d (a .laid) (a .bounds) none _ _)
-      (extends-refl (bool false) _) (extends-refl noTemp _) few-temps _ query-fits (query-new (terms (but d)) (asked d) _) [] none-declared)
+      (extends-refl (bool false) _) (extends-refl noTemp _) (let f = few-temps in omega arith) _ query-fits (query-new (terms (but d)) (asked d) _) [] none-declared)
       (let e = ap terms (verify-is d) in let f = few-terms in omega arith))
 
   -- Never fault 19, and the words read back as the calls.

@@ -21,7 +21,6 @@ use Rattle.soundness.specs.Solve.{
   Temp,
   noTemp,
   Ran,
-  assigned,
   exec,
   Grows,
   grows,
@@ -34,9 +33,8 @@ use Rattle.soundness.specs.Solve.{
   ρ,
   σ,
 }
-use Rattle.design.specs.Verify.{Step, declared, asserted, obliged, work}
-use Rattle.design.specs.Meant.{Meant, meant, stepsOf, MeantIs}
-use Rattle.design.specs.WorkSound.{SaidOf}
+use Rattle.order.specs.Verify.{Step, declared, asserted, obliged, work}
+use Rattle.order.specs.Meant.{Meant, meant, stepsOf, MeantIs, SaidOf}
 
 -- A step's calls fit: its term, where it is asserted or kept, is a Bool.
 abbrev pub StepSafe : ℕ → (ℕ → Sort) → ℕ → Step → Type 0

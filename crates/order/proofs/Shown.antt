@@ -1,8 +1,7 @@
 -- From bits to trits: nets whose bits pass the asserted tests show trits that solve the design's equations, and the test of an
 -- obligation is false exactly when the obligation is broken.
 use mathlib.Core.Path.{_≡_, refl, sym, ap, _∙_}
-use mathlib.Core.Bool.{Bool, true, false, not, _&&_, false≢true}
-use mathlib.Core.Option.{some}
+use mathlib.Core.Bool.{Bool, true, false, _&&_}
 use mathlib.Core.List.{List, [], _∷_, _++_, map}
 use Prim.Native.Nat.{ℕ, _+_}
 use native.Mathlib.Omega.{arith}
@@ -16,7 +15,6 @@ use Rattle.logic.specs.declared.Trit.{Trit}
 use Rattle.bitvec.specs.Bits.{Bits}
 use Rattle.engine.specs.Meaning.{all}
 use Rattle.cell.specs.Cell.{Cell, outputLen}
-use Rattle.cell.specs.Cell as c
 use Rattle.cell.specs.Design.{Design, Placed, NetPair}
 use Rattle.rules.specs.Shape.{Shaped}
 use Rattle.rules.specs.Trits.{refines}
@@ -34,10 +32,9 @@ use Rattle.smt.specs.Refines.{same-bits, refines-shows}
 use Rattle.smt.specs.Shows.{Shown, Shows, empty, lane, shown-is}
 use Rattle.smt.specs.CellBits.{currBits, netBit, cellBits}
 use Rattle.smt.specs.CellShows.{tritsOf, read-shows, value-shows, cell-bits-show}
-use Rattle.design.specs.BitRule.{asserted-not-input, asserted-some}
-use Rattle.design.specs.Verify.{isInput, newCellIn}
-use Rattle.design.specs.Meant.{Meant, meantAdd, meantNew, meantCell, meantCells, meantPair, meantPairs, meantSteps, claimTest, voidTest}
-use Rattle.design.specs.WorkSound.{SaidOf}
+use Rattle.order.proofs.Asserted.{asserted-not-input, asserted-some, asserted-claimed}
+use Rattle.order.specs.Verify.{newCellIn}
+use Rattle.order.specs.Meant.{Meant, meantAdd, meantNew, meantCell, meantCells, meantPair, meantPairs, meantSteps, claimTest, voidTest, SaidOf}
 
 -- ---- tv_refines: false exactly where some bit of from is defined and to is not the same trit
 
@@ -49,22 +46,6 @@ refines-shown p q = refines-shows p q ∙ trits p q
     trits : {n : ℕ} {x y u w : Bits} {ts us : List Trit} → Shown n x y ts → Shown n u w us → all (zipWith refines ts us) ≡ allRefine ts us
     trits empty empty = refl
     trits (lane a b p) (lane u w q) = ap (λ (r : Bool). refines (shows a b) (shows u w) && r) (trits p q)
-
--- An asserted cell is claimed.
-pub asserted-claimed : (a : Cell) → asserted a ≡ true → isInput a ≡ false
-asserted-claimed c.void h = refl
-asserted-claimed c.note h = refl
-asserted-claimed (c.input n) h = absurd (false≢true h)
-asserted-claimed (c.ioBuf n) h = refl
-asserted-claimed (c.unary op a) h = refl
-asserted-claimed (c.binary op a b) h = refl
-asserted-claimed (c.mux s a b) h = refl
-asserted-claimed (c.adc a b carry) h = refl
-asserted-claimed (c.aig a b) h = refl
-asserted-claimed (c.shift op value amount stride) h = refl
-asserted-claimed (c.match value enable patterns) h = refl
-asserted-claimed (c.assign value enable update offset) h = refl
-asserted-claimed (c.dff f) h = refl
 
 -- ---- what nets show
 

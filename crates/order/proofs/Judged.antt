@@ -3,7 +3,7 @@ use mathlib.Core.Path.{_≡_, refl, sym, ap, ap₂, _∙_, subst}
 use mathlib.Core.Bool.{Bool, true, false, not, cond, Bool·not-not}
 use mathlib.Core.Option.{Option, none, some}
 use mathlib.Core.List.{List, [], _∷_, _++_, map, map-append}
-use Prim.Native.Nat.{ℕ, _+_, _<_}
+use Prim.Native.Nat.{ℕ, _<_}
 use lib.Dec.{eqb}
 use borrow.Author.Tests.{eqb-false}
 use Rattle.cell.specs.Cell.{Cell, outputLen}
@@ -18,10 +18,10 @@ use Rattle.smt.specs.Builder.{currValue, outputNets}
 use Rattle.smt.specs.Formula.{NetBits}
 use Rattle.smt.specs.CellBits.{NotInput}
 use Rattle.smt.specs.CellShows.{tritsOf, value-shows, cell-bits-show}
-use Rattle.design.specs.Verify.{Step, declared, asserted, obliged, claim, addCell, isInput, newCellIn}
-use Rattle.design.specs.Found.{placed, own-cells, may-replace, new-found}
-use Rattle.design.specs.Replacements.{foundAt, inCells, wide, design-in-order}
-use Rattle.design.specs.Meant.{
+use Rattle.order.specs.Verify.{Step, declared, asserted, obliged, claim, addCell, isInput, newCellIn}
+use Rattle.order.proofs.Found.{placed, own-cells, may-replace, new-found}
+use Rattle.order.proofs.Replacements.{foundAt, inCells, wide, design-in-order}
+use Rattle.order.specs.Meant.{
   Meant,
   meantAdd,
   meantNew,
@@ -33,11 +33,11 @@ use Rattle.design.specs.Meant.{
   newTest,
   netTest,
   currentTest,
-  claimTest,
-  positive,
+  ask,
+  asks,
 }
-use Rattle.design.specs.WorkSound.{ask, asks}
-use Rattle.design.specs.Shown.{refines-shown, current-shows, outputs-show}
+use Rattle.order.proofs.StepsMean.{positive}
+use Rattle.order.proofs.Shown.{refines-shown, current-shows, outputs-show}
 
 pub asks-append : (b : NetBits) (k l : List Meant) → asks b (k ++ l) ≡ asks b k ++ asks b l
 unfolding asks

@@ -9,7 +9,7 @@ use Rattle.engine.specs.Call as c
 use Rattle.engine.specs.Meaning.{terms}
 use Rattle.smt.specs.Prog.{Prog, ret, op, declare, bind, bind2}
 use Rattle.smt.specs.Emit.{St, Out, netName, place, at, learn, reread, after, known, emit}
-use Rattle.design.specs.Verify.{Step, declared, asserted, obliged, work}
+use Rattle.order.specs.Verify.{Step, declared, asserted, obliged, work}
 
 pub terms-append : (cs ds : List Call) → terms (cs ++ ds) ≡ terms cs + terms ds
 unfolding terms

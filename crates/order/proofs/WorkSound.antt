@@ -2,7 +2,7 @@
 -- have the values of their tests.
 use mathlib.Core.Path.{_≡_, refl, ap, ap₂}
 use mathlib.Core.Bool.{Bool, true}
-use mathlib.Core.List.{List, [], _∷_, _++_, map, append-assoc}
+use mathlib.Core.List.{List, [], _∷_, _++_, append-assoc}
 use Prim.Native.Nat.{ℕ}
 use Rattle.engine.specs.Call.{Call, assert}
 use Rattle.engine.specs.Meaning.{Value, bool, asBool, Assignment, Holds}
@@ -11,64 +11,36 @@ use Rattle.smt.specs.Prog.{Prog}
 use Rattle.smt.specs.Emit.{St, emit}
 use Rattle.smt.specs.Formula.{NetBits, netBits}
 use Rattle.smt.specs.Wp.{Known, wp-sound}
-use Rattle.design.specs.Verify.{Step, declared, asserted, obliged, work}
-use Rattle.design.specs.Meant.{Meant, meant, stepsOf, Says, StepIs, MeantIs}
-
--- The tests of the asserted steps hold, and those of the obliged steps in order.
-abbrev pub Said : NetBits → Step → (NetBits → Bool) → Type 0
-Said b (declared m) t = Unit {0}
-Said b (asserted m) t = t b ≡ true
-Said b (obliged m) t = Unit {0}
-
-abbrev pub SaidOf : NetBits → Meant → Type 0
-SaidOf b m = Said b (m .step) (m .test)
-
-abbrev pub ask : Step → Bool → List Bool → List Bool
-ask (declared m) t l = l
-ask (asserted m) t l = l
-ask (obliged m) t l = t ∷ l
-
-unfoldable pub asks : NetBits → List Meant → List Bool
-asks b [] = []
-asks b (m ∷ ms) = ask (m .step) (m .test b) (asks b ms)
-
--- The Bools of terms.
-unfoldable pub truths : (ℕ → Value) → List ℕ → List Bool
-truths v l = map (λ k. asBool (v k)) l
+use Rattle.order.specs.Verify.{Step, declared, asserted, obliged, work}
+use Rattle.order.specs.Meant.{Meant, meant, stepsOf, asks, truths, Says, StepIs, MeantIs, Worked}
 
 module _ (ρ : Assignment) (v : ℕ → Value) where
-  pub record Worked (ms : List Meant) (s : St) (rest : List Call) : Type 0 where
-    pub said : Each (SaidOf (netBits ρ)) ms
-    pub judged : truths v ((work (stepsOf ms) s) .res) ≡ asks (netBits ρ) ms
-    pub names : Known ρ v ((work (stepsOf ms) s) .st .names)
-    pub more : Holds ρ v ((work (stepsOf ms) s) .st .next) rest
-
   -- One step more in front.
   declared-worked : (m : Prog _) (t : NetBits → Bool) (ms : List Meant) (s : St) (rest : List Call)
-      → Worked ms ((emit m s) .st) rest → Worked (meant (declared m) t ∷ ms) s rest
+      → Worked ρ v ms ((emit m s) .st) rest → Worked ρ v (meant (declared m) t ∷ ms) s rest
   unfolding work asks
   declared-worked m t ms s rest w = record { said = (tt, w .said); judged = w .judged; names = w .names; more = w .more }
 
   asserted-worked : (m : Prog ℕ) (t : NetBits → Bool) (ms : List Meant) (s : St) (rest : List Call) → t (netBits ρ) ≡ true
-      → Worked ms ((emit m s) .st) rest → Worked (meant (asserted m) t ∷ ms) s rest
+      → Worked ρ v ms ((emit m s) .st) rest → Worked ρ v (meant (asserted m) t ∷ ms) s rest
   unfolding work asks
   asserted-worked m t ms s rest e w = record { said = (e, w .said); judged = w .judged; names = w .names; more = w .more }
 
   obliged-worked : (m : Prog ℕ) (t : NetBits → Bool) (ms : List Meant) (s : St) (rest : List Call) → Says ρ v t ((emit m s) .res)
-      → Worked ms ((emit m s) .st) rest → Worked (meant (obliged m) t ∷ ms) s rest
+      → Worked ρ v ms ((emit m s) .st) rest → Worked ρ v (meant (obliged m) t ∷ ms) s rest
   unfolding work asks truths
   obliged-worked m t ms s rest e w =
       record { said = (tt, w .said); judged = ap₂ (λ (x : Bool) (l : List Bool). x ∷ l) (ap asBool e) (w .judged); names = w .names; more = w .more }
 
   pub work-sound : (ms : List Meant) (s : St) (rest : List Call) → Each (MeantIs ρ v) ms → Known ρ v (s .names)
-      → Holds ρ v (s .next) ((work (stepsOf ms) s) .calls ++ rest) → Worked ms s rest
+      → Holds ρ v (s .next) ((work (stepsOf ms) s) .calls ++ rest) → Worked ρ v ms s rest
   unfolding work
   work-sound [] s rest is kn h = unfold asks truths in record { said = tt; judged = refl; names = kn; more = h }
   work-sound (m ∷ ms) s rest is kn h = go (λ s′ kn′ h′. work-sound ms s′ rest (is .1) kn′ h′) (m .step) (m .test) (is .0) h
     where
-      go : ((s′ : St) → Known ρ v (s′ .names) → Holds ρ v (s′ .next) ((work (stepsOf ms) s′) .calls ++ rest) → Worked ms s′ rest)
+      go : ((s′ : St) → Known ρ v (s′ .names) → Holds ρ v (s′ .next) ((work (stepsOf ms) s′) .calls ++ rest) → Worked ρ v ms s′ rest)
           → (p : Step) (t : NetBits → Bool) → StepIs ρ v p t → Holds ρ v (s .next) ((work (p ∷ stepsOf ms) s) .calls ++ rest)
-          → Worked (meant p t ∷ ms) s rest
+          → Worked ρ v (meant p t ∷ ms) s rest
       go rec (declared q) t is h =
           let s′ = (emit q s) .st in
           let r = wp-sound ρ v q s _ ((work (stepsOf ms) s′) .calls ++ rest) kn (rw append-assoc at h) is in

@@ -13,8 +13,8 @@ use Rattle.cell.specs.Cell.{Cell, outputLen, slotsOf}
 use Rattle.cell.specs.Design.{Design, Placed, total}
 use Rattle.working_out.specs.Reading.{Each, each-map, isIn, cellIn}
 use Rattle.working_out.specs.Laid.{Run, Ascending, Laid}
-use Rattle.design.specs.Verify.{newCellIn}
-use Rattle.design.specs.Found.{placed}
+use Rattle.order.specs.Verify.{newCellIn}
+use Rattle.order.proofs.Found.{placed}
 
 abbrev pub foundAt : ℕ → Option Cell → List Placed
 foundAt s none = []

@@ -8,13 +8,12 @@ use native.Mathlib.Omega.{arith}
 use lib.Dec.{eqb}
 use borrow.Author.Tests.{eqb-true}
 use Rattle.cell.specs.Cell.{Cell, outputLen}
-use Rattle.cell.specs.Cell as c
 use Rattle.cell.specs.Design.{Design, Placed, total}
 use Rattle.working_out.specs.Reading.{Each, cellIn, cellOf}
 use Rattle.working_out.specs.Laid.{Laid, CellLaid, MayReplace, Replaces}
 use Rattle.working_out.specs.Layout.{at-each, located}
 use Rattle.smt.specs.CellBits.{NotInput}
-use Rattle.design.specs.Verify.{newCellIn}
+use Rattle.order.specs.Verify.{newCellIn}
 
 abbrev pub placed : ℕ → Cell → Placed
 placed s a = record { slot = s; cell = a }

@@ -1,0 +1,13 @@
+pub mod Found
+pub mod Asserted
+pub mod EachStep
+pub mod StepsMean
+pub mod WorkSound
+pub mod Shown
+pub mod Replacements
+pub mod Judged
+pub mod Numbered
+pub mod Ascending
+pub mod NetReads
+pub mod Marks
+pub mod Pairs

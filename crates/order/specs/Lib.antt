@@ -1,0 +1,3 @@
+pub mod Verify
+pub mod Meant
+pub mod Reads

@@ -1,0 +1,137 @@
+-- What the steps of the order of work mean: each with its test, what its term says of the nets' bits; and what a valuation that meets
+-- the calls of the steps says of the tests.
+use mathlib.Core.Path.{_≡_}
+use mathlib.Core.Bool.{Bool, true, cond}
+use mathlib.Core.Option.{Option, none, some}
+use mathlib.Core.List.{List, [], _∷_, _++_, map}
+use Prim.Native.Nat.{ℕ}
+use lib.Dec.{eqb}
+use Rattle.logic.specs.Net.{Net}
+use Rattle.cell.specs.Cell.{Cell, outputLen}
+use Rattle.cell.specs.Design.{Design, Placed, NetPair}
+use Rattle.engine.specs.Call.{Call}
+use Rattle.engine.specs.Meaning.{Value, bool, asBool, Assignment, Holds}
+use Rattle.working_out.specs.Reading.{Each, readsPast, Pair, equal, ofVoid, ofDffs, ordinary, pairOf}
+use Rattle.smt.specs.Builder.{outputNets}
+use Rattle.smt.specs.Emit.{St}
+use Rattle.smt.specs.Formula.{NetBits, netBits, sameBits, refinesBits}
+use Rattle.smt.specs.Wp.{Known, wp}
+use Rattle.smt.specs.CellBits.{netBit, pastBits, currBits, cellBits}
+use Rattle.order.specs.Verify.{
+  Step,
+  declared,
+  asserted,
+  obliged,
+  addCell,
+  newCell,
+  replaceNet,
+  replaceVoidNet,
+  joinPasts,
+  currents,
+  newCellIn,
+  work,
+}
+
+pub record Meant : Type 0 where
+  pub step : Step
+  pub test : NetBits → Bool
+
+abbrev pub meant : Step → (NetBits → Bool) → Meant
+meant s t = record { step = s; test = t }
+
+module _ (rp : ℕ → Bool) where
+  abbrev pub claimTest : ℕ → ℕ → Cell → NetBits → Bool
+  claimTest s w a b = sameBits (currBits rp b (outputNets s w)) (cellBits rp b s w a)
+
+  abbrev pub newTest : ℕ → ℕ → Cell → NetBits → Bool
+  newTest s w a b = refinesBits (currBits rp b (outputNets s w)) (cellBits rp b s w a)
+
+  abbrev pub netTest : Net → Net → NetBits → Bool
+  netTest from to b = refinesBits (currBits rp b (from ∷ [])) (netBit rp b to)
+
+  abbrev pub voidTest : Net → Net → NetBits → Bool
+  voidTest from to b = sameBits (currBits rp b (from ∷ [])) (netBit rp b to)
+
+  abbrev pub joinTest : Net → Net → NetBits → Bool
+  joinTest from to b = sameBits (pastBits rp b (from ∷ [])) (pastBits rp b (to ∷ []))
+
+  abbrev pub currentTest : Net → Net → NetBits → Bool
+  currentTest from to b = refinesBits (currBits rp b (from ∷ [])) (currBits rp b (to ∷ []))
+
+  abbrev pub meantAdd : ℕ → ℕ → Cell → Meant
+  meantAdd s w a = meant (addCell rp s w a) (claimTest s w a)
+
+  abbrev pub meantNew : ℕ → ℕ → Option Cell → List Meant
+  meantNew s w none = []
+  meantNew s w (some a) = meant (obliged (newCell rp s w a)) (newTest s w a) ∷ []
+
+  abbrev pub meantPair : Pair → NetPair → List Meant
+  meantPair equal p = []
+  meantPair ofVoid p = meant (asserted (replaceVoidNet rp (p .from) (p .to))) (voidTest (p .from) (p .to)) ∷ []
+  meantPair ofDffs p =
+      meant (asserted (joinPasts (p .from) (p .to))) (joinTest (p .from) (p .to))
+      ∷ meant (obliged (currents (p .from) (p .to))) (currentTest (p .from) (p .to))
+      ∷ meant (obliged (replaceNet rp (p .from) (p .to))) (netTest (p .from) (p .to)) ∷ []
+  meantPair ordinary p = meant (obliged (replaceNet rp (p .from) (p .to))) (netTest (p .from) (p .to)) ∷ []
+
+abbrev pub meantCell : Design → Placed → List Meant
+meantCell d p =
+    cond (eqb (outputLen (p .cell)) 0) []
+    (meantAdd (readsPast d) (p .slot) (outputLen (p .cell)) (p .cell)
+    ∷ meantNew (readsPast d) (p .slot) (outputLen (p .cell)) (newCellIn (d .cellReps) (p .slot)))
+
+unfoldable pub meantCells : Design → List Placed → List Meant
+meantCells d [] = []
+meantCells d (p ∷ cells) = meantCell d p ++ meantCells d cells
+
+unfoldable pub meantPairs : Design → List NetPair → List Meant
+meantPairs d [] = []
+meantPairs d (p ∷ pairs) = meantPair (readsPast d) (pairOf d p) p ++ meantPairs d pairs
+
+abbrev pub meantSteps : Design → List Meant
+meantSteps d = meantCells d (d .cells) ++ meantPairs d (d .netReps)
+
+abbrev pub stepsOf : List Meant → List Step
+stepsOf = map (λ m. m .step)
+
+-- ---- what each step says
+
+-- The tests of the asserted steps hold, and those of the obliged steps in order.
+abbrev pub Said : NetBits → Step → (NetBits → Bool) → Type 0
+Said b (declared m) t = Unit {0}
+Said b (asserted m) t = t b ≡ true
+Said b (obliged m) t = Unit {0}
+
+abbrev pub SaidOf : NetBits → Meant → Type 0
+SaidOf b m = Said b (m .step) (m .test)
+
+abbrev pub ask : Step → Bool → List Bool → List Bool
+ask (declared m) t l = l
+ask (asserted m) t l = l
+ask (obliged m) t l = t ∷ l
+
+unfoldable pub asks : NetBits → List Meant → List Bool
+asks b [] = []
+asks b (m ∷ ms) = ask (m .step) (m .test b) (asks b ms)
+
+-- The Bools of terms.
+unfoldable pub truths : (ℕ → Value) → List ℕ → List Bool
+truths v l = map (λ k. asBool (v k)) l
+
+module _ (ρ : Assignment) (v : ℕ → Value) where
+  abbrev pub Says : (NetBits → Bool) → ℕ → Type 0
+  Says t r = v r ≡ bool (t (netBits ρ))
+
+  abbrev pub StepIs : Step → (NetBits → Bool) → Type 0
+  StepIs (declared m) t = wp ρ v m (λ _. Unit {0})
+  StepIs (asserted m) t = wp ρ v m (Says t)
+  StepIs (obliged m) t = wp ρ v m (Says t)
+
+  abbrev pub MeantIs : Meant → Type 0
+  MeantIs m = StepIs (m .step) (m .test)
+
+  pub record Worked (ms : List Meant) (s : St) (rest : List Call) : Type 0 where
+    pub said : Each (SaidOf (netBits ρ)) ms
+    pub judged : truths v ((work (stepsOf ms) s) .res) ≡ asks (netBits ρ) ms
+    pub names : Known ρ v ((work (stepsOf ms) s) .st .names)
+    pub more : Holds ρ v ((work (stepsOf ms) s) .st .next) rest
