@@ -1,0 +1,96 @@
+-- `arith::tv_binary` meets its contract: each arm is its function of the model, at the output width of the operation. Assumes nothing.
+use borrow.Author.Needs.{needs}
+use Rattle.builder.proofs.Laws.{ran-as, ran-bind}
+use Rattle.arith.proofs.tv_binary.Statement.{statement}
+use Rattle.arith.proofs.tv_binary.Tie as tie
+
+returns : tie.Need-returns
+returns c =
+    let made = c .before .before in
+    let told = made .before .before in
+    let n = told .before .before .before .args .n in
+    let op = told .enum-told .given .1 in
+    λ low width names marks. rw op (made .tv-and .ensures n n names marks)
+
+returns-2 : tie.Need-returns-2
+returns-2 c =
+    let made = c .before .before in
+    let told = made .before .before in
+    let n = told .before .before .before .args .n in
+    let op = told .enum-told2 .given .1 in
+    λ low width names marks. rw op (made .tv-or .ensures n n names marks)
+
+returns-3 : tie.Need-returns-3
+returns-3 c =
+    let made = c .before .before in
+    let told = made .before .before in
+    let n = told .before .before .before .args .n in
+    let op = told .enum-told3 .given .1 in
+    λ low width names marks. rw op (ran-as (made .tv-xor .ensures n n names marks) (rw (rw op at width)))
+
+returns-4 : tie.Need-returns-4
+returns-4 c =
+    let made = c .before .before in
+    let told = made .before .before in
+    let n = told .before .before .before .args .n in
+    let op = told .enum-told4 .given .1 in
+    λ low width names marks. rw op (ran-as (made .tv-equals .ensures low n n names marks) (rw (rw op at width)))
+
+returns-5 : tie.Need-returns-5
+returns-5 c =
+    let made = c .before .before in
+    let told = made .before .before in
+    let n = told .before .before .before .args .n in
+    let op = told .enum-told5 .given .1 in
+    λ low width names marks. rw op (ran-as (made .tv-less .ensures low n n names marks) (rw (rw op at width)))
+
+returns-6 : tie.Need-returns-6
+returns-6 c =
+    let made = c .before .before in
+    let told = made .before .before in
+    let n = told .before .before .before .args .n in
+    let op = told .enum-told6 .given .1 in
+    λ low width names marks. rw op (ran-as (made .tv-less2 .ensures low n n names marks) (rw (rw op at width)))
+
+returns-7 : tie.Need-returns-7
+returns-7 c =
+    let made = c .before .before in
+    let known = made .before .before .before .before in
+    let told = known .before .before in
+    let n = told .before .before .before .args .n in
+    let op = told .enum-told7 .given .1 in
+    λ low width names marks. rw op (ran-as (ran-bind _ (known .bv-no-x .ensures low n n names marks) (made .tv-mul .ensures low n names marks)) (rw (rw op at width)))
+
+pub tv-binary-spec : {M : Type 1} → statement M
+tv-binary-spec =
+    tie.close
+    (tie.spec
+    (λ c. search needs)
+    (λ c κs. search needs)
+    (λ c. search needs)
+    (λ c κs. search needs)
+    (λ c. search needs)
+    (λ c κs. search needs)
+    (λ c. search needs)
+    (λ c κs. search needs)
+    (λ c. search needs)
+    (λ c κs. search needs)
+    (λ c. search needs)
+    (λ c κs. search needs)
+    (λ c. search needs)
+    (λ c κs. search needs)
+    (λ c κs. search needs)
+    (λ c. search needs)
+    returns
+    (λ c. search needs)
+    returns-2
+    (λ c. search needs)
+    returns-3
+    (λ c. search needs)
+    returns-4
+    (λ c. search needs)
+    returns-5
+    (λ c. search needs)
+    returns-6
+    (λ c. search needs)
+    returns-7)

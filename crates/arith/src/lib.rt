@@ -1,0 +1,196 @@
+// SmtBuilder of smt.rs: the arms of `cell` on two vectors and the shifts, from their operands' terms on.
+use builder::Built;
+use builder::BuiltTrits;
+use builder::Counts;
+use builder::TritVec;
+use engine::BinaryOp;
+use engine::Compare;
+use logic::Term;
+ghost use mathlib.Core.Path.{_≡_};
+ghost use Prim.Native.Nat.{ℕ, _-_, _<_, _≤_};
+ghost use Rattle.engine.specs.Emit.{binaryOf, compareOf};
+ghost use Rattle.cell.specs.Cell.{binaryWidth};
+ghost use Rattle.smt.specs.Builder.{bvNoX, tvEquals, tvLess, tvShift, tvMul, tvBinary};
+ghost use Rattle.builder.specs.Ran.{trits, MakesBool, MakesVector, MakesTrits};
+ghost use Rattle.arith.specs.Kinds.{kindOf, preparedOf};
+ghost use Rattle.arith.specs.Parts.{equalsUnless, amountTimes};
+
+// The operations on two vectors of one width.
+pub enum Binary {
+    And,
+    Or,
+    Xor,
+    Eq,
+    ULt,
+    SLt,
+    Mul,
+}
+
+// What prepare_shift gives: the width, the extended value and amount, and the amount times the stride.
+pub struct Prepared {
+    pub width: u32,
+    pub value: TritVec,
+    pub amount: TritVec,
+    pub amount_mul: Term,
+}
+
+// Is no bit of either operand's x set?
+pub fn bv_no_x(calls: &mut [u32], c: Counts, a: TritVec, b: TritVec, n: u32) -> Built
+    ensures { λ r. ⌜ (n ≤ 64 → (i j : ℕ) → MakesBool (bvNoX (trits i a) (trits j b) n) (now (calls .entry)) c (now (calls .exit)) r) ⌝ }
+{
+    let a_def = bits::bv_is_zero(calls, c, a.x, n);
+    let b_def = bits::bv_is_zero(calls, a_def.counts, b.x, n);
+    builder::build_and(calls, b_def.counts, a_def.term, b_def.term)
+}
+
+// ---- Eq
+
+// The rest of an Eq: it is undefined where no two defined bits are unequal and some bit is X.
+fn equals_unless(
+    calls: &mut [u32],
+    any_unequal: Built,
+    a: TritVec,
+    b: TritVec,
+    n: u32,
+) -> BuiltTrits
+    ensures { λ r. ⌜ (n ≤ 64 → (i j : ℕ) → MakesTrits (equalsUnless («any_unequal» .term .0) (trits i a) (trits j b) n) 1 (now (calls .entry)) («any_unequal» .counts) (now (calls .exit)) r) ⌝ }
+{
+    let never = builder::build_bool_lit(calls, any_unequal.counts, false);
+    let no_x = bv_no_x(calls, never.counts, a, b, n);
+    let any_x = builder::build_not(calls, no_x.counts, no_x.term);
+    let undef = builder::build_bool_ite(
+        calls,
+        any_x.counts,
+        any_unequal.term,
+        never.term,
+        any_x.term,
+    );
+    let x = bits::bool_to_bv(calls, undef.counts, undef.term);
+    let y = builder::build_binary(calls, x.counts, BinaryOp::Comp, a.y, b.y);
+    builder::trits(x.term, y)
+}
+
+pub fn tv_equals(calls: &mut [u32], c: Counts, a: TritVec, b: TritVec, n: u32) -> BuiltTrits
+    ensures { λ r. ⌜ (n ≤ 64 → (i j : ℕ) → MakesTrits (tvEquals (trits i a) (trits j b) n) 1 (now (calls .entry)) c (now (calls .exit)) r) ⌝ }
+{
+    let differ = builder::build_binary(calls, c, BinaryOp::Xor, a.y, b.y);
+    let some_x = builder::build_binary(calls, differ.counts, BinaryOp::Or, a.x, b.x);
+    let no_x = builder::build_bvnot(calls, some_x.counts, some_x.term);
+    let unequal = builder::build_binary(calls, no_x.counts, BinaryOp::And, differ.term, no_x.term);
+    let none_unequal = bits::bv_is_zero(calls, unequal.counts, unequal.term, n);
+    let any_unequal = builder::build_not(calls, none_unequal.counts, none_unequal.term);
+    equals_unless(calls, any_unequal, a, b, n)
+}
+
+// ---- ULt, SLt
+
+pub fn tv_less(
+    calls: &mut [u32],
+    c: Counts,
+    op: Compare,
+    a: TritVec,
+    b: TritVec,
+    n: u32,
+) -> BuiltTrits
+    ensures { λ r. ⌜ (n ≤ 64 → (i j : ℕ) → MakesTrits (tvLess (compareOf op) (trits i a) (trits j b) n) 1 (now (calls .entry)) c (now (calls .exit)) r) ⌝ }
+{
+    let no_x = bv_no_x(calls, c, a, b, n);
+    let any_x = builder::build_not(calls, no_x.counts, no_x.term);
+    let x = bits::bool_to_bv(calls, any_x.counts, any_x.term);
+    let less = builder::build_compare(calls, x.counts, op, a.y, b.y);
+    let y = bits::bool_to_bv(calls, less.counts, less.term);
+    builder::trits(x.term, y)
+}
+
+// ---- Shl, UShr, SShr, XShr
+
+// `bv_amount_mul`: the amount times the stride.
+pub fn amount_times(calls: &mut [u32], c: Counts, width: u32, amount: TritVec, stride: u32) -> Built
+    ensures { λ r. ⌜ (width ≤ 64 → (i : ℕ) → MakesVector (amountTimes width (trits i amount) stride) i (now (calls .entry)) c (now (calls .exit)) r) ⌝ }
+{
+    let bv_stride = builder::build_bitvec_lit(calls, c, width, stride as u64);
+    builder::build_binary(
+        calls,
+        bv_stride.counts,
+        BinaryOp::Mul,
+        amount.y,
+        bv_stride.term,
+    )
+}
+
+// The highest place of a vector of n bits.
+fn highest(n: u32) -> u32
+    ensures { λ r. ⌜ r ≡ n - 1 ⌝ }
+{
+    if 0 < n { n - 1 } else { 0 }
+}
+
+// A shift of a value of n bits, by the operations on its x and on its y.
+pub fn tv_shift(
+    calls: &mut [u32],
+    c: Counts,
+    on_x: BinaryOp,
+    on_y: BinaryOp,
+    n: u32,
+    p: Prepared,
+) -> BuiltTrits
+    ensures { λ r. ⌜ (0 < n → p .width ≤ 64 → MakesTrits (tvShift (binaryOf «on_x») (binaryOf «on_y») n (preparedOf p)) n (now (calls .entry)) c (now (calls .exit)) r) ⌝ }
+{
+    let value = p.value;
+    let amount = p.amount;
+    let no_x = bits::bv_is_zero(calls, c, amount.x, p.width);
+    let moved = builder::build_binary(calls, no_x.counts, on_x, value.x, p.amount_mul);
+    let all = builder::build_bitvec_lit(calls, moved.counts, p.width, 18446744073709551615);
+    let x = builder::build_bitvec_ite(calls, all.counts, no_x.term, moved.term, all.term);
+    let y = builder::build_binary(calls, x.counts, on_y, value.y, p.amount_mul);
+    let result = builder::trits(x.term, y);
+    trits::tv_extract(calls, result.counts, highest(n), 0, result.value)
+}
+
+// ---- Mul
+
+// All X unless the term `defined` holds.
+pub fn tv_mul(
+    calls: &mut [u32],
+    c: Counts,
+    defined: Term,
+    a: TritVec,
+    b: TritVec,
+    n: u32,
+) -> BuiltTrits
+    ensures { λ r. ⌜ (n ≤ 64 → (j : ℕ) → MakesTrits (tvMul (defined .0) (trits n a) (trits j b) n) n (now (calls .entry)) c (now (calls .exit)) r) ⌝ }
+{
+    let none = builder::build_bitvec_lit(calls, c, n, 0);
+    let all = builder::build_bitvec_lit(calls, none.counts, n, 18446744073709551615);
+    let x = builder::build_bitvec_ite(calls, all.counts, defined, none.term, all.term);
+    let y = builder::build_binary(calls, x.counts, BinaryOp::Mul, a.y, b.y);
+    builder::trits(x.term, y)
+}
+
+// ---- And, Or, Xor, Eq, ULt, SLt, Mul
+
+// An operation on two vectors of n trits, with an output of `width`.
+pub fn tv_binary(
+    calls: &mut [u32],
+    c: Counts,
+    op: Binary,
+    a: TritVec,
+    b: TritVec,
+    n: u32,
+    width: u32,
+) -> BuiltTrits
+    ensures { λ r. ⌜ (n ≤ 64 → width ≡ binaryWidth (kindOf op) n → MakesTrits (tvBinary (kindOf op) (trits n a) (trits n b) n width) width (now (calls .entry)) c (now (calls .exit)) r) ⌝ }
+{
+    match op {
+        Binary::And => trits::tv_and(calls, c, a, b, width),
+        Binary::Or => trits::tv_or(calls, c, a, b, width),
+        Binary::Xor => trits::tv_xor(calls, c, a, b),
+        Binary::Eq => tv_equals(calls, c, a, b, n),
+        Binary::ULt => tv_less(calls, c, Compare::Ult, a, b, n),
+        Binary::SLt => tv_less(calls, c, Compare::Slt, a, b, n),
+        Binary::Mul => {
+            let no_x = bv_no_x(calls, c, a, b, n);
+            tv_mul(calls, no_x.counts, no_x.term, a, b, n)
+        }
+    }
+}
