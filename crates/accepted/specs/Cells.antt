@@ -6,11 +6,12 @@ use Prim.Native.Nat.{ℕ, _+_, _≤_}
 use native.Mathlib.Omega.{arith}
 use lib.ListN.{length}
 use Rattle.logic.specs.Table.{length-tab}
+use Rattle.operators.specs.Operators.{binaryLeast, shiftLeast}
 use Rattle.cell.specs.Cell.{Cell, Unary, Binary, Shift}
 use Rattle.cell.specs.Cell as C
 use Rattle.cell.specs.Operation.{lead, body, numbersOf, fieldsOf}
 use Rattle.cell.specs.declared.Operation.{Operation}
-use Rattle.cell.specs.declared.Operation.the-variants.{Void, Buf, Not, And, Or, Xor, Mux, Adc, Aig, Eq, ULt, SLt, Shl, UShr, SShr, XShr, Mul, Match, Assign, Dff, IoBuf, Input, Note}
+use Rattle.cell.specs.declared.Operation.the-variants as O
 use Rattle.cell_reader.specs.Parse.{numberIn, netIn, controlIn, netsIn, tritsIn, patternsIn, cellIn, opAt, cellAt}
 use Rattle.cell_reader.specs.Accepted.{length-patterns, IsLeading, IsRecord}
 use Rattle.rules.specs.Shape.{Shaped, Wide, WideShift}
@@ -19,6 +20,22 @@ use Rattle.working_out.specs.Laid.{netsOf}
 use Rattle.bound.specs.Costs.{sumBy}
 use Rattle.bound.specs.Bounded.{Bounded, recordWords, patternWords}
 use Rattle.accepted.specs.Fields.{Stands, net, vector, Body, body-of, patterns-shaped}
+
+-- Fault 7: the least n that an operation asks is what its rule needs.
+pub wide-binary : (op : Binary) (n : ℕ) → (binaryLeast op ≤ n → Wide op n) × (Wide op n → binaryLeast op ≤ n)
+wide-binary C.and n = (λ _. tt, λ _. omega arith)
+wide-binary C.or n = (λ _. tt, λ _. omega arith)
+wide-binary C.xor n = (λ _. tt, λ _. omega arith)
+wide-binary C.eq n = (λ low. low, λ wide. wide)
+wide-binary C.ult n = (λ low. low, λ wide. wide)
+wide-binary C.slt n = (λ low. low, λ wide. wide)
+wide-binary C.mul n = (λ _. tt, λ _. omega arith)
+
+pub wide-shift : (op : Shift) (n : ℕ) → (shiftLeast op ≤ n → WideShift op n) × (WideShift op n → shiftLeast op ≤ n)
+wide-shift C.shl n = (λ _. tt, λ _. omega arith)
+wide-shift C.ushr n = (λ _. tt, λ _. omega arith)
+wide-shift C.sshr n = (λ low. low, λ wide. wide)
+wide-shift C.xshr n = (λ _. tt, λ _. omega arith)
 
 -- A cell whose numbers stand from a place on, its nets from `start` on, and whose record ends at `end`.
 pub record IsCell (w : List ℕ) (total at start end : ℕ) (c : Cell) : Type 0 where
@@ -185,7 +202,7 @@ module _ (w : List ℕ) (total end at : ℕ) where
   dff-is :
       {n m start : ℕ} → IsLeading w (lead 2 0 1 false) end at n m start →
       Body w total (body 4 n (n + n) 0 n) n end start →
-      IsCell w total at start end (cellIn w Dff at)
+      IsCell w total at start end (cellIn w O.Dff at)
   unfolding patternsIn sumBy
   dff-is {n = n} leading fields =
       let first = leading .first (omega arith) in
@@ -231,29 +248,19 @@ module _ (w : List ℕ) (total end at : ℕ) where
       (op : Operation) {n m start : ℕ} → IsLeading w (numbersOf op) end at n m start →
       Body w total (fieldsOf op n m) n end start →
       IsCell w total at start end (cellIn w op at)
-  cell-in Void l b = record { shaped = tt; stands = tt; bounded = tt; words = empty-is l b }
-  cell-in Buf l b = unary-is C.buf l b
-  cell-in Not l b = unary-is C.not l b
-  cell-in And l b = binary-is C.and (λ _. tt) l b
-  cell-in Or l b = binary-is C.or (λ _. tt) l b
-  cell-in Xor l b = binary-is C.xor (λ _. tt) l b
-  cell-in Mux l b = mux-is l b
-  cell-in Adc l b = adc-is l b
-  cell-in Aig l b = aig-is l b
-  cell-in Eq l b = binary-is C.eq (λ wide. wide) l b
-  cell-in ULt l b = binary-is C.ult (λ wide. wide) l b
-  cell-in SLt l b = binary-is C.slt (λ wide. wide) l b
-  cell-in Shl l b = shift-is C.shl (λ _. tt) l b
-  cell-in UShr l b = shift-is C.ushr (λ _. tt) l b
-  cell-in SShr l b = shift-is C.sshr (λ wide. wide) l b
-  cell-in XShr l b = shift-is C.xshr (λ _. tt) l b
-  cell-in Mul l b = binary-is C.mul (λ _. tt) l b
-  cell-in Match l b = match-is l b
-  cell-in Assign l b = assign-is l b
-  cell-in Dff l b = dff-is l b
-  cell-in IoBuf l b = let is = number-is l b in record { shaped = tt; stands = tt; bounded = is .0; words = is .1 }
-  cell-in Input l b = let is = number-is l b in record { shaped = tt; stands = tt; bounded = is .0; words = is .1 }
-  cell-in Note l b = record { shaped = tt; stands = tt; bounded = tt; words = empty-is l b }
+  cell-in O.Void l b = record { shaped = tt; stands = tt; bounded = tt; words = empty-is l b }
+  cell-in O.Note l b = record { shaped = tt; stands = tt; bounded = tt; words = empty-is l b }
+  cell-in O.IoBuf l b = let is = number-is l b in record { shaped = tt; stands = tt; bounded = is .0; words = is .1 }
+  cell-in O.Input l b = let is = number-is l b in record { shaped = tt; stands = tt; bounded = is .0; words = is .1 }
+  cell-in (O.Unary operator) l b = unary-is operator l b
+  cell-in (O.Binary operator) {n} l b = binary-is operator (wide-binary operator n .0) l b
+  cell-in O.Mux l b = mux-is l b
+  cell-in O.Adc l b = adc-is l b
+  cell-in O.Aig l b = aig-is l b
+  cell-in (O.Shift operator) {n} l b = shift-is operator (wide-shift operator n .0) l b
+  cell-in O.Match l b = match-is l b
+  cell-in O.Assign l b = assign-is l b
+  cell-in O.Dff l b = dff-is l b
 
 -- The cell of a record that was read.
 pub cell-read :

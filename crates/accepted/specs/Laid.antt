@@ -14,7 +14,7 @@ use Rattle.cell.specs.Cell as C
 use Rattle.cell.specs.Operation.{mayReplace}
 use Rattle.cell.specs.Design.{Placed, NetPair, Design, total}
 use Rattle.cell.specs.declared.Operation.{Operation}
-use Rattle.cell.specs.declared.Operation.the-variants.{Void, Buf, Not, And, Or, Xor, Mux, Adc, Aig, Eq, ULt, SLt, Shl, UShr, SShr, XShr, Mul, Match, Assign, Dff, IoBuf, Input, Note}
+use Rattle.cell.specs.declared.Operation.the-variants as O
 use Rattle.cell_reader.specs.Parse as Parse
 use Rattle.cell_reader.specs.Parse.{numberIn, opAt, cellAt}
 use Rattle.cell_reader.specs.Accepted.{IsRecord}
@@ -119,29 +119,19 @@ not-void (C.assign value enable update offset) e = refl
 not-void (C.dff f) e = refl
 
 may-replace : (w : List ℕ) (op : Operation) (at : ℕ) → mayReplace op ≡ true → MayReplace (Parse.cellIn w op at)
-may-replace w Void at e = absurd (false≢true e)
-may-replace w Buf at e = tt
-may-replace w Not at e = tt
-may-replace w And at e = tt
-may-replace w Or at e = tt
-may-replace w Xor at e = tt
-may-replace w Mux at e = tt
-may-replace w Adc at e = tt
-may-replace w Aig at e = tt
-may-replace w Eq at e = tt
-may-replace w ULt at e = tt
-may-replace w SLt at e = tt
-may-replace w Shl at e = tt
-may-replace w UShr at e = tt
-may-replace w SShr at e = tt
-may-replace w XShr at e = tt
-may-replace w Mul at e = tt
-may-replace w Match at e = tt
-may-replace w Assign at e = tt
-may-replace w Dff at e = tt
-may-replace w IoBuf at e = tt
-may-replace w Input at e = absurd (false≢true e)
-may-replace w Note at e = absurd (false≢true e)
+may-replace w O.Void at e = absurd (false≢true e)
+may-replace w O.Note at e = absurd (false≢true e)
+may-replace w O.IoBuf at e = tt
+may-replace w O.Input at e = absurd (false≢true e)
+may-replace w (O.Unary operator) at e = tt
+may-replace w (O.Binary operator) at e = tt
+may-replace w O.Mux at e = tt
+may-replace w O.Adc at e = tt
+may-replace w O.Aig at e = tt
+may-replace w (O.Shift operator) at e = tt
+may-replace w O.Match at e = tt
+may-replace w O.Assign at e = tt
+may-replace w O.Dff at e = tt
 
 -- A slot that heads a base cell, as the reader tests it.
 record Heads (cells : List Placed) (base slot width : ℕ) : Type 0 where

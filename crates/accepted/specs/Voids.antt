@@ -15,7 +15,7 @@ use Rattle.cell.specs.Cell as C
 use Rattle.cell.specs.Operation.{numbersOf, fieldsOf, standingOf}
 use Rattle.cell.specs.Design.{Placed, NetPair, Design, total}
 use Rattle.cell.specs.declared.Operation.{Operation}
-use Rattle.cell.specs.declared.Operation.the-variants.{Void, Buf, Not, And, Or, Xor, Mux, Adc, Aig, Eq, ULt, SLt, Shl, UShr, SShr, XShr, Mul, Match, Assign, Dff, IoBuf, Input, Note}
+use Rattle.cell.specs.declared.Operation.the-variants as O
 use Rattle.fields.specs.declared.Scan.{Scan}
 use Rattle.fields.specs.declared.Scan.the-variants as S
 use Rattle.fields.specs.Field.{fault, scanMany}
@@ -123,9 +123,9 @@ module _ (w : List ℕ) (d : Design) (run : Run 0 (d .cells) (total d)) where
 
     -- A Dff's clock is its third field.
     flip-flop :
-        {n m start : ℕ} → IsLeading w (numbersOf Dff) end (at + 1) n m start →
-        Body w (total d) (fieldsOf Dff n m) n end start → Clean (at + 3) (at + 1) end →
-        Each (NoVoid d) (netsBesideClock (cellIn w Dff (at + 1)))
+        {n m start : ℕ} → IsLeading w (numbersOf O.Dff) end (at + 1) n m start →
+        Body w (total d) (fieldsOf O.Dff n m) n end start → Clean (at + 3) (at + 1) end →
+        Each (NoVoid d) (netsBesideClock (cellIn w O.Dff (at + 1)))
     unfolding Clean
     flip-flop {n} leading fields clean =
         let first = leading .first (omega arith) in
@@ -153,29 +153,19 @@ module _ (w : List ℕ) (d : Design) (run : Run 0 (d .cells) (total d)) where
         Clean (cond (eqb (standingOf op) 1) (at + 3) 0) (at + 1) end →
         Each (Stands w (total d) start end) (netsOf (cellIn w op (at + 1))) →
         Each (NoVoid d) (netsBesideClock (cellIn w op (at + 1)))
-    cell-avoids Void l b c s = plain Void (omega arith) l c s
-    cell-avoids Buf l b c s = plain Buf (omega arith) l c s
-    cell-avoids Not l b c s = plain Not (omega arith) l c s
-    cell-avoids And l b c s = plain And (omega arith) l c s
-    cell-avoids Or l b c s = plain Or (omega arith) l c s
-    cell-avoids Xor l b c s = plain Xor (omega arith) l c s
-    cell-avoids Mux l b c s = plain Mux (omega arith) l c s
-    cell-avoids Adc l b c s = plain Adc (omega arith) l c s
-    cell-avoids Aig l b c s = plain Aig (omega arith) l c s
-    cell-avoids Eq l b c s = plain Eq (omega arith) l c s
-    cell-avoids ULt l b c s = plain ULt (omega arith) l c s
-    cell-avoids SLt l b c s = plain SLt (omega arith) l c s
-    cell-avoids Shl l b c s = plain Shl (omega arith) l c s
-    cell-avoids UShr l b c s = plain UShr (omega arith) l c s
-    cell-avoids SShr l b c s = plain SShr (omega arith) l c s
-    cell-avoids XShr l b c s = plain XShr (omega arith) l c s
-    cell-avoids Mul l b c s = plain Mul (omega arith) l c s
-    cell-avoids Match l b c s = plain Match (omega arith) l c s
-    cell-avoids Assign l b c s = plain Assign (omega arith) l c s
-    cell-avoids Dff l b c s = flip-flop l b c
-    cell-avoids IoBuf l b c s = plain IoBuf (omega arith) l c s
-    cell-avoids Input l b c s = plain Input (omega arith) l c s
-    cell-avoids Note l b c s = plain Note (omega arith) l c s
+    cell-avoids O.Void l b c s = plain O.Void (omega arith) l c s
+    cell-avoids O.Note l b c s = plain O.Note (omega arith) l c s
+    cell-avoids O.IoBuf l b c s = plain O.IoBuf (omega arith) l c s
+    cell-avoids O.Input l b c s = plain O.Input (omega arith) l c s
+    cell-avoids (O.Unary operator) l b c s = plain (O.Unary operator) (omega arith) l c s
+    cell-avoids (O.Binary operator) l b c s = plain (O.Binary operator) (omega arith) l c s
+    cell-avoids O.Mux l b c s = plain O.Mux (omega arith) l c s
+    cell-avoids O.Adc l b c s = plain O.Adc (omega arith) l c s
+    cell-avoids O.Aig l b c s = plain O.Aig (omega arith) l c s
+    cell-avoids (O.Shift operator) l b c s = plain (O.Shift operator) (omega arith) l c s
+    cell-avoids O.Match l b c s = plain O.Match (omega arith) l c s
+    cell-avoids O.Assign l b c s = plain O.Assign (omega arith) l c s
+    cell-avoids O.Dff l b c s = flip-flop l b c
 
   record-avoids :
       {at : ℕ} {op : Operation} {width next after : ℕ} → IsRecord w (total d) at op width next →

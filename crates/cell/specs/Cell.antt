@@ -1,27 +1,22 @@
 -- Document 01, "Words": a cell, its output width and the slots it takes. The abstract syntax that every other layer uses.
-use mathlib.Core.Bool.{Bool}
+use mathlib.Core.Bool.{Bool, cond}
 use mathlib.Core.List.{List}
 use Prim.Native.Nat.{ℕ, _+_, max}
 use lib.ListN.{length}
 use Rattle.logic.specs.Net.{Net}
 use Rattle.logic.specs.declared.Trit.{Trit}
+use Rattle.operators.specs.Operators.{compares}
+pub use Rattle.operators.specs.declared.Unary.{Unary}
+pub use Rattle.operators.specs.declared.Unary.the-variants.{Buf as buf, Not as not}
+pub use Rattle.operators.specs.declared.Binary.{Binary}
+pub use Rattle.operators.specs.declared.Binary.the-variants.{And as and, Or as or, Xor as xor, Eq as eq, ULt as ult, SLt as slt, Mul as mul}
+pub use Rattle.operators.specs.declared.Shift.{Shift}
+pub use Rattle.operators.specs.declared.Shift.the-variants.{Shl as shl, UShr as ushr, SShr as sshr, XShr as xshr}
 
 -- A net that may be inverted (`ControlNet`).
 pub record Control : Type 0 where
   pub net : Net
   pub inverted : Bool
-
--- Operations on one vector, #n n*.
-pub data Unary : Type 0 where
-  buf not : Unary
-
--- Operations on two vectors of one width, #n n* n*.
-pub data Binary : Type 0 where
-  and or xor eq ult slt mul : Binary
-
--- Shifts, #n #m #stride n* m*.
-pub data Shift : Type 0 where
-  shl ushr sshr xshr : Shift
 
 -- A flip-flop (`FlipFlop`); its width is that of its data.
 pub record FlipFlop : Type 0 where
@@ -50,14 +45,9 @@ pub data Cell : Type 0 where
   assign : List Net → Net → List Net → ℕ → Cell
   dff : FlipFlop → Cell
 
+-- The output width of an operation on two vectors of n nets: a comparison gives one.
 abbrev pub binaryWidth : Binary → ℕ → ℕ
-binaryWidth and n = n
-binaryWidth or n = n
-binaryWidth xor n = n
-binaryWidth mul n = n
-binaryWidth eq n = 1
-binaryWidth ult n = 1
-binaryWidth slt n = 1
+binaryWidth op n = cond (compares op) 1 n
 
 -- The output width (`output_len`).
 abbrev pub outputLen : Cell → ℕ

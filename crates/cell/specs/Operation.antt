@@ -1,11 +1,17 @@
 -- Document 01, "Words", "Operations and bodies": which operations there are, how the body of each is laid out, and its output width.
--- Every body is a few numbers, then controls, then nets, then constants, then patterns. A new operation is a line of each definition.
+-- Every body is a few numbers, then controls, then nets, then constants, then patterns. An operation on one vector, on two or a shift is
+-- known by its layout and its kind (`Cell`): a new one of them is a row of `operations` and of the tables of its kind.
 use Prim.Native.Nat.{ℕ, _+_}
 use mathlib.Core.Bool.{Bool, true, false}
 use mathlib.Core.List.{List, [], _∷_, map}
 use lib.ListN.{getD}
+use Rattle.operators.specs.Operators.{binaryLeast, shiftLeast}
+use Rattle.cell.specs.Cell.{binaryWidth}
+use Rattle.cell.specs.Cell as C
 use Rattle.cell.specs.declared.Operation.{Operation}
-use Rattle.cell.specs.declared.Operation.the-variants.{Void, Buf, Not, And, Or, Xor, Mux, Adc, Aig, Eq, ULt, SLt, Shl, UShr, SShr, XShr, Mul, Match, Assign, Dff, IoBuf, Input, Note}
+use Rattle.cell.specs.declared.Operation.the-variants as O
+use Rattle.cell.specs.declared.Layout.{Layout}
+use Rattle.cell.specs.declared.Layout.the-variants as L
 use Rattle.cell.specs.declared.Decoded.{Decoded}
 use Rattle.cell.specs.declared.Decoded.the-variants.{Known, Unknown}
 use Rattle.cell.specs.declared.Numbers.{Numbers}
@@ -14,123 +20,147 @@ use Rattle.cell.specs.declared.Fields.{Fields}
 -- The operations by their numbers, from 0.
 abbrev pub operations : List Operation
 operations =
-    Void ∷ Buf ∷ Not ∷ And ∷ Or ∷ Xor ∷ Mux ∷ Adc ∷ Aig ∷ Eq ∷ ULt ∷ SLt ∷ Shl ∷ UShr ∷ SShr ∷ XShr ∷
-    Mul ∷ Match ∷ Assign ∷ Dff ∷ IoBuf ∷ Input ∷ Note ∷ []
+    O.Void ∷ O.Unary C.buf ∷ O.Unary C.not ∷ O.Binary C.and ∷ O.Binary C.or ∷ O.Binary C.xor ∷ O.Mux ∷ O.Adc ∷ O.Aig ∷
+    O.Binary C.eq ∷ O.Binary C.ult ∷ O.Binary C.slt ∷ O.Shift C.shl ∷ O.Shift C.ushr ∷ O.Shift C.sshr ∷ O.Shift C.xshr ∷
+    O.Binary C.mul ∷ O.Match ∷ O.Assign ∷ O.Dff ∷ O.IoBuf ∷ O.Input ∷ O.Note ∷ []
 
 abbrev pub operationOf : ℕ → Decoded
 operationOf number = getD (map Known operations) number Unknown
+
+-- "0 Void, empty; 1 Buf, 2 Not: #n n*; 3 And, 4 Or, 5 Xor, 9 Eq, 10 ULt, 11 SLt, 16 Mul .. 22 Note".
+abbrev pub numberOf : Operation → ℕ
+numberOf O.Void = 0
+numberOf (O.Unary C.buf) = 1
+numberOf (O.Unary C.not) = 2
+numberOf (O.Binary C.and) = 3
+numberOf (O.Binary C.or) = 4
+numberOf (O.Binary C.xor) = 5
+numberOf O.Mux = 6
+numberOf O.Adc = 7
+numberOf O.Aig = 8
+numberOf (O.Binary C.eq) = 9
+numberOf (O.Binary C.ult) = 10
+numberOf (O.Binary C.slt) = 11
+numberOf (O.Shift C.shl) = 12
+numberOf (O.Shift C.ushr) = 13
+numberOf (O.Shift C.sshr) = 14
+numberOf (O.Shift C.xshr) = 15
+numberOf (O.Binary C.mul) = 16
+numberOf O.Match = 17
+numberOf O.Assign = 18
+numberOf O.Dff = 19
+numberOf O.IoBuf = 20
+numberOf O.Input = 21
+numberOf O.Note = 22
+
+-- The layout of each operation's body.
+abbrev pub layoutOf : Operation → Layout
+layoutOf O.Void = L.Empty
+layoutOf O.Note = L.Empty
+layoutOf O.IoBuf = L.Port
+layoutOf O.Input = L.Port
+layoutOf (O.Unary operator) = L.Unary
+layoutOf (O.Binary operator) = L.Binary operator
+layoutOf O.Mux = L.Mux
+layoutOf O.Adc = L.Adc
+layoutOf O.Aig = L.Aig
+layoutOf (O.Shift operator) = L.Shift operator
+layoutOf O.Match = L.Match
+layoutOf O.Assign = L.Assign
+layoutOf O.Dff = L.Dff
 
 -- The numbers that lead a body: how many (n, then m, k, u or a flag, then a stride or an offset), the least n, the bound of the second, and whether
 -- offset + u must be within n.
 abbrev pub lead : ℕ → ℕ → ℕ → Bool → Numbers
 lead count least second within = record { count = count; least = least; second = second; within = within }
 
--- The numbers of each body: k, u ≤ 63, m ≤ 32, flag ≤ 1 (n ≤ 63 in all); Eq, ULt, SLt and SShr need n > 0 (fault 7); in Assign
--- offset + u must be within n (fault 9).
+-- The numbers of each layout: k, u ≤ 63, m ≤ 32, flag ≤ 1 (n ≤ 63 in all); in Assign offset + u must be within n (fault 9).
+abbrev pub numbersIn : Layout → Numbers
+numbersIn L.Empty = lead 0 0 0 false
+-- #n
+numbersIn L.Port = lead 1 0 0 false
+-- #n n*
+numbersIn L.Unary = lead 1 0 0 false
+-- #n n* n*
+numbersIn (L.Binary operator) = lead 1 (binaryLeast operator) 0 false
+-- #n s n* n*
+numbersIn L.Mux = lead 1 0 0 false
+-- #n n* n* c
+numbersIn L.Adc = lead 1 0 0 false
+-- two controls
+numbersIn L.Aig = lead 0 0 0 false
+-- #n #m #stride n* m*
+numbersIn (L.Shift operator) = lead 3 (shiftLeast operator) 32 false
+-- #n #k enable n*, the patterns
+numbersIn L.Match = lead 2 0 63 false
+-- #n #u #offset enable n* u*
+numbersIn L.Assign = lead 3 0 63 true
+-- #n #reset-over-enable clock clear reset enable, n* data, n* clear value, n* reset value
+numbersIn L.Dff = lead 2 0 1 false
+
 abbrev pub numbersOf : Operation → Numbers
-numbersOf Void = lead 0 0 0 false
-numbersOf Buf = lead 1 0 0 false
-numbersOf Not = lead 1 0 0 false
-numbersOf And = lead 1 0 0 false
-numbersOf Or = lead 1 0 0 false
-numbersOf Xor = lead 1 0 0 false
-numbersOf Mux = lead 1 0 0 false
-numbersOf Adc = lead 1 0 0 false
-numbersOf Aig = lead 0 0 0 false
-numbersOf Eq = lead 1 1 0 false
-numbersOf ULt = lead 1 1 0 false
-numbersOf SLt = lead 1 1 0 false
-numbersOf Shl = lead 3 0 32 false
-numbersOf UShr = lead 3 0 32 false
-numbersOf SShr = lead 3 1 32 false
-numbersOf XShr = lead 3 0 32 false
-numbersOf Mul = lead 1 0 0 false
-numbersOf Match = lead 2 0 63 false
-numbersOf Assign = lead 3 0 63 true
-numbersOf Dff = lead 2 0 1 false
-numbersOf IoBuf = lead 1 0 0 false
-numbersOf Input = lead 1 0 0 false
-numbersOf Note = lead 0 0 0 false
+numbersOf op = numbersIn (layoutOf op)
 
 -- What follows the numbers, in this order, and the output width.
 abbrev pub body : ℕ → ℕ → ℕ → ℕ → ℕ → Fields
 body controls nets constants patterns width =
     record { controls = controls; nets = nets; constants = constants; patterns = patterns; width = width }
 
--- What follows the numbers n and m (m also stands for k and u), and the output width (`output_len`).
+-- What follows the numbers n and m (m also stands for k and u) in each layout, and the output width (`output_len`).
+abbrev pub fieldsIn : Layout → ℕ → ℕ → Fields
+fieldsIn L.Empty n m = body 0 0 0 0 0
+-- #n
+fieldsIn L.Port n m = body 0 0 0 0 n
+-- #n n*
+fieldsIn L.Unary n m = body 0 n 0 0 n
+-- #n n* n*
+fieldsIn (L.Binary operator) n m = body 0 (n + n) 0 0 (binaryWidth operator n)
+-- #n s n* n*
+fieldsIn L.Mux n m = body 0 (1 + n + n) 0 0 n
+-- #n n* n* c
+fieldsIn L.Adc n m = body 0 (n + n + 1) 0 0 (n + 1)
+-- two controls
+fieldsIn L.Aig n m = body 2 0 0 0 1
+-- #n #m #stride n* m*
+fieldsIn (L.Shift operator) n m = body 0 (n + m) 0 0 n
+-- #n #k enable n*, the patterns
+fieldsIn L.Match n m = body 0 (1 + n) 0 m m
+-- #n #u #offset enable n* u*
+fieldsIn L.Assign n m = body 0 (1 + n + m) 0 0 n
+-- #n #reset-over-enable clock clear reset enable, n* data, n* clear value, n* reset value
+fieldsIn L.Dff n m = body 4 n (n + n) 0 n
+
 abbrev pub fieldsOf : Operation → ℕ → ℕ → Fields
-fieldsOf Void n m = body 0 0 0 0 0
-fieldsOf Buf n m = body 0 n 0 0 n
-fieldsOf Not n m = body 0 n 0 0 n
-fieldsOf And n m = body 0 (n + n) 0 0 n
-fieldsOf Or n m = body 0 (n + n) 0 0 n
-fieldsOf Xor n m = body 0 (n + n) 0 0 n
-fieldsOf Mux n m = body 0 (1 + n + n) 0 0 n
-fieldsOf Adc n m = body 0 (n + n + 1) 0 0 (n + 1)
-fieldsOf Aig n m = body 2 0 0 0 1
-fieldsOf Eq n m = body 0 (n + n) 0 0 1
-fieldsOf ULt n m = body 0 (n + n) 0 0 1
-fieldsOf SLt n m = body 0 (n + n) 0 0 1
-fieldsOf Shl n m = body 0 (n + m) 0 0 n
-fieldsOf UShr n m = body 0 (n + m) 0 0 n
-fieldsOf SShr n m = body 0 (n + m) 0 0 n
-fieldsOf XShr n m = body 0 (n + m) 0 0 n
-fieldsOf Mul n m = body 0 (n + n) 0 0 n
-fieldsOf Match n m = body 0 (1 + n) 0 m m
-fieldsOf Assign n m = body 0 (1 + n + m) 0 0 n
-fieldsOf Dff n m = body 4 n (n + n) 0 n
-fieldsOf IoBuf n m = body 0 0 0 0 n
-fieldsOf Input n m = body 0 0 0 0 n
-fieldsOf Note n m = body 0 0 0 0 0
+fieldsOf op n m = fieldsIn (layoutOf op) n m
 
 -- What stands at a slot, as far as reading nets goes: 0 a Void, 1 a Dff, 2 another cell.
 abbrev pub standingOf : Operation → ℕ
-standingOf Void = 0
-standingOf Buf = 2
-standingOf Not = 2
-standingOf And = 2
-standingOf Or = 2
-standingOf Xor = 2
-standingOf Mux = 2
-standingOf Adc = 2
-standingOf Aig = 2
-standingOf Eq = 2
-standingOf ULt = 2
-standingOf SLt = 2
-standingOf Shl = 2
-standingOf UShr = 2
-standingOf SShr = 2
-standingOf XShr = 2
-standingOf Mul = 2
-standingOf Match = 2
-standingOf Assign = 2
-standingOf Dff = 1
-standingOf IoBuf = 2
-standingOf Input = 2
-standingOf Note = 2
+standingOf O.Void = 0
+standingOf O.Note = 2
+standingOf O.IoBuf = 2
+standingOf O.Input = 2
+standingOf (O.Unary operator) = 2
+standingOf (O.Binary operator) = 2
+standingOf O.Mux = 2
+standingOf O.Adc = 2
+standingOf O.Aig = 2
+standingOf (O.Shift operator) = 2
+standingOf O.Match = 2
+standingOf O.Assign = 2
+standingOf O.Dff = 1
 
 -- Void, Input and Note may not be the new cell of a replacement (fault 12).
 abbrev pub mayReplace : Operation → Bool
-mayReplace Void = false
-mayReplace Buf = true
-mayReplace Not = true
-mayReplace And = true
-mayReplace Or = true
-mayReplace Xor = true
-mayReplace Mux = true
-mayReplace Adc = true
-mayReplace Aig = true
-mayReplace Eq = true
-mayReplace ULt = true
-mayReplace SLt = true
-mayReplace Shl = true
-mayReplace UShr = true
-mayReplace SShr = true
-mayReplace XShr = true
-mayReplace Mul = true
-mayReplace Match = true
-mayReplace Assign = true
-mayReplace Dff = true
-mayReplace IoBuf = true
-mayReplace Input = false
-mayReplace Note = false
+mayReplace O.Void = false
+mayReplace O.Note = false
+mayReplace O.IoBuf = true
+mayReplace O.Input = false
+mayReplace (O.Unary operator) = true
+mayReplace (O.Binary operator) = true
+mayReplace O.Mux = true
+mayReplace O.Adc = true
+mayReplace O.Aig = true
+mayReplace (O.Shift operator) = true
+mayReplace O.Match = true
+mayReplace O.Assign = true
+mayReplace O.Dff = true

@@ -1,32 +1,41 @@
 // Cells: their operations, and how the body of each is laid out in the words of a design list (cell.rs of the original).
+use operators::Binary;
+use operators::Shift;
+use operators::Unary;
 ghost use mathlib.Core.Path.{_≡_};
-ghost use Rattle.cell.specs.Operation.{operationOf, lead, numbersOf, body, fieldsOf, standingOf, mayReplace};
+ghost use Rattle.cell.specs.Cell.{binaryWidth};
+ghost use Rattle.cell.specs.Operation.{operationOf, lead, body, layoutOf, numbersIn, fieldsIn, numbersOf, fieldsOf, standingOf, mayReplace};
 
-// The operations, in the order of their numbers, 0 to 22.
+// The operations, those of one layout together.
 pub enum Operation {
     Void,
-    Buf,
-    Not,
-    And,
-    Or,
-    Xor,
+    Note,
+    IoBuf,
+    Input,
+    Unary(Unary),
+    Binary(Binary),
     Mux,
     Adc,
     Aig,
-    Eq,
-    ULt,
-    SLt,
-    Shl,
-    UShr,
-    SShr,
-    XShr,
-    Mul,
+    Shift(Shift),
     Match,
     Assign,
     Dff,
-    IoBuf,
-    Input,
-    Note,
+}
+
+// How a body is laid out; an operation on two vectors and a shift have numbers or an output width of their own.
+pub enum Layout {
+    Empty,
+    Port,
+    Unary,
+    Binary(Binary),
+    Mux,
+    Adc,
+    Aig,
+    Shift(Shift),
+    Match,
+    Assign,
+    Dff,
 }
 
 // What an operation's number names.
@@ -59,22 +68,22 @@ pub fn operation_of(number: u32) -> Decoded
 {
     match number {
         0 => Decoded::Known(Operation::Void),
-        1 => Decoded::Known(Operation::Buf),
-        2 => Decoded::Known(Operation::Not),
-        3 => Decoded::Known(Operation::And),
-        4 => Decoded::Known(Operation::Or),
-        5 => Decoded::Known(Operation::Xor),
+        1 => Decoded::Known(Operation::Unary(Unary::Buf)),
+        2 => Decoded::Known(Operation::Unary(Unary::Not)),
+        3 => Decoded::Known(Operation::Binary(Binary::And)),
+        4 => Decoded::Known(Operation::Binary(Binary::Or)),
+        5 => Decoded::Known(Operation::Binary(Binary::Xor)),
         6 => Decoded::Known(Operation::Mux),
         7 => Decoded::Known(Operation::Adc),
         8 => Decoded::Known(Operation::Aig),
-        9 => Decoded::Known(Operation::Eq),
-        10 => Decoded::Known(Operation::ULt),
-        11 => Decoded::Known(Operation::SLt),
-        12 => Decoded::Known(Operation::Shl),
-        13 => Decoded::Known(Operation::UShr),
-        14 => Decoded::Known(Operation::SShr),
-        15 => Decoded::Known(Operation::XShr),
-        16 => Decoded::Known(Operation::Mul),
+        9 => Decoded::Known(Operation::Binary(Binary::Eq)),
+        10 => Decoded::Known(Operation::Binary(Binary::ULt)),
+        11 => Decoded::Known(Operation::Binary(Binary::SLt)),
+        12 => Decoded::Known(Operation::Shift(Shift::Shl)),
+        13 => Decoded::Known(Operation::Shift(Shift::UShr)),
+        14 => Decoded::Known(Operation::Shift(Shift::SShr)),
+        15 => Decoded::Known(Operation::Shift(Shift::XShr)),
+        16 => Decoded::Known(Operation::Binary(Binary::Mul)),
         17 => Decoded::Known(Operation::Match),
         18 => Decoded::Known(Operation::Assign),
         19 => Decoded::Known(Operation::Dff),
@@ -110,68 +119,89 @@ pub fn body(controls: usize, nets: usize, constants: usize, patterns: usize, wid
     }
 }
 
+// The layout of an operation's body.
+pub fn layout_of(op: Operation) -> Layout
+    ensures { λ r. ⌜ r ≡ layoutOf op ⌝ }
+{
+    match op {
+        Operation::Void => Layout::Empty,
+        Operation::Note => Layout::Empty,
+        Operation::IoBuf => Layout::Port,
+        Operation::Input => Layout::Port,
+        Operation::Unary(_) => Layout::Unary,
+        Operation::Binary(operator) => Layout::Binary(operator),
+        Operation::Mux => Layout::Mux,
+        Operation::Adc => Layout::Adc,
+        Operation::Aig => Layout::Aig,
+        Operation::Shift(operator) => Layout::Shift(operator),
+        Operation::Match => Layout::Match,
+        Operation::Assign => Layout::Assign,
+        Operation::Dff => Layout::Dff,
+    }
+}
+
+// The output width of an operation on two vectors of n nets.
+pub fn binary_width(operator: Binary, n: usize) -> usize
+    ensures { λ r. ⌜ r ≡ binaryWidth operator n ⌝ }
+{
+    if operators::compares(operator) {
+        return 1;
+    }
+    n
+}
+
+// The numbers that lead a body of a layout.
+pub fn numbers_in(layout: Layout) -> Numbers
+    ensures { λ r. ⌜ r ≡ numbersIn layout ⌝ }
+{
+    match layout {
+        Layout::Empty => lead(0, 0, 0, false),
+        Layout::Port => lead(1, 0, 0, false),
+        Layout::Unary => lead(1, 0, 0, false),
+        Layout::Binary(operator) => lead(1, operators::binary_least(operator), 0, false),
+        Layout::Mux => lead(1, 0, 0, false),
+        Layout::Adc => lead(1, 0, 0, false),
+        Layout::Aig => lead(0, 0, 0, false),
+        Layout::Shift(operator) => lead(3, operators::shift_least(operator), 32, false),
+        Layout::Match => lead(2, 0, 63, false),
+        Layout::Assign => lead(3, 0, 63, true),
+        Layout::Dff => lead(2, 0, 1, false),
+    }
+}
+
+// The fields that follow the numbers n and m of a layout, and the output width.
+pub fn fields_in(layout: Layout, first: u32, second: u32) -> Fields
+    ensures { λ r. ⌜ r ≡ fieldsIn layout first second ⌝ }
+{
+    let n = first as usize;
+    let m = second as usize;
+    match layout {
+        Layout::Empty => body(0, 0, 0, 0, 0),
+        Layout::Port => body(0, 0, 0, 0, n),
+        Layout::Unary => body(0, n, 0, 0, n),
+        Layout::Binary(operator) => body(0, n + n, 0, 0, binary_width(operator, n)),
+        Layout::Mux => body(0, 1 + n + n, 0, 0, n),
+        Layout::Adc => body(0, n + n + 1, 0, 0, n + 1),
+        Layout::Aig => body(2, 0, 0, 0, 1),
+        Layout::Shift(_) => body(0, n + m, 0, 0, n),
+        Layout::Match => body(0, 1 + n, 0, m, m),
+        Layout::Assign => body(0, 1 + n + m, 0, 0, n),
+        Layout::Dff => body(4, n, n + n, 0, n),
+    }
+}
+
 // The numbers that lead an operation's body.
 pub fn numbers_of(op: Operation) -> Numbers
     ensures { λ r. ⌜ r ≡ numbersOf op ⌝ }
 {
-    match op {
-        Operation::Void => lead(0, 0, 0, false),
-        Operation::Buf => lead(1, 0, 0, false),
-        Operation::Not => lead(1, 0, 0, false),
-        Operation::And => lead(1, 0, 0, false),
-        Operation::Or => lead(1, 0, 0, false),
-        Operation::Xor => lead(1, 0, 0, false),
-        Operation::Mux => lead(1, 0, 0, false),
-        Operation::Adc => lead(1, 0, 0, false),
-        Operation::Aig => lead(0, 0, 0, false),
-        Operation::Eq => lead(1, 1, 0, false),
-        Operation::ULt => lead(1, 1, 0, false),
-        Operation::SLt => lead(1, 1, 0, false),
-        Operation::Shl => lead(3, 0, 32, false),
-        Operation::UShr => lead(3, 0, 32, false),
-        Operation::SShr => lead(3, 1, 32, false),
-        Operation::XShr => lead(3, 0, 32, false),
-        Operation::Mul => lead(1, 0, 0, false),
-        Operation::Match => lead(2, 0, 63, false),
-        Operation::Assign => lead(3, 0, 63, true),
-        Operation::Dff => lead(2, 0, 1, false),
-        Operation::IoBuf => lead(1, 0, 0, false),
-        Operation::Input => lead(1, 0, 0, false),
-        Operation::Note => lead(0, 0, 0, false),
-    }
+    numbers_in(layout_of(op))
 }
 
-// The fields that follow the numbers, of which the first two are n and m, and the output width.
+// The fields that follow the numbers of an operation's body, of which the first two are n and m, and the output width.
 pub fn fields_of(op: Operation, first: u32, second: u32) -> Fields
     ensures { λ r. ⌜ r ≡ fieldsOf op first second ⌝ }
 {
-    let n = first as usize;
-    let m = second as usize;
-    match op {
-        Operation::Void => body(0, 0, 0, 0, 0),
-        Operation::Buf => body(0, n, 0, 0, n),
-        Operation::Not => body(0, n, 0, 0, n),
-        Operation::And => body(0, n + n, 0, 0, n),
-        Operation::Or => body(0, n + n, 0, 0, n),
-        Operation::Xor => body(0, n + n, 0, 0, n),
-        Operation::Mux => body(0, 1 + n + n, 0, 0, n),
-        Operation::Adc => body(0, n + n + 1, 0, 0, n + 1),
-        Operation::Aig => body(2, 0, 0, 0, 1),
-        Operation::Eq => body(0, n + n, 0, 0, 1),
-        Operation::ULt => body(0, n + n, 0, 0, 1),
-        Operation::SLt => body(0, n + n, 0, 0, 1),
-        Operation::Shl => body(0, n + m, 0, 0, n),
-        Operation::UShr => body(0, n + m, 0, 0, n),
-        Operation::SShr => body(0, n + m, 0, 0, n),
-        Operation::XShr => body(0, n + m, 0, 0, n),
-        Operation::Mul => body(0, n + n, 0, 0, n),
-        Operation::Match => body(0, 1 + n, 0, m, m),
-        Operation::Assign => body(0, 1 + n + m, 0, 0, n),
-        Operation::Dff => body(4, n, n + n, 0, n),
-        Operation::IoBuf => body(0, 0, 0, 0, n),
-        Operation::Input => body(0, 0, 0, 0, n),
-        Operation::Note => body(0, 0, 0, 0, 0),
-    }
+    fields_in(layout_of(op), first, second)
 }
 
 // What stands at the slots of an operation's cell: 0 a Void, 1 a Dff, 2 another cell.
@@ -180,28 +210,18 @@ pub fn standing_of(op: Operation) -> u32
 {
     match op {
         Operation::Void => 0,
-        Operation::Buf => 2,
-        Operation::Not => 2,
-        Operation::And => 2,
-        Operation::Or => 2,
-        Operation::Xor => 2,
+        Operation::Note => 2,
+        Operation::IoBuf => 2,
+        Operation::Input => 2,
+        Operation::Unary(_) => 2,
+        Operation::Binary(_) => 2,
         Operation::Mux => 2,
         Operation::Adc => 2,
         Operation::Aig => 2,
-        Operation::Eq => 2,
-        Operation::ULt => 2,
-        Operation::SLt => 2,
-        Operation::Shl => 2,
-        Operation::UShr => 2,
-        Operation::SShr => 2,
-        Operation::XShr => 2,
-        Operation::Mul => 2,
+        Operation::Shift(_) => 2,
         Operation::Match => 2,
         Operation::Assign => 2,
         Operation::Dff => 1,
-        Operation::IoBuf => 2,
-        Operation::Input => 2,
-        Operation::Note => 2,
     }
 }
 
@@ -211,27 +231,17 @@ pub fn may_replace(op: Operation) -> bool
 {
     match op {
         Operation::Void => false,
-        Operation::Buf => true,
-        Operation::Not => true,
-        Operation::And => true,
-        Operation::Or => true,
-        Operation::Xor => true,
+        Operation::Note => false,
+        Operation::IoBuf => true,
+        Operation::Input => false,
+        Operation::Unary(_) => true,
+        Operation::Binary(_) => true,
         Operation::Mux => true,
         Operation::Adc => true,
         Operation::Aig => true,
-        Operation::Eq => true,
-        Operation::ULt => true,
-        Operation::SLt => true,
-        Operation::Shl => true,
-        Operation::UShr => true,
-        Operation::SShr => true,
-        Operation::XShr => true,
-        Operation::Mul => true,
+        Operation::Shift(_) => true,
         Operation::Match => true,
         Operation::Assign => true,
         Operation::Dff => true,
-        Operation::IoBuf => true,
-        Operation::Input => false,
-        Operation::Note => false,
     }
 }

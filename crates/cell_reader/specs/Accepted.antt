@@ -9,10 +9,11 @@ use lib.Dec.{ltb, eqb}
 use borrow.Author.Tests.{ltb-false, eqb-true, eqb-false}
 use Rattle.logic.specs.Word.{kindOf}
 use Rattle.logic.specs.Table.{length-tab}
-use Rattle.cell.specs.Cell.{outputLen, standing}
+use Rattle.operators.specs.Operators.{compares}
+use Rattle.cell.specs.Cell.{binaryWidth, outputLen, standing}
 use Rattle.cell.specs.Operation.{numbersOf, fieldsOf, standingOf}
 use Rattle.cell.specs.declared.Operation.{Operation}
-use Rattle.cell.specs.declared.Operation.the-variants.{Void, Buf, Not, And, Or, Xor, Mux, Adc, Aig, Eq, ULt, SLt, Shl, UShr, SShr, XShr, Mul, Match, Assign, Dff, IoBuf, Input, Note}
+use Rattle.cell.specs.declared.Operation.the-variants as O
 use Rattle.cell.specs.declared.Numbers.{Numbers}
 use Rattle.cell.specs.declared.Fields.{Fields}
 use Rattle.fields.specs.declared.Number.{Number}
@@ -187,33 +188,34 @@ length-patterns w n (suc k) at = ap suc (length-patterns w n k (at + 1 + numberI
 first-width : {w : List ℕ} {end at n next size : ℕ} → size ≡ numberIn w at → IsNumber w 63 end at n next → (size ≡ n) × (n ≤ 64)
 first-width {n = n} same is = (same ∙ sym (is .value), let low : n ≤ 63 = is .bounded in omega arith)
 
+cond-low : (b : Bool) (n : ℕ) → n ≤ 64 → cond b 1 n ≤ 64
+cond-low true n low = omega arith
+cond-low false n low = low
+
 -- The cell that a body stands for has the output width that its layout says, at most 64.
 leading-width :
     (w : List ℕ) (op : Operation) (end at : ℕ) {n m next : ℕ} → IsLeading w (numbersOf op) end at n m next →
     (outputLen (cellIn w op at) ≡ fieldsOf op n m .width) × (fieldsOf op n m .width ≤ 64)
-leading-width w Void end at is = (refl, omega arith)
-leading-width w Buf end at is = first-width (length-tab _ _) (is .first (omega arith))
-leading-width w Not end at is = first-width (length-tab _ _) (is .first (omega arith))
-leading-width w And end at is = first-width (length-tab _ _) (is .first (omega arith))
-leading-width w Or end at is = first-width (length-tab _ _) (is .first (omega arith))
-leading-width w Xor end at is = first-width (length-tab _ _) (is .first (omega arith))
-leading-width w Mux end at is = first-width (length-tab _ _) (is .first (omega arith))
-leading-width w Adc end at {n} {m} is = let n-is = is .first (omega arith) in (ap (λ (i : ℕ). i + 1) (length-tab _ _ ∙ sym (n-is .value)), let low = n-is .bounded in omega arith)
-leading-width w Aig end at is = (refl, omega arith)
-leading-width w Eq end at is = (refl, omega arith)
-leading-width w ULt end at is = (refl, omega arith)
-leading-width w SLt end at is = (refl, omega arith)
-leading-width w Shl end at is = first-width (length-tab _ _) (is .first (omega arith))
-leading-width w UShr end at is = first-width (length-tab _ _) (is .first (omega arith))
-leading-width w SShr end at is = first-width (length-tab _ _) (is .first (omega arith))
-leading-width w XShr end at is = first-width (length-tab _ _) (is .first (omega arith))
-leading-width w Mul end at is = first-width (length-tab _ _) (is .first (omega arith))
-leading-width w Match end at {n} {m} is = let k = is .second (omega arith) in (length-patterns _ _ _ _ ∙ sym (k .value), let low = k .bounded in omega arith)
-leading-width w Assign end at is = first-width (length-tab _ _) (is .first (omega arith))
-leading-width w Dff end at is = first-width (length-tab _ _) (is .first (omega arith))
-leading-width w IoBuf end at is = first-width refl (is .first (omega arith))
-leading-width w Input end at is = first-width refl (is .first (omega arith))
-leading-width w Note end at is = (refl, omega arith)
+leading-width w O.Void end at is = (refl, omega arith)
+leading-width w O.Note end at is = (refl, omega arith)
+leading-width w O.IoBuf end at is = first-width refl (is .first (omega arith))
+leading-width w O.Input end at is = first-width refl (is .first (omega arith))
+leading-width w (O.Unary operator) end at is = first-width (length-tab _ _) (is .first (omega arith))
+leading-width w (O.Binary operator) end at {n} is =
+    let n-is = is .first (omega arith) in
+    let low = n-is .bounded in
+    (ap (binaryWidth operator) (length-tab _ _ ∙ sym (n-is .value)), cond-low (compares operator) n (omega arith))
+leading-width w O.Mux end at is = first-width (length-tab _ _) (is .first (omega arith))
+leading-width w O.Adc end at {n} {m} is =
+    let n-is = is .first (omega arith) in
+    (ap (λ (i : ℕ). i + 1) (length-tab _ _ ∙ sym (n-is .value)), let low = n-is .bounded in omega arith)
+leading-width w O.Aig end at is = (refl, omega arith)
+leading-width w (O.Shift operator) end at is = first-width (length-tab _ _) (is .first (omega arith))
+leading-width w O.Match end at {n} {m} is =
+    let k = is .second (omega arith) in
+    (length-patterns _ _ _ _ ∙ sym (k .value), let low = k .bounded in omega arith)
+leading-width w O.Assign end at is = first-width (length-tab _ _) (is .first (omega arith))
+leading-width w O.Dff end at is = first-width (length-tab _ _) (is .first (omega arith))
 
 -- The fields after the numbers were read: controls, nets, constants and patterns, one run after another, up to the record's end.
 pub record IsBody (w : List ℕ) (total : ℕ) (layout : Fields) (n end at : ℕ) : Type 0 where
@@ -311,29 +313,19 @@ record-read w total at {op} {width} {next} read = head (headAt w at) refl read
 
 -- What stands at the slots of the cell that a body stands for is by its operation.
 standing-in : (w : List ℕ) (op : Operation) (at : ℕ) → standing (cellIn w op at) ≡ standingOf op
-standing-in w Void at = refl
-standing-in w Buf at = refl
-standing-in w Not at = refl
-standing-in w And at = refl
-standing-in w Or at = refl
-standing-in w Xor at = refl
-standing-in w Mux at = refl
-standing-in w Adc at = refl
-standing-in w Aig at = refl
-standing-in w Eq at = refl
-standing-in w ULt at = refl
-standing-in w SLt at = refl
-standing-in w Shl at = refl
-standing-in w UShr at = refl
-standing-in w SShr at = refl
-standing-in w XShr at = refl
-standing-in w Mul at = refl
-standing-in w Match at = refl
-standing-in w Assign at = refl
-standing-in w Dff at = refl
-standing-in w IoBuf at = refl
-standing-in w Input at = refl
-standing-in w Note at = refl
+standing-in w O.Void at = refl
+standing-in w O.Note at = refl
+standing-in w O.IoBuf at = refl
+standing-in w O.Input at = refl
+standing-in w (O.Unary operator) at = refl
+standing-in w (O.Binary operator) at = refl
+standing-in w O.Mux at = refl
+standing-in w O.Adc at = refl
+standing-in w O.Aig at = refl
+standing-in w (O.Shift operator) at = refl
+standing-in w O.Match at = refl
+standing-in w O.Assign at = refl
+standing-in w O.Dff at = refl
 
 pub standing-at : (w : List ℕ) (at : ℕ) → standing (cellAt w at) ≡ standingOf (opAt w at)
 unfolding cellAt
@@ -341,29 +333,19 @@ standing-at w at = standing-in w (opAt w at) (at + 1)
 
 -- Standings are 0, 1 and 2.
 low-standing : (op : Operation) → standingOf op ≤ 2
-low-standing Void = omega arith
-low-standing Buf = omega arith
-low-standing Not = omega arith
-low-standing And = omega arith
-low-standing Or = omega arith
-low-standing Xor = omega arith
-low-standing Mux = omega arith
-low-standing Adc = omega arith
-low-standing Aig = omega arith
-low-standing Eq = omega arith
-low-standing ULt = omega arith
-low-standing SLt = omega arith
-low-standing Shl = omega arith
-low-standing UShr = omega arith
-low-standing SShr = omega arith
-low-standing XShr = omega arith
-low-standing Mul = omega arith
-low-standing Match = omega arith
-low-standing Assign = omega arith
-low-standing Dff = omega arith
-low-standing IoBuf = omega arith
-low-standing Input = omega arith
-low-standing Note = omega arith
+low-standing O.Void = omega arith
+low-standing O.Note = omega arith
+low-standing O.IoBuf = omega arith
+low-standing O.Input = omega arith
+low-standing (O.Unary operator) = omega arith
+low-standing (O.Binary operator) = omega arith
+low-standing O.Mux = omega arith
+low-standing O.Adc = omega arith
+low-standing O.Aig = omega arith
+low-standing (O.Shift operator) = omega arith
+low-standing O.Match = omega arith
+low-standing O.Assign = omega arith
+low-standing O.Dff = omega arith
 
 pub record-standing : {w : List ℕ} {total at : ℕ} {op : Operation} {width next : ℕ} → IsRecord w total at op width next → standingOf op ≤ 2
 record-standing {op = op} is = low-standing op

@@ -9,12 +9,12 @@ use Rattle.logic.specs.Table.{tab}
 use Rattle.logic.specs.declared.Trit.{Trit}
 use Rattle.logic.specs.declared.Trit.the-variants.{Undef}
 use Rattle.cell.specs.Cell as C
-use Rattle.cell.specs.Cell.{Cell, Control, Unary, Binary, Shift}
+use Rattle.cell.specs.Cell.{Cell, Control}
 use Rattle.cell.specs.Operation.{operationOf}
 use Rattle.cell.specs.declared.Decoded.{Decoded}
 use Rattle.cell.specs.declared.Decoded.the-variants.{Known, Unknown}
 use Rattle.cell.specs.declared.Operation.{Operation}
-use Rattle.cell.specs.declared.Operation.the-variants.{Void, Buf, Not, And, Or, Xor, Mux, Adc, Aig, Eq, ULt, SLt, Shl, UShr, SShr, XShr, Mul, Match, Assign, Dff, IoBuf, Input, Note}
+use Rattle.cell.specs.declared.Operation.the-variants as O
 
 -- The number, net, control and constant of a word.
 abbrev pub numberIn : List ℕ → ℕ → ℕ
@@ -46,54 +46,41 @@ patternsIn w n zero at = []
 patternsIn w n (suc k) at =
     tab (numberIn w at) (λ i. tritsIn w n (at + 1 + i * n)) ∷ patternsIn w n k (at + 1 + numberIn w at * n)
 
--- #n n*
-abbrev unaryIn : List ℕ → Unary → ℕ → Cell
-unaryIn w op at = C.unary op (netsIn w (numberIn w at) (at + 1))
-
--- #n n* n*
-abbrev binaryIn : List ℕ → Binary → ℕ → Cell
-binaryIn w op at = C.binary op (netsIn w (numberIn w at) (at + 1)) (netsIn w (numberIn w at) (at + 1 + numberIn w at))
-
--- #n #m #stride n* m*
-abbrev shiftIn : List ℕ → Shift → ℕ → Cell
-shiftIn w op at =
-    C.shift op (netsIn w (numberIn w at) (at + 3)) (netsIn w (numberIn w (at + 1)) (at + 3 + numberIn w at)) (numberIn w (at + 2))
-
--- The cell of an operation whose fields begin at a place.
+-- The cell of an operation whose fields begin at a place, by the layout of its body.
 abbrev pub cellIn : List ℕ → Operation → ℕ → Cell
-cellIn w Void at = C.void
-cellIn w Buf at = unaryIn w C.buf at
-cellIn w Not at = unaryIn w C.not at
-cellIn w And at = binaryIn w C.and at
-cellIn w Or at = binaryIn w C.or at
-cellIn w Xor at = binaryIn w C.xor at
+cellIn w O.Void at = C.void
+cellIn w O.Note at = C.note
+-- #n
+cellIn w O.IoBuf at = C.ioBuf (numberIn w at)
+cellIn w O.Input at = C.input (numberIn w at)
+-- #n n*
+cellIn w (O.Unary operator) at = C.unary operator (netsIn w (numberIn w at) (at + 1))
+-- #n n* n*
+cellIn w (O.Binary operator) at =
+    C.binary operator (netsIn w (numberIn w at) (at + 1)) (netsIn w (numberIn w at) (at + 1 + numberIn w at))
 -- #n s n* n*
-cellIn w Mux at =
+cellIn w O.Mux at =
     C.mux (netIn w (at + 1)) (netsIn w (numberIn w at) (at + 2)) (netsIn w (numberIn w at) (at + 2 + numberIn w at))
 -- #n n* n* c
-cellIn w Adc at =
+cellIn w O.Adc at =
     C.adc (netsIn w (numberIn w at) (at + 1)) (netsIn w (numberIn w at) (at + 1 + numberIn w at))
     (netIn w (at + 1 + numberIn w at + numberIn w at))
 -- two controls
-cellIn w Aig at = C.aig (controlIn w at) (controlIn w (at + 1))
-cellIn w Eq at = binaryIn w C.eq at
-cellIn w ULt at = binaryIn w C.ult at
-cellIn w SLt at = binaryIn w C.slt at
-cellIn w Shl at = shiftIn w C.shl at
-cellIn w UShr at = shiftIn w C.ushr at
-cellIn w SShr at = shiftIn w C.sshr at
-cellIn w XShr at = shiftIn w C.xshr at
-cellIn w Mul at = binaryIn w C.mul at
+cellIn w O.Aig at = C.aig (controlIn w at) (controlIn w (at + 1))
+-- #n #m #stride n* m*
+cellIn w (O.Shift operator) at =
+    C.shift operator (netsIn w (numberIn w at) (at + 3)) (netsIn w (numberIn w (at + 1)) (at + 3 + numberIn w at))
+    (numberIn w (at + 2))
 -- #n #k enable n*, the patterns
-cellIn w Match at =
+cellIn w O.Match at =
     C.match (netsIn w (numberIn w at) (at + 3)) (netIn w (at + 2))
     (patternsIn w (numberIn w at) (numberIn w (at + 1)) (at + 3 + numberIn w at))
 -- #n #u #offset enable n* u*
-cellIn w Assign at =
+cellIn w O.Assign at =
     C.assign (netsIn w (numberIn w at) (at + 4)) (netIn w (at + 3)) (netsIn w (numberIn w (at + 1)) (at + 4 + numberIn w at))
     (numberIn w (at + 2))
 -- #n #reset-over-enable clock clear reset enable, n* data, n* clear value, n* reset value
-cellIn w Dff at =
+cellIn w O.Dff at =
     C.dff record {
       resetOverEnable = eqb (numberIn w (at + 1)) 1;
       clock = controlIn w (at + 2);
@@ -104,10 +91,6 @@ cellIn w Dff at =
       clearValue = tritsIn w (numberIn w at) (at + 6 + numberIn w at);
       resetValue = tritsIn w (numberIn w at) (at + 6 + numberIn w at + numberIn w at);
     }
--- #n
-cellIn w IoBuf at = C.ioBuf (numberIn w at)
-cellIn w Input at = C.input (numberIn w at)
-cellIn w Note at = C.note
 
 -- A head's payload is the operation + 32 × the count of following words.
 abbrev knownOr : Operation → Decoded → Operation
@@ -115,7 +98,7 @@ knownOr default (Known op) = op
 knownOr default Unknown = default
 
 abbrev pub opAt : List ℕ → ℕ → Operation
-opAt w at = knownOr Note (operationOf (numberIn w at % 32))
+opAt w at = knownOr O.Note (operationOf (numberIn w at % 32))
 
 abbrev pub endAt : List ℕ → ℕ → ℕ
 endAt w at = at + 1 + numberIn w at / 32

@@ -2,3 +2,4 @@
 pub mod Stores
 pub mod Nets
 pub mod Numbers
+pub mod Part

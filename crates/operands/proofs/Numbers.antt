@@ -12,6 +12,7 @@ use lib.Pow.{pow-mono}
 use Rattle.logic.specs.Table.{tab, tab-ext, length-tab}
 use Rattle.logic.specs.Trit.{xOf, yOf}
 use Rattle.logic.specs.Net.{Net, constant, slot, netOf, driverOf, driverOfNet}
+use Rattle.logic.specs.Word.{payloadOf}
 use Rattle.logic.specs.declared.Trit.{Trit}
 use Rattle.logic.specs.declared.Trit.the-variants.{Undef}
 use Rattle.logic.specs.declared.Driver.{Driver}
@@ -63,11 +64,12 @@ drivenTrit (Constant t) = t
 drivenTrit (Output i) = Undef
 drivenTrit NoNet = Undef
 
-pub driven : (p : ℕ) (d : Driver) → p < 2 ^ 29 → driverOf p ≡ d → drivenTrit d ≡ tritOf (netOf p)
-driven p d low e = ap drivenTrit (sym e ∙ drives) ∙ of-net (netOf p)
+-- Of the driver d of a word's payload that a match tells to be d′.
+pub driven : (word p : ℕ) (d d′ : Driver) → p ≡ payloadOf word → d ≡ driverOf p → d ≡ d′ → drivenTrit d′ ≡ tritOf (netOf (payloadOf word))
+driven word p d d′ paid drove told = rw (← paid) (ap drivenTrit (sym told ∙ drove ∙ drives) ∙ of-net (netOf p))
   where
     drives : driverOf p ≡ driverOfNet (netOf p)
-    drives = rw (lt-ltb p (2 ^ 29) low)
+    drives = rw (lt-ltb p (2 ^ 29) (omega arith))
 
     of-net : (n : Net) → drivenTrit (driverOfNet n) ≡ tritOf n
     of-net (constant t) = refl
@@ -93,6 +95,12 @@ module _ (f : Trit → Bool) (w : List ℕ) where
       let place : at + (i - 1) + 1 ≡ at + i = omega arith in
       rw more (packed-cons (k - i) (at + (i - 1)) ∙ rw place (omega arith))
 
+  packed-low : (n at : ℕ) → n ≤ 63 → packed f w n at < 2 ^ 63
+  packed-low n at few =
+      let long : length (map f (tritsIn w n at)) ≡ n = length-map (tritsIn w n at) f ∙ length-tab n _ in
+      let low : packed f w n at < 2 ^ n = rw long at (bv2nat-lt (map f (tritsIn w n at))) in
+      let up : 2 ^ n ≤ 2 ^ 63 = pow-mono few in omega arith
+
   pub packed-none : (k at i : ℕ) → k ≤ i → packed f w (k - i) at ≡ 0
   unfolding tab bv2nat
   packed-none k at i past = let none : k - i ≡ 0 = omega arith in rw none
@@ -102,11 +110,9 @@ module _ (f : Trit → Bool) (w : List ℕ) where
       let all : k - i ≡ k = omega arith in
       let place : at + i ≡ at = omega arith in e ∙ rw (all, place)
 
-  pub packed-low : (n at : ℕ) → n ≤ 63 → packed f w n at < 2 ^ 63
-  packed-low n at few =
-      let long : length (map f (tritsIn w n at)) ≡ n = length-map (tritsIn w n at) f ∙ length-tab n _ in
-      let low : packed f w n at < 2 ^ n = rw long at (bv2nat-lt (map f (tritsIn w n at))) in
-      let up : 2 ^ n ≤ 2 ^ 63 = pow-mono few in omega arith
+  -- While a constant is left to pack there is room for it.
+  pub packed-room : (n at i : ℕ) → 0 < i → packed f w (min n 64 - i) (at + i) < 2 ^ 63
+  packed-room n at i some = packed-low (min n 64 - i) (at + i) (omega arith)
 
   pub packed-bits : (n at : ℕ) → n ≤ 64 → nat2bv (min n 64) (packed f w (min n 64) at) ≡ map f (tritsIn w n at)
   packed-bits n at few =

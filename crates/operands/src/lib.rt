@@ -1,5 +1,6 @@
-// What the arms of `SmtBuilder::cell` of smt.rs do with their operands before any call of the engine. A value is a run of net
-// words: words of the list, read in place, or words stored into a table that the caller lends, past whose end nothing is stored.
+// What the arms of `SmtBuilder::cell` of smt.rs do with their operands before any call of the engine. A value is a run of
+// net words: words of the list, read in place, or words stored into a table that the caller lends; past its end nothing is
+// stored.
 use logic::Driver;
 use logic::Net;
 use logic::Slot;
@@ -82,7 +83,8 @@ fn extension(words: &[u32], at: u32, n: u32, signed: bool) -> u32
 
 // `sext` or `zext` of a value of n nets to a width.
 pub fn extended_nets(out: &mut [u32], words: &[u32], at: u32, n: u32, width: u32, signed: bool)
-    ensures stored { λ _. ⌜ now (out .exit) ≡ sets (now (out .entry)) 0 (extendedWords signed (wordsIn (now (words .entry)) n at) width) ⌝ }
+    ensures stored { λ _. ⌜ now (out .exit)
+        ≡ sets (now (out .entry)) 0 (extendedWords signed (wordsIn (now (words .entry)) n at) width) ⌝ }
     ensures nets { λ _. ⌜ (n ≤ width → width ≤ length (now (out .entry))
         → netsIn (now (out .exit)) width 0 ≡ extended signed (netsIn (now (words .entry)) n at) width) ⌝ }
 {
@@ -92,7 +94,8 @@ pub fn extended_nets(out: &mut [u32], words: &[u32], at: u32, n: u32, width: u32
 
 // A value of n nets with one net X above them, as XShr shifts it.
 pub fn concat_undef(out: &mut [u32], words: &[u32], at: u32, n: u32)
-    ensures stored { λ _. ⌜ now (out .exit) ≡ sets (now (out .entry)) 0 (wordsIn (now (words .entry)) n at ++ (536870911 ∷ [])) ⌝ }
+    ensures stored { λ _. ⌜ now (out .exit)
+        ≡ sets (now (out .entry)) 0 (wordsIn (now (words .entry)) n at ++ (536870911 ∷ [])) ⌝ }
     ensures nets { λ _. ⌜ (n + 1 ≤ length (now (out .entry))
         → netsIn (now (out .exit)) (n + 1) 0 ≡ netsIn (now (words .entry)) n at ++ (constant t.Undef ∷ [])) ⌝ }
 {
@@ -114,7 +117,8 @@ fn ilog2(stride: u32) -> u32
     exponent
 }
 
-// The width at which a shift is made: the value's, or what the amount times the stride needs if that is more; at most 2^32 - 1.
+// The width at which a shift is made: the value's, or what the amount times the stride needs if that is more; at most
+// 2^32 - 1.
 pub fn shift_width(n: u32, m: u32, stride: u32) -> u32
     ensures width { λ r. ⌜ r ≡ min (shiftWidth n m stride) 4294967295 ⌝ }
     ensures wide { λ r. ⌜ (n ≤ 64 → m ≤ 32 → stride < 2 ^ 29 → Wide n m stride r) ⌝ }
@@ -141,9 +145,11 @@ pub fn overwritten_nets(
     u: u32,
     offset: u32,
 )
-    ensures stored { λ _. ⌜ now (out .exit) ≡ sets (sets (now (out .entry)) 0 (wordsIn (now (words .entry)) n value)) offset (wordsIn (now (words .entry)) u update) ⌝ }
+    ensures stored { λ _. ⌜ now (out .exit)
+        ≡ sets (sets (now (out .entry)) 0 (wordsIn (now (words .entry)) n value)) offset (wordsIn (now (words .entry)) u update) ⌝ }
     ensures nets { λ _. ⌜ (n ≤ length (now (out .entry)) → offset + u ≤ n
-        → netsIn (now (out .exit)) n 0 ≡ overwritten (netsIn (now (words .entry)) n value) offset (netsIn (now (words .entry)) u update)) ⌝ }
+        → netsIn (now (out .exit)) n 0
+        ≡ overwritten (netsIn (now (words .entry)) n value) offset (netsIn (now (words .entry)) u update)) ⌝ }
 {
     copy(out, 0, words, value, n);
     copy(out, offset, words, update, u);
@@ -206,7 +212,8 @@ fn at_most_64(n: u32) -> u32
 
 // n constants from a place on, the first 64 of them where there are more.
 pub fn constants(words: &[u32], at: u32, n: u32) -> Const
-    ensures numbers { λ r. ⌜ (r .x ≡ packed xOf (now (words .entry)) (min n 64) at) × (r .y ≡ packed yOf (now (words .entry)) (min n 64) at) ⌝ }
+    ensures numbers { λ r. ⌜ (r .x ≡ packed xOf (now (words .entry)) (min n 64) at)
+        × (r .y ≡ packed yOf (now (words .entry)) (min n 64) at) ⌝ }
     ensures literal { λ r. ⌜ (n ≤ 64 → Packed (now (words .entry)) n at (r .x) (r .y)) ⌝ }
 {
     let mut i = at_most_64(n);

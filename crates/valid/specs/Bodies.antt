@@ -10,9 +10,9 @@ use lib.ListN.{length, getD, length-append}
 use lib.Dec.{ltb, eqb}
 use borrow.Author.Tests.{lt-ltb, le-ltb, le-leb, eq-eqb, ne-eqb}
 use Rattle.logic.specs.Word.{headWord, numberWord, kind-of-word, payload-of-word}
-use Rattle.cell.specs.Operation.{operationOf}
+use Rattle.cell.specs.Operation.{operationOf, numberOf}
+use Rattle.cell.proofs.Numbered.{number-operation}
 use Rattle.cell.specs.declared.Operation.{Operation}
-use Rattle.cell.specs.declared.Operation.the-variants.{Void, Buf, Not, And, Or, Xor, Mux, Adc, Aig, Eq, ULt, SLt, Shl, UShr, SShr, XShr, Mul, Match, Assign, Dff, IoBuf, Input, Note}
 use Rattle.cell.specs.declared.Decoded.the-variants.{Known}
 use Rattle.cell.specs.declared.Numbers.{Numbers}
 use Rattle.cell.specs.declared.Fields.{Fields}
@@ -26,36 +26,10 @@ use Rattle.cell_reader.specs.declared.Leading.the-variants as L
 use Rattle.cell_reader.specs.Record.{thirdAt, secondAt, firstAt, leadingAt, tailAt, bodyAt}
 use Rattle.cell_reader.specs.Parse.{numberIn, opAt}
 use Rattle.working_out.specs.Reading.{Each}
-use Rattle.valid.specs.Words.{numberOf}
 use Rattle.valid.specs.Stands.{wordAt, Stands, stands-first, stands-rest, stands-tail, stands-inside, scan-words}
 use Rattle.valid.specs.Fields.{number-right, Named, Fixed, net-right, constant-right}
 
--- ---- Heads. The number of an operation stands for it, and leaves room for the count.
-pub number-operation : (op : Operation) → (operationOf (numberOf op) ≡ Known op) × (numberOf op < 32)
-number-operation Void = (refl, omega arith)
-number-operation Buf = (refl, omega arith)
-number-operation Not = (refl, omega arith)
-number-operation And = (refl, omega arith)
-number-operation Or = (refl, omega arith)
-number-operation Xor = (refl, omega arith)
-number-operation Mux = (refl, omega arith)
-number-operation Adc = (refl, omega arith)
-number-operation Aig = (refl, omega arith)
-number-operation Eq = (refl, omega arith)
-number-operation ULt = (refl, omega arith)
-number-operation SLt = (refl, omega arith)
-number-operation Shl = (refl, omega arith)
-number-operation UShr = (refl, omega arith)
-number-operation SShr = (refl, omega arith)
-number-operation XShr = (refl, omega arith)
-number-operation Mul = (refl, omega arith)
-number-operation Match = (refl, omega arith)
-number-operation Assign = (refl, omega arith)
-number-operation Dff = (refl, omega arith)
-number-operation IoBuf = (refl, omega arith)
-number-operation Input = (refl, omega arith)
-number-operation Note = (refl, omega arith)
-
+-- ---- Heads.
 module _
     (w : List ℕ) (short : length w ≤ 16384) (op : Operation) (count at : ℕ) (fits : at + 1 + count ≤ length w)
     (word : wordAt w at ≡ headWord (numberOf op) count) where

@@ -131,15 +131,8 @@ module _ (w : List ℕ) (at : ℕ) where
   cell-back C.note s h = refl
   cell-back (C.input n) s h = ap C.input (h .numbers .0)
   cell-back (C.ioBuf n) s h = ap C.ioBuf (h .numbers .0)
-  cell-back (C.unary C.buf a) s h = unary-back C.buf a h
-  cell-back (C.unary C.not a) s h = unary-back C.not a h
-  cell-back (C.binary C.and a b) s h = binary-back C.and a b (s .0) h
-  cell-back (C.binary C.or a b) s h = binary-back C.or a b (s .0) h
-  cell-back (C.binary C.xor a b) s h = binary-back C.xor a b (s .0) h
-  cell-back (C.binary C.eq a b) s h = binary-back C.eq a b (s .0) h
-  cell-back (C.binary C.ult a b) s h = binary-back C.ult a b (s .0) h
-  cell-back (C.binary C.slt a b) s h = binary-back C.slt a b (s .0) h
-  cell-back (C.binary C.mul a b) s h = binary-back C.mul a b (s .0) h
+  cell-back (C.unary op a) s h = unary-back op a h
+  cell-back (C.binary op a b) s h = binary-back op a b (s .0) h
   -- #n s n* n*
   cell-back (C.mux sel a b) s h =
       let v = vectors (netIn w) a b (length a) (length a) (at + 1 + 1) (at + 2) refl s (omega arith) (h .nets .1) in
@@ -158,10 +151,7 @@ module _ (w : List ℕ) (at : ℕ) where
       let start : at + 0 ≡ at = omega arith in
       let controls : Reads (controlIn w) at (a ∷ b ∷ []) = rw start at (h .controls) in
       rw (controls .0, controls .1 .0)
-  cell-back (C.shift C.shl a b stride) s h = shift-back C.shl a b stride h
-  cell-back (C.shift C.ushr a b stride) s h = shift-back C.ushr a b stride h
-  cell-back (C.shift C.sshr a b stride) s h = shift-back C.sshr a b stride h
-  cell-back (C.shift C.xshr a b stride) s h = shift-back C.xshr a b stride h
+  cell-back (C.shift op a b stride) s h = shift-back op a b stride h
   -- #n #k enable n*, the patterns
   cell-back (C.match value enable patterns) s h =
       let n : ℕ = length value in

@@ -9,7 +9,7 @@ use Rattle.cell.specs.Cell.{Cell, Unary, Binary, Shift}
 use Rattle.cell.specs.Cell as C
 use Rattle.cell.specs.Operation.{body, numbersOf, fieldsOf}
 use Rattle.cell.specs.declared.Operation.{Operation}
-use Rattle.cell.specs.declared.Operation.the-variants.{Void, Buf, Not, And, Or, Xor, Mux, Adc, Aig, Eq, ULt, SLt, Shl, UShr, SShr, XShr, Mul, Match, Assign, Dff, IoBuf, Input, Note}
+use Rattle.cell.specs.declared.Operation.the-variants as O
 use Rattle.cell.specs.declared.Fields.{Fields}
 use Rattle.cell_reader.specs.Parse.{numberIn, netIn, controlIn, tritIn, netsIn, tritsIn, patternsIn, cellIn}
 use Rattle.cell_reader.specs.Accepted.{length-patterns, IsLeading}
@@ -115,19 +115,20 @@ module _ (w : List ℕ) (at : ℕ) where
         (op : Operation) {n m start : ℕ} → IsLeading w (numbersOf op) end at n m start →
         Parts w at (numbersOf op .count) (fieldsOf op n m) n (cellIn w op at)
     unfolding tab patternsIn
-    cell-parts Void {n} l = plain C.void 0 0 n 0 (omega arith) refl refl refl refl refl
-    cell-parts Buf {n} l = unary-parts C.buf n (l .first (omega arith) .value)
-    cell-parts Not {n} l = unary-parts C.not n (l .first (omega arith) .value)
-    cell-parts And {n} l = binary-parts C.and n n (l .first (omega arith) .value)
-    cell-parts Or {n} l = binary-parts C.or n n (l .first (omega arith) .value)
-    cell-parts Xor {n} l = binary-parts C.xor n n (l .first (omega arith) .value)
+    cell-parts O.Void {n} l = plain C.void 0 0 n 0 (omega arith) refl refl refl refl refl
+    cell-parts O.Note {n} l = plain C.note 0 0 n 0 (omega arith) refl refl refl refl refl
+    -- #n
+    cell-parts O.IoBuf {n} l = plain _ 1 0 n n (omega arith) (one (numberIn w at) refl) refl refl refl refl
+    cell-parts O.Input {n} l = plain _ 1 0 n n (omega arith) (one (numberIn w at) refl) refl refl refl refl
+    cell-parts (O.Unary operator) {n} l = unary-parts operator n (l .first (omega arith) .value)
+    cell-parts (O.Binary operator) {n} l = binary-parts operator n _ (l .first (omega arith) .value)
     -- #n s n* n*
-    cell-parts Mux {n} l =
+    cell-parts O.Mux {n} l =
         plain _ 1 (1 + n + n) n n (omega arith) (one _ (length-tab (numberIn w at) _))
         (rw (← l .first (omega arith) .value, joined (netIn w) n n (at + 2) (at + 2 + n) refl)
         (headed (netIn w) (n + n) (at + 1) (at + 2) (1 + n + n) (omega arith) (omega arith))) refl refl refl
     -- #n n* n* c
-    cell-parts Adc {n} l =
+    cell-parts O.Adc {n} l =
         let many : n + n + 1 ≡ n + (n + 1) = omega arith in
         plain _ 1 (n + n + 1) n (n + 1) (omega arith) (one _ (length-tab (numberIn w at) _))
         (rw (
@@ -137,7 +138,7 @@ module _ (w : List ℕ) (at : ℕ) where
           many,
         ) (joined (netIn w) n (n + 1) (at + 1) (at + 1 + n) refl)) refl refl refl
     -- two controls
-    cell-parts Aig {n} l =
+    cell-parts O.Aig {n} l =
         let start : at + 0 ≡ at = omega arith in
         record {
           few = omega arith;
@@ -147,16 +148,10 @@ module _ (w : List ℕ) (at : ℕ) where
           constants = refl;
           patterns = refl;
         }
-    cell-parts Eq {n} l = binary-parts C.eq n 1 (l .first (omega arith) .value)
-    cell-parts ULt {n} l = binary-parts C.ult n 1 (l .first (omega arith) .value)
-    cell-parts SLt {n} l = binary-parts C.slt n 1 (l .first (omega arith) .value)
-    cell-parts Shl {n} {m} l = shift-parts C.shl n m (l .first (omega arith) .value) (l .second (omega arith) .value)
-    cell-parts UShr {n} {m} l = shift-parts C.ushr n m (l .first (omega arith) .value) (l .second (omega arith) .value)
-    cell-parts SShr {n} {m} l = shift-parts C.sshr n m (l .first (omega arith) .value) (l .second (omega arith) .value)
-    cell-parts XShr {n} {m} l = shift-parts C.xshr n m (l .first (omega arith) .value) (l .second (omega arith) .value)
-    cell-parts Mul {n} l = binary-parts C.mul n n (l .first (omega arith) .value)
+    cell-parts (O.Shift operator) {n} {m} l =
+        shift-parts operator n m (l .first (omega arith) .value) (l .second (omega arith) .value)
     -- #n #k enable n*, the patterns
-    cell-parts Match {n} {m} l =
+    cell-parts O.Match {n} {m} l =
         let value = l .first (omega arith) .value in
         let value₁ = l .second (omega arith) .value in
         let place : at + 2 + (1 + n) + 0 ≡ at + 3 + n = omega arith in
@@ -169,7 +164,7 @@ module _ (w : List ℕ) (at : ℕ) where
           patterns = rw (← value, ← value₁, place);
         }
     -- #n #u #offset enable n* u*
-    cell-parts Assign {n} {m} l =
+    cell-parts O.Assign {n} {m} l =
         plain _ 3 (1 + n + m) n n (omega arith)
         (three _ _ (length-tab (numberIn w at) _) (length-tab (numberIn w (at + 1)) _))
         (rw (
@@ -178,7 +173,7 @@ module _ (w : List ℕ) (at : ℕ) where
           joined (netIn w) n m (at + 4) (at + 4 + n) refl,
         ) (headed (netIn w) (n + m) (at + 3) (at + 4) (1 + n + m) (omega arith) (omega arith))) refl refl refl
     -- #n #reset-over-enable clock clear reset enable, n* data, n* clear value, n* reset value
-    cell-parts Dff {n} {m} l =
+    cell-parts O.Dff {n} {m} l =
         let value = l .first (omega arith) .value in
         let second = l .second (omega arith) in
         let flag : numberIn w (at + 1) ≤ 1 = rw (second .value) at (second .bounded) in
@@ -191,7 +186,3 @@ module _ (w : List ℕ) (at : ℕ) where
           constants = rw (← value) (joined (tritIn w) n n (at + 6 + n) (at + 6 + n + n) refl);
           patterns = refl;
         }
-    -- #n
-    cell-parts IoBuf {n} l = plain _ 1 0 n n (omega arith) (one (numberIn w at) refl) refl refl refl refl
-    cell-parts Input {n} l = plain _ 1 0 n n (omega arith) (one (numberIn w at) refl) refl refl refl refl
-    cell-parts Note {n} l = plain C.note 0 0 n 0 (omega arith) refl refl refl refl refl

@@ -16,27 +16,28 @@ use Rattle.cell_reader.specs.Record.{contentsAt, recordAt}
 use Rattle.working_out.specs.Reading.{Each}
 use Rattle.working_out.specs.Laid.{Shaped, Within, netsOf}
 use Rattle.bound.specs.Bounded.{Bounded}
+use Rattle.accepted.specs.Cells.{wide-binary, wide-shift}
 use Rattle.valid.specs.Words.{netWordOf, controlWordOf, tritWordOf, patternWordsOf, operationOfCell, contentsOf, bodyOf, recordOf}
 use Rattle.valid.specs.Stands.{Stands, stands-first, stands-rest, stands-tail, stands-before, each-words}
 use Rattle.valid.specs.Fields.{Named, Fixed, inverted-kind, net-named, control-named, trit-fixed, each-any}
 use Rattle.valid.specs.Patterns.{Alternates, patterns-right}
 use Rattle.valid.specs.Bodies.{head-right, Leads, leading-right, Follows, body-right}
 
--- The number n of a cell's body, and the layout of what follows its numbers.
+-- The number n of a cell's body, and what follows its numbers.
 abbrev pub firstOf : Cell → ℕ
 firstOf c = getD (contentsOf c .numbers) 0 0
 
-abbrev pub layoutOf : Cell → Fields
-layoutOf c = fieldsOf (operationOfCell c) (firstOf c) (getD (contentsOf c .numbers) 1 0)
+abbrev pub fieldsOfCell : Cell → Fields
+fieldsOfCell c = fieldsOf (operationOfCell c) (firstOf c) (getD (contentsOf c .numbers) 1 0)
 
 -- A cell's fields are as many and as large as its operation asks, and its output is as wide.
 pub record Counts (c : Cell) : Type 0 where
   pub leads : Leads (numbersOf (operationOfCell c)) (contentsOf c .numbers)
-  pub controls : layoutOf c .controls ≡ length (contentsOf c .controls)
-  pub nets : layoutOf c .nets ≡ length (contentsOf c .nets)
-  pub constants : layoutOf c .constants ≡ length (contentsOf c .constants)
-  pub patterns : layoutOf c .patterns ≡ length (contentsOf c .patterns)
-  pub width : layoutOf c .width ≡ outputLen c
+  pub controls : fieldsOfCell c .controls ≡ length (contentsOf c .controls)
+  pub nets : fieldsOfCell c .nets ≡ length (contentsOf c .nets)
+  pub constants : fieldsOfCell c .constants ≡ length (contentsOf c .constants)
+  pub patterns : fieldsOfCell c .patterns ≡ length (contentsOf c .patterns)
+  pub width : fieldsOfCell c .width ≡ outputLen c
   pub alternates : Each (Alternates (firstOf c)) (contentsOf c .patterns)
 
 alternates-fit :
@@ -50,22 +51,14 @@ counts C.void s b = omega arith
 counts C.note s b = omega arith
 counts (C.input n) s b = omega arith
 counts (C.ioBuf n) s b = omega arith
-counts (C.unary C.buf a) s b = omega arith
-counts (C.unary C.not a) s b = omega arith
-counts (C.binary C.and x y) s b = omega (arith, length-append x y)
-counts (C.binary C.or x y) s b = omega (arith, length-append x y)
-counts (C.binary C.xor x y) s b = omega (arith, length-append x y)
-counts (C.binary C.eq x y) s b = omega (arith, length-append x y)
-counts (C.binary C.ult x y) s b = omega (arith, length-append x y)
-counts (C.binary C.slt x y) s b = omega (arith, length-append x y)
-counts (C.binary C.mul x y) s b = omega (arith, length-append x y)
+counts (C.unary op a) s b = omega arith
+counts (C.binary op x y) s b =
+    let wide = wide-binary op (length x) .1 (s .1) in omega (arith, length-append x y)
 counts (C.mux sel x y) s b = omega (arith, length-append x y)
 counts (C.adc x y carry) s b = omega (arith, length-append x (y ++ (carry ∷ [])), length-append y (carry ∷ []))
 counts (C.aig x y) s b = omega arith
-counts (C.shift C.shl value amount stride) s b = omega (arith, length-append value amount)
-counts (C.shift C.ushr value amount stride) s b = omega (arith, length-append value amount)
-counts (C.shift C.sshr value amount stride) s b = omega (arith, length-append value amount)
-counts (C.shift C.xshr value amount stride) s b = omega (arith, length-append value amount)
+counts (C.shift op value amount stride) s b =
+    let wide = wide-shift op (length value) .1 s in omega (arith, length-append value amount)
 counts (C.match value enable patterns) s b =
     let n = b .0 in
     let k = b .1 in
@@ -155,7 +148,7 @@ module _
     (right : Right total c) where
   follows :
       (end start : ℕ) → end ≡ start + length (afterNumbers c) →
-      Follows w total (layoutOf c) (firstOf c) end (controlWords c) (netWords c) (constantWords c) (patternWords c)
+      Follows w total (fieldsOfCell c) (firstOf c) end (controlWords c) (netWords c) (constantWords c) (patternWords c)
       start
   follows end start ends =
       let counts = right-counts right in
@@ -198,7 +191,7 @@ module _
         head-right w short (operationOfCell c) (length (bodyOf c)) at (omega arith) (s .reads .0),
         leading-right w (numbersOf (operationOfCell c)) end (contentsOf c .numbers) (at + 1)
             (stands-first numbers (afterNumbers c) body) (counts .leads),
-        body-right w total (layoutOf c) (firstOf c) end (controlWords c) (netWords c) (constantWords c)
+        body-right w total (fieldsOfCell c) (firstOf c) end (controlWords c) (netWords c) (constantWords c)
             (patternWords c) start rest (follows end start ends),
         counts .width,
         place,

@@ -190,12 +190,12 @@ module _ (d : Design) (few : total d ≤ 4096) (run : Run 0 (d .cells) (total d)
     body-voids C.note end at r s = plain C.note 0 end (at + 1) r s
     body-voids (C.input n) end at r s = plain (C.input n) 0 end (at + 1) r s
     body-voids (C.ioBuf n) end at r s = plain (C.ioBuf n) 0 end (at + 1) r s
-    body-voids (C.unary op a) end at r s = plain (C.unary op a) _ end (at + 1) r s
-    body-voids (C.binary op a b) end at r s = plain (C.binary op a b) _ end (at + 1) r s
+    body-voids (C.unary op a) end at r s = plain (C.unary op a) 0 end (at + 1) r s
+    body-voids (C.binary op a b) end at r s = plain (C.binary op a b) 0 end (at + 1) r s
     body-voids (C.mux sel a b) end at r s = plain (C.mux sel a b) 0 end (at + 1) r s
     body-voids (C.adc a b carry) end at r s = plain (C.adc a b carry) 0 end (at + 1) r s
     body-voids (C.aig a b) end at r s = plain (C.aig a b) 0 end (at + 1) r s
-    body-voids (C.shift op a b stride) end at r s = plain (C.shift op a b stride) _ end (at + 1) r s
+    body-voids (C.shift op a b stride) end at r s = plain (C.shift op a b stride) 0 end (at + 1) r s
     body-voids (C.match value enable patterns) end at r s = plain (C.match value enable patterns) 0 end (at + 1) r s
     body-voids (C.assign value enable update offset) end at r s =
         plain (C.assign value enable update offset) 0 end (at + 1) r s

@@ -6,11 +6,12 @@ use lib.ListN.{length}
 use Rattle.logic.specs.Word.{wordOf, netWord, headWord, numberWord}
 use Rattle.logic.specs.Net.{Net, constant, payloadOfNet}
 use Rattle.logic.specs.declared.Trit.{Trit}
-use Rattle.cell.specs.Cell.{Cell, Control, Unary, Binary, Shift}
+use Rattle.cell.specs.Cell.{Cell, Control}
 use Rattle.cell.specs.Cell as C
 use Rattle.cell.specs.Design.{Placed, NetPair, Design}
+use Rattle.cell.specs.Operation.{numberOf}
 use Rattle.cell.specs.declared.Operation.{Operation}
-use Rattle.cell.specs.declared.Operation.the-variants.{Void, Buf, Not, And, Or, Xor, Mux, Adc, Aig, Eq, ULt, SLt, Shl, UShr, SShr, XShr, Mul, Match, Assign, Dff, IoBuf, Input, Note}
+use Rattle.cell.specs.declared.Operation.the-variants as O
 
 -- A net word, kind 0.
 unfoldable pub netWordOf : Net → ℕ
@@ -24,66 +25,21 @@ controlWordOf c = wordOf (cond (c .inverted) 1 0) (payloadOfNet (c .net))
 unfoldable pub tritWordOf : Trit → ℕ
 tritWordOf t = netWord (payloadOfNet (constant t))
 
--- ---- The operation of a cell, and the number of an operation.
-abbrev pub unaryOperation : Unary → Operation
-unaryOperation C.buf = Buf
-unaryOperation C.not = Not
-
-abbrev pub binaryOperation : Binary → Operation
-binaryOperation C.and = And
-binaryOperation C.or = Or
-binaryOperation C.xor = Xor
-binaryOperation C.eq = Eq
-binaryOperation C.ult = ULt
-binaryOperation C.slt = SLt
-binaryOperation C.mul = Mul
-
-abbrev pub shiftOperation : Shift → Operation
-shiftOperation C.shl = Shl
-shiftOperation C.ushr = UShr
-shiftOperation C.sshr = SShr
-shiftOperation C.xshr = XShr
-
+-- ---- The operation of a cell.
 abbrev pub operationOfCell : Cell → Operation
-operationOfCell C.void = Void
-operationOfCell C.note = Note
-operationOfCell (C.input n) = Input
-operationOfCell (C.ioBuf n) = IoBuf
-operationOfCell (C.unary op a) = unaryOperation op
-operationOfCell (C.binary op a b) = binaryOperation op
-operationOfCell (C.mux s a b) = Mux
-operationOfCell (C.adc a b carry) = Adc
-operationOfCell (C.aig a b) = Aig
-operationOfCell (C.shift op value amount stride) = shiftOperation op
-operationOfCell (C.match value enable patterns) = Match
-operationOfCell (C.assign value enable update offset) = Assign
-operationOfCell (C.dff f) = Dff
-
--- "0 Void, empty; 1 Buf, 2 Not: #n n*; 3 And, 4 Or, 5 Xor, 9 Eq, 10 ULt, 11 SLt, 16 Mul .. 22 Note".
-abbrev pub numberOf : Operation → ℕ
-numberOf Void = 0
-numberOf Buf = 1
-numberOf Not = 2
-numberOf And = 3
-numberOf Or = 4
-numberOf Xor = 5
-numberOf Mux = 6
-numberOf Adc = 7
-numberOf Aig = 8
-numberOf Eq = 9
-numberOf ULt = 10
-numberOf SLt = 11
-numberOf Shl = 12
-numberOf UShr = 13
-numberOf SShr = 14
-numberOf XShr = 15
-numberOf Mul = 16
-numberOf Match = 17
-numberOf Assign = 18
-numberOf Dff = 19
-numberOf IoBuf = 20
-numberOf Input = 21
-numberOf Note = 22
+operationOfCell C.void = O.Void
+operationOfCell C.note = O.Note
+operationOfCell (C.input n) = O.Input
+operationOfCell (C.ioBuf n) = O.IoBuf
+operationOfCell (C.unary op a) = O.Unary op
+operationOfCell (C.binary op a b) = O.Binary op
+operationOfCell (C.mux s a b) = O.Mux
+operationOfCell (C.adc a b carry) = O.Adc
+operationOfCell (C.aig a b) = O.Aig
+operationOfCell (C.shift op value amount stride) = O.Shift op
+operationOfCell (C.match value enable patterns) = O.Match
+operationOfCell (C.assign value enable update offset) = O.Assign
+operationOfCell (C.dff f) = O.Dff
 
 -- ---- The fields of a body, in their order: a few numbers, then controls, then nets, then constants, then patterns.
 pub record Contents : Type 0 where

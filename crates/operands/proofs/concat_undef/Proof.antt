@@ -12,9 +12,10 @@ returns : tie.Need-returns
 returns c =
     let put = c .before .before in
     let word = put .before in
-    let copied = word .before .before .before .before in
-    let start = copied .before .before .before .before in
-    let args = start .args in
+    let again = word .before .before in
+    let copied = again .before .before in
+    let entered = copied .before .before in
+    let args = entered .before .before .args in
     let out = args .out .now in
     let words = args .words .now in
     let stored : put .put .last .0 ≡ sets out 0 (wordsIn words (args .n) (args .at) ++ (536870911 ∷ [])) =

@@ -1,12 +1,12 @@
--- `operands::constants` meets its contract. The invariant: the numbers are those of the constants from i on, each below 2 ^ 63 before the last turn.
--- The measure is i. Assumes nothing.
+-- `operands::constants` meets its contract. The invariant: the numbers are those of the constants from i on, which leave room for one
+-- more. The measure is i. Assumes nothing.
 use mathlib.Core.Path.{_≡_, refl, sym, ap, _∙_}
 use Prim.Native.Nat.{_+_, _-_, _≤_, min}
 use native.Mathlib.Omega.{arith}
 use borrow.Author.Needs.{needs}
 use Rattle.logic.specs.Trit.{xOf, yOf}
 use Rattle.operands.specs.Words.{packed}
-use Rattle.operands.proofs.Numbers.{packed-turn, packed-none, packed-all, packed-low, bit-low, packed-literal}
+use Rattle.operands.proofs.Numbers.{packed-turn, packed-none, packed-all, packed-room, bit-low, packed-literal}
 use Rattle.operands.proofs.constants.Statement.{statement}
 use Rattle.operands.proofs.constants.Tie as tie
 
@@ -29,39 +29,39 @@ loop-holds c =
 
 mul-x : tie.Need-mul-x Inv-loop μ-loop
 mul-x c =
-    let turn = c .before .before .loop in
-    let start = c .before .before .before .before .before in
-    omega (arith, packed-low xOf (start .args .words .now) (min (start .args .n) 64 - turn .i) (start .args .at + turn .i) (omega arith))
+    let in-loop = c .before in
+    let turn = in-loop .before .loop in
+    let entered = in-loop .before .before in
+    let args = entered .before .before .args in
+    omega (arith, packed-room xOf (args .words .now) (args .n) (args .at) (turn .i) (in-loop .loop-test .taken))
 
 add-x : tie.Need-add-x Inv-loop μ-loop
 add-x c =
-    let in-loop = c .before .before in
+    let trit = c .before in
+    let in-loop = trit .before in
     let turn = in-loop .before .loop in
-    let start = in-loop .before .before .before .before in
-    omega (
-      arith,
-      bit-low (xOf (c .before .trit-at .result)),
-      packed-low xOf (start .args .words .now) (min (start .args .n) 64 - turn .i) (start .args .at + turn .i) (omega arith),
-    )
+    let entered = in-loop .before .before in
+    let args = entered .before .before .args in
+    let room = packed-room xOf (args .words .now) (args .n) (args .at) (turn .i) (in-loop .loop-test .taken) in
+    omega (arith, bit-low (xOf (trit .trit-at .result)))
 
 mul-y : tie.Need-mul-y Inv-loop μ-loop
 mul-y c =
     let in-loop = c .before .before in
     let turn = in-loop .before .loop in
-    let start = in-loop .before .before .before .before in
-    omega (arith, packed-low yOf (start .args .words .now) (min (start .args .n) 64 - turn .i) (start .args .at + turn .i) (omega arith))
+    let entered = in-loop .before .before in
+    let args = entered .before .before .args in
+    omega (arith, packed-room yOf (args .words .now) (args .n) (args .at) (turn .i) (in-loop .loop-test .taken))
 
 add-y : tie.Need-add-y Inv-loop μ-loop
 add-y c =
     let trit = c .before .before in
     let in-loop = trit .before in
     let turn = in-loop .before .loop in
-    let start = in-loop .before .before .before .before in
-    omega (
-      arith,
-      bit-low (yOf (trit .trit-at .result)),
-      packed-low yOf (start .args .words .now) (min (start .args .n) 64 - turn .i) (start .args .at + turn .i) (omega arith),
-    )
+    let entered = in-loop .before .before in
+    let args = entered .before .before .args in
+    let room = packed-room yOf (args .words .now) (args .n) (args .at) (turn .i) (in-loop .loop-test .taken) in
+    omega (arith, bit-low (yOf (trit .trit-at .result)))
 
 loop-again : tie.Need-loop-again Inv-loop μ-loop
 loop-again c =
@@ -69,8 +69,8 @@ loop-again c =
     let trit = x .before in
     let in-loop = trit .before in
     let turn = in-loop .before .loop in
-    let start = in-loop .before .before .before .before in
-    let args = start .args in
+    let entered = in-loop .before .before in
+    let args = entered .before .before .args in
     let more = in-loop .loop-test .taken in (
       omega arith,
       rw (turn .inv .1, x .x-bit .ensures, trit .trit-at .ensures)
@@ -82,8 +82,8 @@ loop-again c =
 returns : tie.Need-returns Inv-loop μ-loop
 returns c =
     let end = c .before .loop in
-    let start = c .before .before .before .before in
-    let args = start .args in
+    let entered = c .before .before in
+    let args = entered .before .before .args in
     let words = args .words .now in
     let k = min (args .n) 64 in
     let x : end .x ≡ packed xOf words k (args .at) = packed-all xOf words k (args .at) (end .i) _ (c .loop-test .left) (end .inv .1) in

@@ -34,8 +34,8 @@ loop-again c =
     let read = call .before .before in
     let in-loop = read .before in
     let turn = in-loop .before .loop in
-    let start = in-loop .before .before .before .before in
-    let args = start .args in (
+    let entered = in-loop .before .before in
+    let args = entered .before .before .args in (
       turn .inv .0 ∙
           rest-turn (after (args .words .now) (args .from)) (turn .out) (args .to + turn .i) _ (turn .i) (in-loop .loop-test .taken) ∙
           rw (call .put .ensures, read .word-at .ensures, add-assoc),
@@ -48,7 +48,8 @@ same-length c = c .before .loop .inv .1
 returns : tie.Need-returns Inv-loop μ-loop
 returns c =
     let end = c .before .loop in
-    let args = c .before .before .before .before .args in
+    let entered = c .before .before in
+    let args = entered .before .before .args in
     sym (end .inv .0 ∙ rest-none (after (args .words .now) (args .from)) (end .out) _ _ (end .i) (c .loop-test .left))
 
 pub copy-spec : {M : Type 1} → statement M

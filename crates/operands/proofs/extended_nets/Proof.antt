@@ -11,9 +11,10 @@ returns : tie.Need-returns
 returns c =
     let filled = c .before .before in
     let by = filled .before in
-    let copied = by .before .before .before .before in
-    let start = copied .before .before .before .before in
-    let args = start .args in
+    let again = by .before .before in
+    let copied = again .before .before in
+    let entered = copied .before .before in
+    let args = entered .before .before .args in
     let out = args .out .now in
     let words = args .words .now in
     let stored : filled .fill .last .0 ≡ sets out 0 (extendedWords (args .signed) (wordsIn words (args .n) (args .at)) (args .width)) =

@@ -10,10 +10,10 @@ use Rattle.operands.proofs.overwritten_nets.Tie as tie
 returns : tie.Need-returns
 returns c =
     let updated = c .before .before in
-    let value-kept = updated .before .before in
-    let copied = value-kept .before .before in
-    let start = copied .before .before .before .before in
-    let args = start .args in
+    let again = updated .before .before in
+    let copied = again .before .before in
+    let entered = copied .before .before in
+    let args = entered .before .before .args in
     let out = args .out .now in
     let words = args .words .now in
     let stored : updated .copy2 .last .0
