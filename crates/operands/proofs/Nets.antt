@@ -1,18 +1,19 @@
 -- The nets of stored words are those of the model. Assumes nothing.
 use mathlib.Core.Path.{_≡_, refl, sym, ap, ap₂, _∙_}
-use mathlib.Core.Bool.{Bool, true, false, cond}
+use mathlib.Core.Bool.{Bool, true, false}
 use mathlib.Core.List.{List, [], _∷_, _++_, map, map-append}
-use Prim.Native.Nat.{ℕ, zero, suc, _+_, _-_, _%_, _^_, _<_, _≤_}
+use Prim.Native.Nat.{ℕ, zero, suc, _+_, _-_, _<_, _≤_}
 use native.Mathlib.Nat.{zero-add}
 use native.Mathlib.Omega.{arith}
-use lib.ListN.{length, getD, set, take, drop, replicate, length-append, length-take, length-drop, length-map, length-replicate, List·getD-append, List·getD-map}
+use lib.ListN.{length, getD, set, take, drop, replicate}
+use lib.ListN.{length-append, length-take, length-drop, length-map, length-replicate, List·getD-append, List·getD-map}
 use lib.Seq.{sets}
 use Rattle.logic.specs.Net.{Net, constant, slot, netOfSlot, net-of-payload}
 use Rattle.logic.specs.Table.{tab, tab-ext, as-tab, length-tab, map-tab}
 use Rattle.logic.specs.Word.{payloadOf, netWord}
-use Rattle.logic.specs.declared.Trit.the-variants.{Zero, Undef}
+use Rattle.logic.specs.declared.Trit.the-variants.{Undef}
 use Rattle.cell_reader.specs.Parse.{netsIn}
-use Rattle.smt.specs.Builder.{outputNets, zext, sext, extended, overwritten}
+use Rattle.smt.specs.Builder.{outputNets, extended, overwritten}
 use Rattle.operands.specs.Words.{netOfWord, wordsIn, outputWords, msbWord, extension, extendedWords}
 use Rattle.operands.proofs.Stores.{sets-append, sets-front, sets-within}
 
@@ -130,7 +131,8 @@ overwritten-words l vs us n offset e room within =
     long : length (take offset vs ++ (us ++ drop (offset + length us) vs)) ≡ n
     long = simp (length-append, length-take, length-drop) (omega arith)
 
-    nets : map netOfWord (take offset vs ++ (us ++ drop (offset + length us) vs)) ≡ overwritten (map netOfWord vs) offset (map netOfWord us)
+    nets : map netOfWord (take offset vs ++ (us ++ drop (offset + length us) vs))
+        ≡ overwritten (map netOfWord vs) offset (map netOfWord us)
     nets =
         map-append netOfWord (take offset vs) _ ∙
         ap₂ (λ (a b : List Net). a ++ b) (map-take netOfWord offset vs) (map-append netOfWord us _ ∙

@@ -31,12 +31,14 @@ pub next-power : (e next : ℕ) → next ≡ 2 ^ (e + 1) → 2 * next ≡ 2 ^ (e
 next-power e next here = rw (add-one (e + 1)) (omega (arith, pow-suc 2 (e + 1)))
 
 -- The exponent whose power the stride reaches and whose next it does not.
-pub exponent-is : (stride e next : ℕ) → next ≡ 2 ^ (e + 1) → 2 ^ e ≤ max stride 1 → 2 ≤ next → stride < next → ilog2 (max stride 1) ≡ e
+pub exponent-is : (stride e next : ℕ) → next ≡ 2 ^ (e + 1) → 2 ^ e ≤ max stride 1 → 2 ≤ next → stride < next
+    → ilog2 (max stride 1) ≡ e
 exponent-is stride e next here reached some past =
     let below : max stride 1 < 2 ^ suc e = rw (add-one e) at (let h : max stride 1 < 2 ^ (e + 1) = omega arith in h) in
     ilog2-is (max stride 1) e reached below
 
-pub wide : (n m stride r : ℕ) → r ≡ min (shiftWidth n m stride) 4294967295 → n ≤ 64 → m ≤ 32 → stride < 2 ^ 29 → Wide n m stride r
+pub wide : (n m stride r : ℕ) → r ≡ min (shiftWidth n m stride) 4294967295 → n ≤ 64 → m ≤ 32 → stride < 2 ^ 29
+    → Wide n m stride r
 unfolding shiftWidth
 wide n m stride r e hn hm hs =
     let low = shiftWidth-narrow n m stride hn hm hs in
@@ -65,7 +67,8 @@ drivenTrit (Output i) = Undef
 drivenTrit NoNet = Undef
 
 -- Of the driver d of a word's payload that a match tells to be d′.
-pub driven : (word p : ℕ) (d d′ : Driver) → p ≡ payloadOf word → d ≡ driverOf p → d ≡ d′ → drivenTrit d′ ≡ tritOf (netOf (payloadOf word))
+pub driven : (word p : ℕ) (d d′ : Driver) → p ≡ payloadOf word → d ≡ driverOf p → d ≡ d′
+    → drivenTrit d′ ≡ tritOf (netOf (payloadOf word))
 driven word p d d′ paid drove told = rw (← paid) (ap drivenTrit (sym told ∙ drove ∙ drives) ∙ of-net (netOf p))
   where
     drives : driverOf p ≡ driverOfNet (netOf p)

@@ -1,5 +1,5 @@
--- The cell of a record, read from the part of the list that begins at the record's first field: every number, net, control, constant
--- and pattern of the part is that of the list so many places on. Assumes nothing.
+-- The cell of a record, read from the part of the list that begins at the record's first field: every number, net, control,
+-- constant and pattern of the part is that of the list so many places on. Assumes nothing.
 use mathlib.Core.Path.{_≡_, refl, sym, ap, ap₂, _∙_}
 use mathlib.Core.Bool.{Bool}
 use mathlib.Core.List.{List, [], _∷_}

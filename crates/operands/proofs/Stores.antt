@@ -24,7 +24,10 @@ module _ (f : ℕ → ℕ) where
   rest-cons n i more =
       let left : n - i ≡ suc (n - (i + 1)) = omega arith in
       rw left (ap₂ (λ (a : ℕ) (r : List ℕ). a ∷ r) (ap f (add-zero i))
-      (tab-ext (n - (i + 1)) (λ j. f (i + suc j)) (λ j. f (i + 1 + j)) (λ j l. ap f (let same : i + suc j ≡ i + 1 + j = omega arith in same))))
+      (tab-ext (n - (i + 1)) (λ j. f (i + suc j)) (λ j. f (i + 1 + j)) (λ j l. ap f (one-on j))))
+    where
+      one-on : (j : ℕ) → i + suc j ≡ i + 1 + j
+      one-on j = omega arith
 
   pub rest-turn : (l : List ℕ) (at n i : ℕ) → i < n
       → sets l at (rest n i) ≡ sets (set l at (f i)) (at + 1) (rest n (i + 1))

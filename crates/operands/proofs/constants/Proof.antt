@@ -1,5 +1,5 @@
--- `operands::constants` meets its contract. The invariant: the numbers are those of the constants from i on, which leave room for one
--- more. The measure is i. Assumes nothing.
+-- `operands::constants` meets its contract. The invariant: the numbers are those of the constants from i on, which leave room
+-- for one more. The measure is i. Assumes nothing.
 use mathlib.Core.Path.{_≡_, refl, sym, ap, _∙_}
 use Prim.Native.Nat.{_+_, _-_, _≤_, min}
 use native.Mathlib.Omega.{arith}
@@ -86,8 +86,10 @@ returns c =
     let args = entered .before .before .args in
     let words = args .words .now in
     let k = min (args .n) 64 in
-    let x : end .x ≡ packed xOf words k (args .at) = packed-all xOf words k (args .at) (end .i) _ (c .loop-test .left) (end .inv .1) in
-    let y : end .y ≡ packed yOf words k (args .at) = packed-all yOf words k (args .at) (end .i) _ (c .loop-test .left) (end .inv .2) in
+    let x : end .x ≡ packed xOf words k (args .at) =
+    packed-all xOf words k (args .at) (end .i) _ (c .loop-test .left) (end .inv .1) in
+    let y : end .y ≡ packed yOf words k (args .at) =
+    packed-all yOf words k (args .at) (end .i) _ (c .loop-test .left) (end .inv .2) in
     ((x, y), packed-literal words (args .n) (args .at) (end .x) (end .y) x y)
 
 pub constants-spec : {M : Type 1} → statement M

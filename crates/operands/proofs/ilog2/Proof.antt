@@ -1,5 +1,5 @@
--- `operands::ilog2` meets its contract. The invariant: the stride, or 1 where it is 0, reaches the power of two of the exponent, and `next` is the
--- power after it. The measure is what the stride has above `next`. Assumes nothing.
+-- `operands::ilog2` meets its contract. The invariant: the stride, or 1 where it is 0, reaches the power of two of the
+-- exponent, and `next` is the power after it. The measure is what the stride has above `next`. Assumes nothing.
 use mathlib.Core.Path.{_≡_, refl, sym}
 use Prim.Native.Nat.{_+_, _-_, _^_, _≤_, max}
 use native.Mathlib.Omega.{arith}
@@ -34,8 +34,8 @@ loop-again c =
 returns : tie.Need-returns Inv-loop μ-loop
 returns c =
     let end = c .before .loop in
-    sym
-    (exponent-is (c .before .before .args .stride) (end .exponent) (end .next) (end .inv .0) (end .inv .1) (omega arith) (c .loop-test .left))
+    let args = c .before .before .args in
+    sym (exponent-is (args .stride) (end .exponent) _ (end .inv .0) (end .inv .1) (omega arith) (c .loop-test .left))
 
 pub ilog2-spec : {M : Type 1} → statement M
 ilog2-spec = tie.close (tie.spec Inv-loop μ-loop loop-holds mul-next add-exponent loop-less loop-again returns)

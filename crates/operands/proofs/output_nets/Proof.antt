@@ -1,5 +1,5 @@
--- `operands::output_nets` meets its contract. The invariant: storing the rest from here gives what storing all from the start
--- does. The measure is what is left to store; the nets of the stored words are the output's. Assumes nothing.
+-- `operands::output_nets` meets its contract. The invariant: storing the rest from here gives what storing all from the
+-- start does. The measure is what is left to store; the nets of the stored words are the output's. Assumes nothing.
 use borrow.Author.Needs.{needs}
 use Prim.Native.Nat.{ℕ, _+_, _-_}
 use mathlib.Core.Path.{_≡_, refl, sym, ap, _∙_}

@@ -12,7 +12,8 @@ value-wider : tie.Need-returns
 value-wider c =
     let log = c .before in
     let args = log .before .args in
-    let width = width-value (args .n) (args .m) (args .stride) (log .ilog2 .result) (log .ilog2 .ensures) (c .if1 .taken) (omega arith) in
+    let width =
+    width-value (args .n) (args .m) (args .stride) (log .ilog2 .result) (log .ilog2 .ensures) (c .if1 .taken) (omega arith) in
     (width, wide (args .n) (args .m) (args .stride) _ width)
 
 amount-wider : tie.Need-returns-2
@@ -20,7 +21,8 @@ amount-wider c =
     let more = c .before in
     let log = more .before in
     let args = log .before .args in
-    let width = width-amount (args .n) (args .m) (args .stride) (log .ilog2 .result) (log .ilog2 .ensures) (more .if1 .left) (c .if2 .taken) in
+    let places = log .ilog2 .ensures in
+    let width = width-amount (args .n) (args .m) (args .stride) _ places (more .if1 .left) (c .if2 .taken) in
     (width, wide (args .n) (args .m) (args .stride) _ width)
 
 too-wide : tie.Need-returns-3
