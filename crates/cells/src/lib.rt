@@ -1,5 +1,5 @@
-// SmtBuilder of smt.rs: arms of `cell`, each from the fields of the cell's record. A promise speaks of every slot and width that an arm does not
-// look at.
+// SmtBuilder of smt.rs: the arms of `cell` on one or two operands, and IoBuf, each from the fields of the cell's record. A promise speaks of every
+// slot and width that an arm does not look at.
 use builder::BuiltTrits;
 use builder::Counts;
 use logic::Net;
@@ -99,25 +99,6 @@ pub fn binary_cell(
     arith::tv_binary(calls, b.counts, operator, a.value, b.value, n, width)
 }
 
-// Cell::Mux
-pub fn mux_cell(
-    fields: &[u32],
-    table: &[u32],
-    calls: &mut [u32],
-    names: &mut [u32],
-    marks: &mut [u8],
-    c: Counts,
-    width: u32,
-) -> BuiltTrits
-    ensures { λ r. ⌜ ((slot : ℕ) → numberIn (now (fields .entry)) 0 ≤ 63 → RanCell (cell (pastIn (now (table .entry))) slot width (cellIn (now (fields .entry)) O.Mux 0)) (now (calls .entry)) (now (names .entry)) (now (marks .entry)) c (now (calls .exit)) (now (names .exit)) (now (marks .exit)) r) ⌝ }
-{
-    let n = number_at(fields, 0);
-    let s = net_at(fields, 1, table, calls, names, marks, c);
-    let a = values::value(fields, 2, n, table, calls, names, marks, s.counts);
-    let b = values::value(fields, 2 + n, n, table, calls, names, marks, a.counts);
-    trits::tv_mux(calls, b.counts, s.value, a.value, b.value, width)
-}
-
 // Cell::Aig
 pub fn aig_cell(
     fields: &[u32],
@@ -147,25 +128,4 @@ pub fn io_buf_cell(
     ensures { λ r. ⌜ ((n : ℕ) → width ≤ 64 → slot .0 + width + 1 < 536870911 → RanCell (cell (pastIn (now (table .entry))) (slot .0) width (ioBuf n)) (now (calls .entry)) (now (names .entry)) (now (marks .entry)) c (now (calls .exit)) (now (names .exit)) (now (marks .exit)) r) ⌝ }
 {
     values::output_value(slot, width, Reading::Either, table, calls, names, marks, c)
-}
-
-// Cell::Adc
-pub fn adc_cell(
-    fields: &[u32],
-    table: &[u32],
-    calls: &mut [u32],
-    names: &mut [u32],
-    marks: &mut [u8],
-    c: Counts,
-) -> BuiltTrits
-    ensures { λ r. ⌜ ((slot width : ℕ) → numberIn (now (fields .entry)) 0 ≤ 63 → RanCell (cell (pastIn (now (table .entry))) slot width (cellIn (now (fields .entry)) O.Adc 0)) (now (calls .entry)) (now (names .entry)) (now (marks .entry)) c (now (calls .exit)) (now (names .exit)) (now (marks .exit)) r) ⌝ }
-{
-    let n = number_at(fields, 0);
-    if n == 0 {
-        return net_at(fields, 1, table, calls, names, marks, c);
-    }
-    let a = values::value(fields, 1, n, table, calls, names, marks, c);
-    let b = values::value(fields, 1 + n, n, table, calls, names, marks, a.counts);
-    let carry = net_at(fields, 1 + n + n, table, calls, names, marks, b.counts);
-    vectors::tv_adc(calls, carry.counts, a.value, b.value, carry.value, n)
 }

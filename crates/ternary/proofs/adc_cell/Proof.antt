@@ -1,4 +1,4 @@
--- `cells::adc_cell` meets its contract: its calls are those of the model, one after the other. Assumes nothing.
+-- `ternary::adc_cell` meets its contract: its calls are those of the model, one after the other. Assumes nothing.
 use borrow.Author.Needs.{needs}
 use mathlib.Core.Path.{_≡_, _∙_}
 use Prim.Native.Nat.{_+_, _<_, _≤_}
@@ -6,9 +6,9 @@ use native.Mathlib.Omega.{arith}
 use Rattle.builder.proofs.Laws.{ran-bind}
 use Rattle.smt.specs.Builder.{cell, adcCell}
 use Rattle.logic.specs.Table.{tab}
-use Rattle.cells.proofs.Adc.{adc-some}
-use Rattle.cells.proofs.adc_cell.Statement.{statement}
-use Rattle.cells.proofs.adc_cell.Tie as tie
+use Rattle.ternary.proofs.Adc.{adc-some}
+use Rattle.ternary.proofs.adc_cell.Statement.{statement}
+use Rattle.ternary.proofs.adc_cell.Tie as tie
 
 returns : tie.Need-returns
 unfolding cell adcCell tab

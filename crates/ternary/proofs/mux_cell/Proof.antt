@@ -1,12 +1,12 @@
--- `cells::mux_cell` meets its contract: its calls are those of the model, one after the other. Assumes nothing.
+-- `ternary::mux_cell` meets its contract: its calls are those of the model, one after the other. Assumes nothing.
 use borrow.Author.Needs.{needs}
 use mathlib.Core.Path.{_∙_}
 use Prim.Native.Nat.{_≤_}
 use native.Mathlib.Omega.{arith}
 use Rattle.builder.proofs.Laws.{ran-bind}
 use Rattle.smt.specs.Builder.{cell}
-use Rattle.cells.proofs.mux_cell.Statement.{statement}
-use Rattle.cells.proofs.mux_cell.Tie as tie
+use Rattle.ternary.proofs.mux_cell.Statement.{statement}
+use Rattle.ternary.proofs.mux_cell.Tie as tie
 
 same-length : tie.Need-same-length
 same-length c =
