@@ -8,12 +8,15 @@ use engine::Compare;
 use logic::Term;
 use operators::Binary;
 ghost use mathlib.Core.Path.{_≡_};
-ghost use Prim.Native.Nat.{ℕ, _-_, _<_, _≤_};
+ghost use Prim.Native.Nat.{ℕ, suc, _-_, _≤_};
 ghost use Rattle.engine.specs.Emit.{binaryOf, compareOf};
-ghost use Rattle.cell.specs.Cell.{binaryWidth};
 ghost use Rattle.smt.specs.Builder.{bvNoX, tvEquals, tvLess, tvShift, tvMul, tvBinary};
 ghost use Rattle.builder.specs.Ran.{trits, MakesBool, MakesVector, MakesTrits};
+<<<<<<< HEAD
 ghost use Rattle.arith.specs.Shifts.{preparedOf};
+=======
+ghost use Rattle.arith.specs.Kinds.{preparedOf};
+>>>>>>> cells
 ghost use Rattle.arith.specs.Parts.{equalsUnless, amountTimes};
 
 // What prepare_shift gives: the width, the extended value and amount, and the amount times the stride.
@@ -124,7 +127,7 @@ pub fn tv_shift(
     n: u32,
     p: Prepared,
 ) -> BuiltTrits
-    ensures { λ r. ⌜ (0 < n → p .width ≤ 64 → MakesTrits (tvShift (binaryOf «on_x») (binaryOf «on_y») n (preparedOf p)) n (now (calls .entry)) c (now (calls .exit)) r) ⌝ }
+    ensures { λ r. ⌜ (p .width ≤ 64 → MakesTrits (tvShift (binaryOf «on_x») (binaryOf «on_y») n (preparedOf p)) (suc (n - 1)) (now (calls .entry)) c (now (calls .exit)) r) ⌝ }
 {
     let value = p.value;
     let amount = p.amount;
@@ -169,7 +172,11 @@ pub fn tv_binary(
     n: u32,
     width: u32,
 ) -> BuiltTrits
+<<<<<<< HEAD
     ensures { λ r. ⌜ (n ≤ 64 → width ≡ binaryWidth op n → MakesTrits (tvBinary op (trits n a) (trits n b) n width) width (now (calls .entry)) c (now (calls .exit)) r) ⌝ }
+=======
+    ensures { λ r. ⌜ (n ≤ 64 → (i : ℕ) × MakesTrits (tvBinary op (trits n a) (trits n b) n width) i (now (calls .entry)) c (now (calls .exit)) r) ⌝ }
+>>>>>>> cells
 {
     match op {
         Binary::And => trits::tv_and(calls, c, a, b, width),
