@@ -12,11 +12,7 @@ ghost use Prim.Native.Nat.{ℕ, suc, _-_, _≤_};
 ghost use Rattle.engine.specs.Emit.{binaryOf, compareOf};
 ghost use Rattle.smt.specs.Builder.{bvNoX, tvEquals, tvLess, tvShift, tvMul, tvBinary};
 ghost use Rattle.builder.specs.Ran.{trits, MakesBool, MakesVector, MakesTrits};
-<<<<<<< HEAD
 ghost use Rattle.arith.specs.Shifts.{preparedOf};
-=======
-ghost use Rattle.arith.specs.Kinds.{preparedOf};
->>>>>>> cells
 ghost use Rattle.arith.specs.Parts.{equalsUnless, amountTimes};
 
 // What prepare_shift gives: the width, the extended value and amount, and the amount times the stride.
@@ -172,11 +168,7 @@ pub fn tv_binary(
     n: u32,
     width: u32,
 ) -> BuiltTrits
-<<<<<<< HEAD
-    ensures { λ r. ⌜ (n ≤ 64 → width ≡ binaryWidth op n → MakesTrits (tvBinary op (trits n a) (trits n b) n width) width (now (calls .entry)) c (now (calls .exit)) r) ⌝ }
-=======
     ensures { λ r. ⌜ (n ≤ 64 → (i : ℕ) × MakesTrits (tvBinary op (trits n a) (trits n b) n width) i (now (calls .entry)) c (now (calls .exit)) r) ⌝ }
->>>>>>> cells
 {
     match op {
         Binary::And => trits::tv_and(calls, c, a, b, width),
