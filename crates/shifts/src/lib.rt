@@ -7,18 +7,18 @@ use operators::Shift;
 ghost use mathlib.Core.Path.{_≡_};
 ghost use mathlib.Core.Bool.{true};
 ghost use mathlib.Core.List.{[], _∷_, _++_};
-ghost use Prim.Native.Nat.{ℕ, suc, _+_, _-_, _≤_};
+ghost use Prim.Native.Nat.{ℕ, suc, _-_, _≤_};
 ghost use Rattle.logic.specs.Net.{constant};
 ghost use Rattle.logic.specs.declared.Trit.the-variants as t;
 ghost use Rattle.engine.specs.Call as k;
 ghost use Rattle.engine.specs.Emit.{binaryOf};
 ghost use Rattle.cell.specs.declared.Operation.the-variants as O;
 ghost use Rattle.cell_reader.specs.Parse.{numberIn, netsIn, cellIn};
-ghost use Rattle.smt.specs.Prog.{_>>=_};
-ghost use Rattle.smt.specs.Builder.{prepareAt, prepareShift, tvShift, cell};
+ghost use Rattle.smt.specs.Builder.{prepareAt, cell};
 ghost use Rattle.builder.specs.Ran.{Ran, RanTrits, RanCell};
 ghost use Rattle.nets.specs.Reads.{pastIn};
 ghost use Rattle.arith.specs.Kinds.{preparedOf};
+ghost use Rattle.shifts.specs.Parts.{valueIn, preparedIn, shiftedBy};
 
 // What prepare_shift gives, and the counts after its calls.
 pub struct BuiltPrepared {
@@ -42,13 +42,27 @@ fn prepare_at(
     ensures width { λ r. ⌜ r .prepared .width ≡ width ⌝ }
 {
     let value = values::value(value_ext, 0, width, table, calls, names, marks, c);
-    let amount = values::value(amount_ext, 0, width, table, calls, names, marks, value.counts);
+    let amount = values::value(
+        amount_ext,
+        0,
+        width,
+        table,
+        calls,
+        names,
+        marks,
+        value.counts,
+    );
     let amount_mul = arith::amount_times(calls, amount.counts, width, amount.value, stride);
     let value = value.value;
     let amount = amount.value;
     let term = amount_mul.term;
     let counts = amount_mul.counts;
-    let prepared = Prepared { width, value, amount, amount_mul: term };
+    let prepared = Prepared {
+        width,
+        value,
+        amount,
+        amount_mul: term,
+    };
     BuiltPrepared { prepared, counts }
 }
 
@@ -65,7 +79,7 @@ fn prepare_shift(
     marks: &mut [u8],
     c: Counts,
 ) -> BuiltPrepared
-    ensures ran { λ r. ⌜ (n ≤ 64 → numberIn (now (fields .entry)) 1 ≤ 32 → Ran (prepareShift (pastIn (now (table .entry))) (netsIn (now (words .entry)) n at) (netsIn (now (fields .entry)) (numberIn (now (fields .entry)) 1) (3 + numberIn (now (fields .entry)) 0)) (numberIn (now (fields .entry)) 2) signed) (now (calls .entry)) (now (names .entry)) (now (marks .entry)) c (now (calls .exit)) (now (names .exit)) (now (marks .exit)) (r .counts) (preparedOf (r .prepared))) ⌝ }
+    ensures ran { λ r. ⌜ (n ≤ 64 → numberIn (now (fields .entry)) 1 ≤ 32 → Ran (preparedIn (pastIn (now (table .entry))) (now (fields .entry)) (netsIn (now (words .entry)) n at) signed) (now (calls .entry)) (now (names .entry)) (now (marks .entry)) c (now (calls .exit)) (now (names .exit)) (now (marks .exit)) (r .counts) (preparedOf (r .prepared))) ⌝ }
     ensures narrow { λ r. ⌜ (n ≤ 64 → numberIn (now (fields .entry)) 1 ≤ 32 → r .prepared .width ≤ 64) ⌝ }
 {
     let m = cells::number_at(fields, 1);
@@ -76,26 +90,35 @@ fn prepare_shift(
     let amount = 3 + cells::number_at(fields, 0);
     let mut amount_ext = [0u32; 64];
     operands::extended_nets(&mut amount_ext, fields, amount, m, width, false);
-    prepare_at(width, &value_ext, &amount_ext, stride, table, calls, names, marks, c)
+    prepare_at(
+        width,
+        &value_ext,
+        &amount_ext,
+        stride,
+        table,
+        calls,
+        names,
+        marks,
+        c,
+    )
 }
 
-// A shift of the value of the fields, extended by its sign or by 0, by the operations on its x and on its y.
+// Cell::Shl, Cell::UShr, Cell::SShr: the value is extended by 0 or by its sign, and one operation shifts its x and its y.
 fn shifted(
     fields: &[u32],
     signed: bool,
-    on_x: BinaryOp,
-    on_y: BinaryOp,
+    op: BinaryOp,
     table: &[u32],
     calls: &mut [u32],
     names: &mut [u32],
     marks: &mut [u8],
     c: Counts,
 ) -> BuiltTrits
-    ensures { λ r. ⌜ (numberIn (now (fields .entry)) 0 ≤ 63 → numberIn (now (fields .entry)) 1 ≤ 32 → RanTrits (prepareShift (pastIn (now (table .entry))) (netsIn (now (fields .entry)) (numberIn (now (fields .entry)) 0) 3) (netsIn (now (fields .entry)) (numberIn (now (fields .entry)) 1) (3 + numberIn (now (fields .entry)) 0)) (numberIn (now (fields .entry)) 2) signed >>= tvShift (binaryOf «on_x») (binaryOf «on_y») (numberIn (now (fields .entry)) 0)) (suc (numberIn (now (fields .entry)) 0 - 1)) (now (calls .entry)) (now (names .entry)) (now (marks .entry)) c (now (calls .exit)) (now (names .exit)) (now (marks .exit)) r) ⌝ }
+    ensures { λ r. ⌜ (numberIn (now (fields .entry)) 0 ≤ 63 → numberIn (now (fields .entry)) 1 ≤ 32 → RanTrits (shiftedBy (pastIn (now (table .entry))) (now (fields .entry)) (valueIn (now (fields .entry))) signed (binaryOf op) (binaryOf op)) (suc (numberIn (now (fields .entry)) 0 - 1)) (now (calls .entry)) (now (names .entry)) (now (marks .entry)) c (now (calls .exit)) (now (names .exit)) (now (marks .exit)) r) ⌝ }
 {
     let n = cells::number_at(fields, 0);
     let p = prepare_shift(fields, 3, n, signed, fields, table, calls, names, marks, c);
-    arith::tv_shift(calls, p.counts, on_x, on_y, n, p.prepared)
+    arith::tv_shift(calls, p.counts, op, op, n, p.prepared)
 }
 
 // Cell::XShr: the value with a net X above it is extended by its sign.
@@ -107,13 +130,31 @@ fn shifted_undef(
     marks: &mut [u8],
     c: Counts,
 ) -> BuiltTrits
-    ensures { λ r. ⌜ (numberIn (now (fields .entry)) 0 ≤ 63 → numberIn (now (fields .entry)) 1 ≤ 32 → RanTrits (prepareShift (pastIn (now (table .entry))) ((netsIn (now (fields .entry)) (numberIn (now (fields .entry)) 0) 3) ++ (constant t.Undef ∷ [])) (netsIn (now (fields .entry)) (numberIn (now (fields .entry)) 1) (3 + numberIn (now (fields .entry)) 0)) (numberIn (now (fields .entry)) 2) true >>= tvShift k.bvashr k.bvlshr (numberIn (now (fields .entry)) 0)) (suc (numberIn (now (fields .entry)) 0 - 1)) (now (calls .entry)) (now (names .entry)) (now (marks .entry)) c (now (calls .exit)) (now (names .exit)) (now (marks .exit)) r) ⌝ }
+    ensures { λ r. ⌜ (numberIn (now (fields .entry)) 0 ≤ 63 → numberIn (now (fields .entry)) 1 ≤ 32 → RanTrits (shiftedBy (pastIn (now (table .entry))) (now (fields .entry)) (valueIn (now (fields .entry)) ++ (constant t.Undef ∷ [])) true k.bvashr k.bvlshr) (suc (numberIn (now (fields .entry)) 0 - 1)) (now (calls .entry)) (now (names .entry)) (now (marks .entry)) c (now (calls .exit)) (now (names .exit)) (now (marks .exit)) r) ⌝ }
 {
     let n = cells::number_at(fields, 0);
     let mut value = [0u32; 64];
     operands::concat_undef(&mut value, fields, 3, n);
-    let p = prepare_shift(&value, 0, n + 1, true, fields, table, calls, names, marks, c);
-    arith::tv_shift(calls, p.counts, BinaryOp::Ashr, BinaryOp::Lshr, n, p.prepared)
+    let p = prepare_shift(
+        &value,
+        0,
+        n + 1,
+        true,
+        fields,
+        table,
+        calls,
+        names,
+        marks,
+        c,
+    );
+    arith::tv_shift(
+        calls,
+        p.counts,
+        BinaryOp::Ashr,
+        BinaryOp::Lshr,
+        n,
+        p.prepared,
+    )
 }
 
 // Cell::Shl, Cell::UShr, Cell::SShr, Cell::XShr
@@ -129,9 +170,9 @@ pub fn shift_cell(
     ensures { λ r. ⌜ ((slot width : ℕ) → numberIn (now (fields .entry)) 0 ≤ 63 → numberIn (now (fields .entry)) 1 ≤ 32 → RanCell (cell (pastIn (now (table .entry))) slot width (cellIn (now (fields .entry)) (O.Shift operator) 0)) (now (calls .entry)) (now (names .entry)) (now (marks .entry)) c (now (calls .exit)) (now (names .exit)) (now (marks .exit)) r) ⌝ }
 {
     match operator {
-        Shift::Shl => shifted(fields, false, BinaryOp::Shl, BinaryOp::Shl, table, calls, names, marks, c),
-        Shift::UShr => shifted(fields, false, BinaryOp::Lshr, BinaryOp::Lshr, table, calls, names, marks, c),
-        Shift::SShr => shifted(fields, true, BinaryOp::Ashr, BinaryOp::Ashr, table, calls, names, marks, c),
+        Shift::Shl => shifted(fields, false, BinaryOp::Shl, table, calls, names, marks, c),
+        Shift::UShr => shifted(fields, false, BinaryOp::Lshr, table, calls, names, marks, c),
+        Shift::SShr => shifted(fields, true, BinaryOp::Ashr, table, calls, names, marks, c),
         Shift::XShr => shifted_undef(fields, table, calls, names, marks, c),
     }
 }

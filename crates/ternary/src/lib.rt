@@ -69,5 +69,12 @@ pub fn assign_cell(
     let enable = cells::net_at(fields, 3, table, calls, names, marks, c);
     let updated = values::value(&nets, 0, n, table, calls, names, marks, enable.counts);
     let value = values::value(fields, 4, n, table, calls, names, marks, updated.counts);
-    trits::tv_mux(calls, value.counts, enable.value, updated.value, value.value, width)
+    trits::tv_mux(
+        calls,
+        value.counts,
+        enable.value,
+        updated.value,
+        value.value,
+        width,
+    )
 }

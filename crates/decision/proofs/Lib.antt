@@ -1,0 +1,3 @@
+-- Laws of Match's loops and of the places of its patterns, for the proofs of this crate.
+pub mod Loops
+pub mod Patterns

@@ -1,0 +1,18 @@
+-- `decision::alternate_at` meets its contract: the sum of two numbers of 32 bits and of the product of two has 64, and one past the last is the last.
+-- Assumes nothing.
+use borrow.Author.Needs.{needs}
+use native.Mathlib.Omega.{arith}
+use Rattle.decision.proofs.Patterns.{product-fits}
+use Rattle.decision.proofs.alternate_at.Statement.{statement}
+use Rattle.decision.proofs.alternate_at.Tie as tie
+
+mul-place : tie.Need-mul-place
+mul-place c = omega (arith, product-fits (c .args .i) (c .args .n) (omega arith) (omega arith))
+
+add-place-2 : tie.Need-add-place-2
+add-place-2 c = omega (arith, product-fits (c .args .i) (c .args .n) (omega arith) (omega arith))
+
+pub alternate-at-spec : {M : Type 1} → statement M
+alternate-at-spec =
+    tie.close
+    (tie.spec (λ c. search needs) mul-place add-place-2 (λ c. search needs) (λ c. omega arith) (λ c. omega arith))
