@@ -43,7 +43,7 @@ pub fn net_at(
 }
 
 // `self.control_net(..)` of the control at a place.
-fn control_at(
+pub fn control_at(
     fields: &[u32],
     at: u32,
     table: &[u32],

@@ -7,27 +7,11 @@ ghost use Prim.Native.Nat.{ℕ, _+_, _≤_, _<_};
 ghost use mathlib.Core.Bool.{Bool, true, false};
 ghost use mathlib.Core.List.{List};
 ghost use Rattle.cell.specs.declared.Operation.the-variants as O;
-ghost use Rattle.cell_reader.specs.Parse.{numberIn, controlIn, cellIn};
-ghost use Rattle.smt.specs.Builder.{tvLit, hasClear, controlNet, enabled, resetTo, loaded, cleared, cell};
+ghost use Rattle.cell_reader.specs.Parse.{numberIn, cellIn};
+ghost use Rattle.smt.specs.Builder.{tvLit, hasClear, enabled, resetTo, loaded, cleared, cell};
 ghost use Rattle.builder.specs.Ran.{trits, MakesTrits, RanTrits, RanCell};
 ghost use Rattle.nets.specs.Reads.{pastIn};
 ghost use Rattle.flip_flop.specs.Parts.{flipFlopIn, clocked};
-
-// `self.control_net(..)` of the control at a place.
-fn control_at(
-    fields: &[u32],
-    at: usize,
-    table: &[u32],
-    calls: &mut [u32],
-    names: &mut [u32],
-    marks: &mut [u8],
-    c: Counts,
-) -> BuiltTrits
-    ensures { λ r. ⌜ RanTrits (controlNet (pastIn (now (table .entry))) (controlIn (now (fields .entry)) at)) 1 (now (calls .entry)) (now (names .entry)) (now (marks .entry)) c (now (calls .exit)) (now (names .exit)) (now (marks .exit)) r ⌝ }
-{
-    let control = nets::control_of(logic::word_at(fields, at));
-    nets::control_net(table, calls, names, marks, c, control)
-}
 
 // `self.tv_lit(&flip_flop.clear_value)`
 fn clear_value(fields: &[u32], calls: &mut [u32], c: Counts) -> BuiltTrits
@@ -231,9 +215,9 @@ pub fn dff_cell(
 {
     let n = logic::payload(logic::word_at(fields, 0));
     let data = values::value(fields, 6, n, table, calls, names, marks, c);
-    let clear = control_at(fields, 3, table, calls, names, marks, data.counts);
-    let reset = control_at(fields, 4, table, calls, names, marks, clear.counts);
-    let enable = control_at(fields, 5, table, calls, names, marks, reset.counts);
+    let clear = cells::control_at(fields, 3, table, calls, names, marks, data.counts);
+    let reset = cells::control_at(fields, 4, table, calls, names, marks, clear.counts);
+    let enable = cells::control_at(fields, 5, table, calls, names, marks, reset.counts);
     let data = loaded(
         fields,
         table,
