@@ -1,9 +1,9 @@
--- `flip_flop::enable_over_reset` meets its contract: reset, then enable. Assumes nothing.
+-- `flip_flop_data::enable_over_reset` meets its contract: reset, then enable. Assumes nothing.
 use borrow.Author.Needs.{needs}
 use Rattle.builder.proofs.Laws.{ran-bind}
 use Rattle.smt.specs.Builder.{loaded}
-use Rattle.flip_flop.proofs.enable_over_reset.Statement.{statement}
-use Rattle.flip_flop.proofs.enable_over_reset.Tie as tie
+use Rattle.flip_flop_data.proofs.enable_over_reset.Statement.{statement}
+use Rattle.flip_flop_data.proofs.enable_over_reset.Tie as tie
 
 returns : tie.Need-returns
 unfolding loaded

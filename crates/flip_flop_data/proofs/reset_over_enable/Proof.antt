@@ -1,12 +1,12 @@
--- `flip_flop::reset_over_enable` meets its contract: enable, then reset. Assumes nothing.
+-- `flip_flop_data::reset_over_enable` meets its contract: enable, then reset. Assumes nothing.
 use borrow.Author.Needs.{needs}
 use Rattle.builder.proofs.Laws.{ran-bind}
 use Rattle.smt.specs.Builder.{resetTo, loaded}
 use Rattle.builder.specs.Ran.{trits}
 use Rattle.nets.specs.Reads.{pastIn}
-use Rattle.flip_flop.specs.Parts.{flipFlopIn}
-use Rattle.flip_flop.proofs.reset_over_enable.Statement.{statement}
-use Rattle.flip_flop.proofs.reset_over_enable.Tie as tie
+use Rattle.flip_flop_data.specs.Fields.{flipFlopIn}
+use Rattle.flip_flop_data.proofs.reset_over_enable.Statement.{statement}
+use Rattle.flip_flop_data.proofs.reset_over_enable.Tie as tie
 
 returns : tie.Need-returns
 unfolding loaded

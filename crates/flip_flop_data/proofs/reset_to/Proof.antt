@@ -1,9 +1,9 @@
--- `flip_flop::reset_to` meets its contract: its calls are those of the model, one after the other. Assumes nothing.
+-- `flip_flop_data::reset_to` meets its contract: its calls are those of the model, one after the other. Assumes nothing.
 use borrow.Author.Needs.{needs}
 use Rattle.builder.proofs.Laws.{ran-bind}
 use Rattle.smt.specs.Builder.{resetTo}
-use Rattle.flip_flop.proofs.reset_to.Statement.{statement}
-use Rattle.flip_flop.proofs.reset_to.Tie as tie
+use Rattle.flip_flop_data.proofs.reset_to.Statement.{statement}
+use Rattle.flip_flop_data.proofs.reset_to.Tie as tie
 
 returns : tie.Need-returns
 unfolding resetTo

@@ -1,12 +1,12 @@
--- `flip_flop::loaded` meets its contract: the flag's number decides which order is taken. Assumes nothing.
+-- `flip_flop_data::loaded` meets its contract: the flag's number decides which order is taken. Assumes nothing.
 use borrow.Author.Needs.{needs}
 use borrow.Author.Tests.{eq-eqb, ne-eqb}
 use mathlib.Core.Path.{_≡_, ap, _∙_}
 use mathlib.Core.Bool.{true, false}
 use Rattle.logic.specs.Word.{payloadOf}
-use Rattle.flip_flop.specs.Parts.{flipFlopIn}
-use Rattle.flip_flop.proofs.loaded.Statement.{statement}
-use Rattle.flip_flop.proofs.loaded.Tie as tie
+use Rattle.flip_flop_data.specs.Fields.{flipFlopIn}
+use Rattle.flip_flop_data.proofs.loaded.Statement.{statement}
+use Rattle.flip_flop_data.proofs.loaded.Tie as tie
 
 returns : tie.Need-returns
 returns c =

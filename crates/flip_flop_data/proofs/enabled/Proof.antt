@@ -1,9 +1,9 @@
--- `flip_flop::enabled` meets its contract: its calls are those of the model, one after the other. Assumes nothing.
+-- `flip_flop_data::enabled` meets its contract: its calls are those of the model, one after the other. Assumes nothing.
 use borrow.Author.Needs.{needs}
 use Rattle.builder.proofs.Laws.{ran-bind}
 use Rattle.smt.specs.Builder.{enabled}
-use Rattle.flip_flop.proofs.enabled.Statement.{statement}
-use Rattle.flip_flop.proofs.enabled.Tie as tie
+use Rattle.flip_flop_data.proofs.enabled.Statement.{statement}
+use Rattle.flip_flop_data.proofs.enabled.Tie as tie
 
 returns : tie.Need-returns
 unfolding enabled

@@ -1,4 +1,4 @@
--- `flip_flop::reset_value` meets its contract: the constants at the place of the reset value are packed, and their literal is made. Assumes nothing.
+-- `flip_flop_data::reset_value` meets its contract: the constants at the place of the reset value are packed, and their literal is made. Assumes nothing.
 use borrow.Author.Needs.{needs}
 use mathlib.Core.Path.{_≡_, ap, _∙_}
 use Prim.Native.Nat.{_≤_}
@@ -6,8 +6,8 @@ use native.Mathlib.Omega.{arith}
 use Rattle.logic.specs.Table.{length-tab}
 use Rattle.logic.specs.Word.{payloadOf}
 use Rattle.builder.proofs.Laws.{ran-as}
-use Rattle.flip_flop.proofs.reset_value.Statement.{statement}
-use Rattle.flip_flop.proofs.reset_value.Tie as tie
+use Rattle.flip_flop_data.proofs.reset_value.Statement.{statement}
+use Rattle.flip_flop_data.proofs.reset_value.Tie as tie
 
 returns : tie.Need-returns
 returns c =
