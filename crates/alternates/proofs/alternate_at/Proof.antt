@@ -1,10 +1,10 @@
--- `decision::alternate_at` meets its contract: the sum of two numbers of 32 bits and of the product of two has 64, and one past the last is the last.
+-- `alternates::alternate_at` meets its contract: the sum of two numbers of 32 bits and of the product of two has 64, and one past the last is the last.
 -- Assumes nothing.
 use borrow.Author.Needs.{needs}
 use native.Mathlib.Omega.{arith}
-use Rattle.decision.proofs.Patterns.{product-fits}
-use Rattle.decision.proofs.alternate_at.Statement.{statement}
-use Rattle.decision.proofs.alternate_at.Tie as tie
+use Rattle.alternates.proofs.Places.{product-fits}
+use Rattle.alternates.proofs.alternate_at.Statement.{statement}
+use Rattle.alternates.proofs.alternate_at.Tie as tie
 
 mul-place : tie.Need-mul-place
 mul-place c = omega (arith, product-fits (c .args .i) (c .args .n) (omega arith) (omega arith))

@@ -1,4 +1,4 @@
--- `decision::compared` meets its contract: its calls are those of the model, one after the other. Assumes nothing.
+-- `alternates::compared` meets its contract: its calls are those of the model, one after the other. Assumes nothing.
 use borrow.Author.Needs.{needs}
 use mathlib.Core.Path.{_∙_}
 use Prim.Native.Nat.{_<_, _^_}
@@ -6,8 +6,8 @@ use native.Mathlib.Omega.{arith}
 use Rattle.builder.proofs.Laws.{ran-bind}
 use Rattle.smt.specs.Builder.{compared, net}
 use Rattle.smt.specs.Builder as model
-use Rattle.decision.proofs.compared.Statement.{statement}
-use Rattle.decision.proofs.compared.Tie as tie
+use Rattle.alternates.proofs.compared.Statement.{statement}
+use Rattle.alternates.proofs.compared.Tie as tie
 
 same-length : tie.Need-same-length
 same-length c =

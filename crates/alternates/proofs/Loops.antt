@@ -14,7 +14,7 @@ use Rattle.smt.specs.Builder.{tvLit, tvOr, product, sum}
 use Rattle.builder.specs.declared.Counts.{Counts}
 use Rattle.builder.specs.Ran.{Ran}
 use Rattle.builder.proofs.Laws.{ran-bind, ran-none}
-use Rattle.decision.specs.Parts.{position}
+use Rattle.alternates.specs.Parts.{position}
 
 -- ---- the positions of an alternate
 

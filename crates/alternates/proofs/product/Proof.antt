@@ -1,4 +1,4 @@
--- `decision::product` meets its contract. Invariant: the positions below `index` are compared, and what the model does from `index` on completes
+-- `alternates::product` meets its contract. Invariant: the positions below `index` are compared, and what the model does from `index` on completes
 -- its whole run (`ProductLeft`); each turn is one position. What is left of n positions falls. Assumes nothing.
 use borrow.Author.Needs.{needs}
 use mathlib.Core.Path.{_≡_, refl, _∙_}
@@ -9,9 +9,9 @@ use Rattle.cell_reader.specs.Parse.{netsIn, tritsIn}
 use Rattle.builder.specs.Ran.{trits}
 use Rattle.nets.specs.Reads.{pastIn}
 use Rattle.vectors.proofs.Tables.{drop-tab, drop-all}
-use Rattle.decision.proofs.Loops.{ProductLeft, product-start, product-turn, product-end}
-use Rattle.decision.proofs.product.Statement.{statement}
-use Rattle.decision.proofs.product.Tie as tie
+use Rattle.alternates.proofs.Loops.{ProductLeft, product-start, product-turn, product-end}
+use Rattle.alternates.proofs.product.Statement.{statement}
+use Rattle.alternates.proofs.product.Tie as tie
 
 abbrev Inv-loop : tie.InvT-loop
 Inv-loop fields at n table calls₀ names₀ marks₀ result₀ index₀ calls names marks result index =

@@ -1,9 +1,9 @@
--- `decision::position` meets its contract: an X is no part of the product, a 0 or a 1 is compared. Assumes nothing.
+-- `alternates::position` meets its contract: an X is no part of the product, a 0 or a 1 is compared. Assumes nothing.
 use borrow.Author.Needs.{needs}
 use Rattle.builder.proofs.Laws.{ran-none}
-use Rattle.decision.specs.Parts.{position}
-use Rattle.decision.proofs.position.Statement.{statement}
-use Rattle.decision.proofs.position.Tie as tie
+use Rattle.alternates.specs.Parts.{position}
+use Rattle.alternates.proofs.position.Statement.{statement}
+use Rattle.alternates.proofs.position.Tie as tie
 
 returns : tie.Need-returns
 unfolding position

@@ -1,4 +1,4 @@
--- `decision::sum` meets its contract. Invariant: the alternates below i are summed, and what the model does from i on completes its whole run
+-- `alternates::sum` meets its contract. Invariant: the alternates below i are summed, and what the model does from i on completes its whole run
 -- (`SumLeft`); each turn is one alternate, whose place is exact within the premise. What is left of the alternates falls. Assumes nothing.
 use borrow.Author.Needs.{needs}
 use mathlib.Core.Path.{_≡_, refl, ap, _∙_}
@@ -13,10 +13,10 @@ use Rattle.builder.specs.Ran.{trits}
 use Rattle.builder.proofs.Laws.{ran-bind}
 use Rattle.nets.specs.Reads.{pastIn}
 use Rattle.vectors.proofs.Tables.{drop-tab, drop-all}
-use Rattle.decision.proofs.Loops.{SumLeft, sum-start, sum-turn, sum-end}
-use Rattle.decision.proofs.Patterns.{alternate-low}
-use Rattle.decision.proofs.sum.Statement.{statement}
-use Rattle.decision.proofs.sum.Tie as tie
+use Rattle.alternates.proofs.Loops.{SumLeft, sum-start, sum-turn, sum-end}
+use Rattle.alternates.proofs.Places.{alternate-low}
+use Rattle.alternates.proofs.sum.Statement.{statement}
+use Rattle.alternates.proofs.sum.Tie as tie
 
 abbrev Inv-loop : tie.InvT-loop
 Inv-loop fields at n table calls₀ names₀ marks₀ alternates sum₀ i₀ calls names marks sum i =
