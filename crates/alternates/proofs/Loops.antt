@@ -32,7 +32,8 @@ pub record ProductLeft (readsPast : ℕ → Bool) (nets : List Net) (pattern : L
       → Ran (product readsPast (drop i nets) (drop i pattern) prd) calls names marks c calls′ names′ marks′ c′ r
       → Ran (product readsPast nets pattern prd₀) calls₀ names₀ marks₀ c₀ calls′ names′ marks′ c′ r
 
-module _ {readsPast : ℕ → Bool} {nets : List Net} {pattern : List Trit} {prd₀ : TritVec} {calls₀ names₀ marks₀ : List ℕ} {c₀ : Counts} where
+module _ {readsPast : ℕ → Bool} {nets : List Net} {pattern : List Trit} {prd₀ : TritVec}
+    {calls₀ names₀ marks₀ : List ℕ} {c₀ : Counts} where
   pub product-start : ProductLeft readsPast nets pattern prd₀ calls₀ names₀ marks₀ c₀ 0 prd₀ calls₀ names₀ marks₀ c₀
   product-start = record { rest = λ p. p }
 

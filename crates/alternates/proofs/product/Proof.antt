@@ -16,7 +16,8 @@ use Rattle.alternates.proofs.product.Tie as tie
 abbrev Inv-loop : tie.InvT-loop
 Inv-loop fields at n table calls₀ names₀ marks₀ result₀ index₀ calls names marks result index =
     (index ≤ n) × (length calls ≡ length calls₀) × (length names ≡ length names₀) × (length marks ≡ length marks₀)
-    × ProductLeft (pastIn table) (netsIn fields n 3) (tritsIn fields n at) (trits 1 (result₀ .value)) calls₀ names₀ marks₀ (result₀ .counts)
+    × ProductLeft (pastIn table) (netsIn fields n 3) (tritsIn fields n at) (trits 1 (result₀ .value))
+    calls₀ names₀ marks₀ (result₀ .counts)
     index (trits 1 (result .value)) calls names marks (result .counts)
 
 abbrev μ-loop : tie.MeasureT-loop

@@ -17,7 +17,8 @@ returns c =
     let args = at-word-at .before .before .before .before .before .before .args in
     let flag = at-payload .payload .ensures ∙ ap payloadOf (at-word-at .word-at .ensures) in
     λ small narrow low i.
-    let over : flipFlopIn (args .fields .now) .resetOverEnable ≡ true = rw (← flag, eq-eqb _ _ (at-test .if1 .taken)) in
+    let over : flipFlopIn (args .fields .now) .resetOverEnable ≡ true =
+    rw (← flag) (eq-eqb _ _ (at-test .if1 .taken)) in
     rw over (rw over at (at-order .reset-over-enable .ensures small narrow low i))
 
 returns-2 : tie.Need-returns-2
@@ -29,7 +30,8 @@ returns-2 c =
     let args = at-word-at .before .before .before .before .before .before .args in
     let flag = at-payload .payload .ensures ∙ ap payloadOf (at-word-at .word-at .ensures) in
     λ small narrow low i.
-    let over : flipFlopIn (args .fields .now) .resetOverEnable ≡ false = rw (← flag, ne-eqb _ _ (at-test .if1 .left)) in
+    let over : flipFlopIn (args .fields .now) .resetOverEnable ≡ false =
+    rw (← flag) (ne-eqb _ _ (at-test .if1 .left)) in
     rw over (rw over at (at-order .enable-over-reset .ensures small narrow low i))
 
 pub loaded-spec : {M : Type 1} → statement M

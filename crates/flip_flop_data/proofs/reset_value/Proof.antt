@@ -1,4 +1,5 @@
--- `flip_flop_data::reset_value` meets its contract: the constants at the place of the reset value are packed, and their literal is made. Assumes nothing.
+-- `flip_flop_data::reset_value` meets its contract: the constants at the place of the reset value are packed into a literal. Assumes
+-- nothing.
 use borrow.Author.Needs.{needs}
 use mathlib.Core.Path.{_≡_, ap, _∙_}
 use Prim.Native.Nat.{_≤_}
