@@ -17,7 +17,7 @@ ghost use Rattle.cell_reader.specs.Parse.{numberIn, netsIn, cellIn};
 ghost use Rattle.smt.specs.Builder.{prepareAt, cell};
 ghost use Rattle.builder.specs.Ran.{Ran, RanTrits, RanCell};
 ghost use Rattle.nets.specs.Reads.{pastIn};
-ghost use Rattle.arith.specs.Kinds.{preparedOf};
+ghost use Rattle.arith.specs.Shifts.{preparedOf};
 ghost use Rattle.shifts.specs.Parts.{valueIn, preparedIn, shiftedBy};
 
 // What prepare_shift gives, and the counts after its calls.
