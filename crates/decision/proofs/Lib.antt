@@ -1,3 +1,2 @@
--- Laws of Match's loops and of the places of its patterns, for the proofs of this crate.
-pub mod Loops
+-- Laws of the places of patterns, for the proofs of this crate.
 pub mod Patterns

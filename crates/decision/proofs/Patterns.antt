@@ -1,31 +1,19 @@
--- The places of a Match's alternates and patterns: within the bounds of an accepted list they are small. Assumes nothing.
+-- The places of a Match's patterns: within the bounds of an accepted list they are small. Assumes nothing.
 use mathlib.Core.Path.{_≡_, refl, ap, _∙_}
 use mathlib.Core.List.{List, [], _∷_}
 use Prim.Native.Nat.{ℕ, zero, suc, _+_, _*_, _-_, _<_, _≤_, _^_, min}
-use native.Mathlib.Nat.{mul-le-mul, mul-le-mul-right, le-refl}
+use native.Mathlib.Nat.{mul-le-mul}
 use native.Mathlib.Numerals.{add-one}
 use native.Mathlib.Omega.{arith}
 use lib.ListN.{length, drop}
 use lib.Seq.{drop-drop}
-use Rattle.logic.specs.Table.{tab, length-tab}
+use Rattle.logic.specs.Table.{length-tab}
 use Rattle.logic.specs.declared.Trit.{Trit}
 use Rattle.cell.specs.declared.Operation.the-variants as O
 use Rattle.cell_reader.specs.Parse.{numberIn, netIn, tritsIn, patternsIn, cellIn}
 use Rattle.rules.specs.Width.{Each}
 use Rattle.bound.specs.Bounded.{Bounded}
-use Rattle.decision.specs.Parts.{alternatesIn}
-
--- Two numbers of 32 bits have a product of 64, with room for two more.
-pub product-fits : (i n : ℕ) → i < 2 ^ 32 → n < 2 ^ 32 → i * n ≤ 18446744065119617025
-product-fits i n i-low n-low =
-    let i-last : i ≤ 4294967295 = omega arith in
-    let n-last : n ≤ 4294967295 = omega arith in mul-le-mul i-last n-last
-
--- The place of an alternate lies before that of the next pattern.
-pub alternate-low : (at i m n : ℕ) → i < m → at + 1 + m * n < 2 ^ 32 → min (at + 1 + i * n) 4294967295 ≡ at + 1 + i * n
-alternate-low at i m n low room =
-    let before : i ≤ m = omega arith in
-    let less : i * n ≤ m * n = mul-le-mul-right n before in omega arith
+use Rattle.alternates.specs.Parts.{alternatesIn}
 
 -- ---- the bounds of a Match
 

@@ -19,12 +19,14 @@ same-length c =
 
 same-length-2 : tie.Need-same-length-2
 same-length-2 c =
-    let at-net = c .before .before .before .before .before .before .before .before .before .before .before .before .before .before .before .before .before .before in
+    let later = c .before .before .before .before .before .before .before .before .before in
+    let at-net = later .before .before .before .before .before .before .before .before .before in
     at-net .net .kept .1 .1 .0
 
 same-length-3 : tie.Need-same-length-3
 same-length-3 c =
-    let at-net = c .before .before .before .before .before .before .before .before .before .before .before .before .before .before .before .before .before .before in
+    let later = c .before .before .before .before .before .before .before .before .before in
+    let at-net = later .before .before .before .before .before .before .before .before .before in
     at-net .net .kept .1 .1 .1 .0
 
 returns : tie.Need-returns

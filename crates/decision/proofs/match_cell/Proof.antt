@@ -23,13 +23,15 @@ same-length c =
 same-length-2 : tie.Need-same-length-2
 same-length-2 c =
     let at-chosen = c .before .before .before .before .before .before in
-    let at-matches = at-chosen .before .before .before .before .before .before .before .before .before .before .before .before .before .before .before .before .before .before .before .before in
+    let later = at-chosen .before .before .before .before .before .before .before .before .before .before in
+    let at-matches = later .before .before .before .before .before .before .before .before .before .before in
     at-chosen .chosen .kept .1 .1 .1 .1 .0 ∙ at-matches .matches .kept .1 .1 .1 .1 .1 .1 .0
 
 same-length-3 : tie.Need-same-length-3
 same-length-3 c =
     let at-chosen = c .before .before .before .before .before .before in
-    let at-matches = at-chosen .before .before .before .before .before .before .before .before .before .before .before .before .before .before .before .before .before .before .before .before in
+    let later = at-chosen .before .before .before .before .before .before .before .before .before .before in
+    let at-matches = later .before .before .before .before .before .before .before .before .before .before in
     at-chosen .chosen .kept .1 .1 .1 .1 .1 .0 ∙ at-matches .matches .kept .1 .1 .1 .1 .1 .1 .1 .0
 
 returns : tie.Need-returns

@@ -18,7 +18,8 @@ use Rattle.decision.proofs.matches.Tie as tie
 
 abbrev Inv-loop : tie.InvT-loop
 Inv-loop fields at n k table calls₀ names₀ marks₀ terms₀ counts₀ place₀ i₀ calls names marks terms counts place i =
-    (i ≤ k) × (length calls ≡ length calls₀) × (length names ≡ length names₀) × (length marks ≡ length marks₀) × (length terms ≡ length terms₀)
+    (i ≤ k) × (length calls ≡ length calls₀) × (length names ≡ length names₀) × (length marks ≡ length marks₀)
+    × (length terms ≡ length terms₀)
     × (place < 2 ^ 32)
     × (2 * k ≤ length terms₀ → place₀ ≤ 66 → n ≤ 63 → k ≤ 63 → Few (patternsIn fields n k place₀)
     → Reached fields n k place₀ i place

@@ -1,4 +1,5 @@
--- `flip_flop::clear_value` meets its contract: the constants at the place of the clear value are packed, and their literal is made. Assumes nothing.
+-- `flip_flop::clear_value` meets its contract: the constants at the place of the clear value are packed into a literal. Assumes
+-- nothing.
 use borrow.Author.Needs.{needs}
 use mathlib.Core.Path.{_≡_, ap, _∙_}
 use Prim.Native.Nat.{_≤_}

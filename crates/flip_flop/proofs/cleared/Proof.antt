@@ -4,7 +4,7 @@ use mathlib.Core.Path.{_≡_, sym, _∙_}
 use mathlib.Core.Bool.{true, false}
 use Rattle.builder.proofs.Laws.{ran-bind, ran-none}
 use Rattle.smt.specs.Builder.{hasClear, cleared}
-use Rattle.flip_flop.specs.Parts.{flipFlopIn}
+use Rattle.flip_flop_data.specs.Fields.{flipFlopIn}
 use Rattle.flip_flop.proofs.cleared.Statement.{statement}
 use Rattle.flip_flop.proofs.cleared.Tie as tie
 

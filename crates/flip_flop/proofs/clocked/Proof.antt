@@ -13,20 +13,25 @@ same-length c =
     let at-cleared = c .before .before in
     let at-tv-mux = at-cleared .before .before .before .before in
     let at-past-value = at-tv-mux .before .before .before .before .before .before .before .before in
-    let at-clock-net = at-past-value .before .before .before .before .before .before .before .before .before .before in
+    let later = at-past-value .before .before .before .before .before in
+    let at-clock-net = later .before .before .before .before .before in
     at-cleared .cleared .kept .1 .0 ∙ at-tv-mux .tv-mux .kept .0 ∙ at-past-value .past-value .kept .1 .1 .1 .0
     ∙ at-clock-net .clock-net .kept .0
 
 same-length-2 : tie.Need-same-length-2
 same-length-2 c =
-    let at-past-value = c .before .before .before .before .before .before .before .before .before .before .before .before .before .before in
-    let at-clock-net = at-past-value .before .before .before .before .before .before .before .before .before .before in
+    let later = c .before .before .before .before .before .before .before in
+    let at-past-value = later .before .before .before .before .before .before .before in
+    let later = at-past-value .before .before .before .before .before in
+    let at-clock-net = later .before .before .before .before .before in
     at-past-value .past-value .kept .1 .1 .1 .1 .0 ∙ at-clock-net .clock-net .kept .1 .0
 
 same-length-3 : tie.Need-same-length-3
 same-length-3 c =
-    let at-past-value = c .before .before .before .before .before .before .before .before .before .before .before .before .before .before in
-    let at-clock-net = at-past-value .before .before .before .before .before .before .before .before .before .before in
+    let later = c .before .before .before .before .before .before .before in
+    let at-past-value = later .before .before .before .before .before .before .before in
+    let later = at-past-value .before .before .before .before .before in
+    let at-clock-net = later .before .before .before .before .before in
     at-past-value .past-value .kept .1 .1 .1 .1 .1 .0 ∙ at-clock-net .clock-net .kept .1 .1 .0
 
 returns : tie.Need-returns
@@ -36,7 +41,8 @@ returns c =
     let at-cleared = c .before .before in
     let at-tv-mux = at-cleared .before .before .before .before in
     let at-past-value = at-tv-mux .before .before .before .before .before .before .before .before in
-    let at-clock-net = at-past-value .before .before .before .before .before .before .before .before .before .before in
+    let later = at-past-value .before .before .before .before .before in
+    let at-clock-net = later .before .before .before .before .before in
     let at-control-of = at-clock-net .before .before .before .before in
     let at-word-at = at-control-of .before in
     let word-is = at-word-at .word-at .ensures in

@@ -15,8 +15,10 @@ same-length c =
     let at-clocked = c .before .before .before .before .before .before in
     let at-loaded = at-clocked .before .before .before .before .before .before .before .before .before .before in
     let at-control-at3 = at-loaded .before .before .before .before .before .before .before .before .before .before in
-    let at-control-at2 = at-control-at3 .before .before .before .before .before .before .before .before .before .before in
-    let at-control-at = at-control-at2 .before .before .before .before .before .before .before .before .before .before in
+    let later = at-control-at3 .before .before .before .before .before in
+    let at-control-at2 = later .before .before .before .before .before in
+    let later = at-control-at2 .before .before .before .before .before in
+    let at-control-at = later .before .before .before .before .before in
     let at-value = at-control-at .before .before .before .before .before .before .before .before .before .before in
     at-clocked .clocked .kept .1 .1 .0 ∙ at-loaded .loaded .kept .1 .1 .0
     ∙ at-control-at3 .control-at3 .kept .1 .1 .1 .0 ∙ at-control-at2 .control-at2 .kept .1 .1 .1 .0
@@ -27,8 +29,10 @@ same-length-2 c =
     let at-clocked = c .before .before .before .before .before .before in
     let at-loaded = at-clocked .before .before .before .before .before .before .before .before .before .before in
     let at-control-at3 = at-loaded .before .before .before .before .before .before .before .before .before .before in
-    let at-control-at2 = at-control-at3 .before .before .before .before .before .before .before .before .before .before in
-    let at-control-at = at-control-at2 .before .before .before .before .before .before .before .before .before .before in
+    let later = at-control-at3 .before .before .before .before .before in
+    let at-control-at2 = later .before .before .before .before .before in
+    let later = at-control-at2 .before .before .before .before .before in
+    let at-control-at = later .before .before .before .before .before in
     let at-value = at-control-at .before .before .before .before .before .before .before .before .before .before in
     at-clocked .clocked .kept .1 .1 .1 .0 ∙ at-loaded .loaded .kept .1 .1 .1 .0
     ∙ at-control-at3 .control-at3 .kept .1 .1 .1 .1 .0 ∙ at-control-at2 .control-at2 .kept .1 .1 .1 .1 .0
@@ -39,8 +43,10 @@ same-length-3 c =
     let at-clocked = c .before .before .before .before .before .before in
     let at-loaded = at-clocked .before .before .before .before .before .before .before .before .before .before in
     let at-control-at3 = at-loaded .before .before .before .before .before .before .before .before .before .before in
-    let at-control-at2 = at-control-at3 .before .before .before .before .before .before .before .before .before .before in
-    let at-control-at = at-control-at2 .before .before .before .before .before .before .before .before .before .before in
+    let later = at-control-at3 .before .before .before .before .before in
+    let at-control-at2 = later .before .before .before .before .before in
+    let later = at-control-at2 .before .before .before .before .before in
+    let at-control-at = later .before .before .before .before .before in
     let at-value = at-control-at .before .before .before .before .before .before .before .before .before .before in
     at-clocked .clocked .kept .1 .1 .1 .1 .0 ∙ at-loaded .loaded .kept .1 .1 .1 .1 .0
     ∙ at-control-at3 .control-at3 .kept .1 .1 .1 .1 .1 .0 ∙ at-control-at2 .control-at2 .kept .1 .1 .1 .1 .1 .0
@@ -53,8 +59,10 @@ returns c =
     let at-clocked = c .before .before .before .before .before .before in
     let at-loaded = at-clocked .before .before .before .before .before .before .before .before .before .before in
     let at-control-at3 = at-loaded .before .before .before .before .before .before .before .before .before .before in
-    let at-control-at2 = at-control-at3 .before .before .before .before .before .before .before .before .before .before in
-    let at-control-at = at-control-at2 .before .before .before .before .before .before .before .before .before .before in
+    let later = at-control-at3 .before .before .before .before .before in
+    let at-control-at2 = later .before .before .before .before .before in
+    let later = at-control-at2 .before .before .before .before .before in
+    let at-control-at = later .before .before .before .before .before in
     let at-value = at-control-at .before .before .before .before .before .before .before .before .before .before in
     let at-payload = at-value .before .before .before .before in
     let at-word-at = at-payload .before in
