@@ -1,4 +1,5 @@
--- `cell_terms::cell` meets its contract: each arm is its arm of the model; the bounds of the cell are those of the numbers of its fields. Assumes nothing.
+-- `cell_terms::cell` meets its contract: each arm is its arm of the model; the bounds of the cell are those of the
+-- numbers of its fields. Assumes nothing.
 use borrow.Author.Needs.{needs}
 use mathlib.Core.Path.{sym}
 use Prim.Native.Nat.{_+_, _≤_}

@@ -11,7 +11,8 @@ same-length c =
     let at-tv-and = c .before .before in
     let at-control-at2 = at-tv-and .before .before .before .before .before .before .before .before in
     let at-control-at = at-control-at2 .before .before .before .before .before .before .before .before .before .before in
-    at-tv-and .tv-and .kept .0 ∙ at-control-at2 .control-at2 .kept .1 .1 .1 .0 ∙ at-control-at .control-at .kept .1 .1 .1 .0
+    at-tv-and .tv-and .kept .0 ∙ at-control-at2 .control-at2 .kept .1 .1 .1 .0 ∙
+    at-control-at .control-at .kept .1 .1 .1 .0
 
 same-length-2 : tie.Need-same-length-2
 same-length-2 c =
@@ -31,8 +32,11 @@ returns c =
     let at-tv-and = c .before .before in
     let at-control-at2 = at-tv-and .before .before .before .before .before .before .before .before in
     let at-control-at = at-control-at2 .before .before .before .before .before .before .before .before .before .before in
-    λ slot width.
-    (1, ran-bind _ (at-control-at .control-at .ensures) (ran-bind _ (at-control-at2 .control-at2 .ensures) (at-tv-and .tv-and .ensures 1 1 _ _)))
+    λ slot width. (
+      1,
+      ran-bind _ (at-control-at .control-at .ensures)
+          (ran-bind _ (at-control-at2 .control-at2 .ensures) (at-tv-and .tv-and .ensures 1 1 _ _)),
+    )
 
 pub aig-cell-spec : {M : Type 1} → statement M
 aig-cell-spec =

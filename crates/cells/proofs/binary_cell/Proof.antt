@@ -14,7 +14,8 @@ same-length c =
     let at-tv-binary = c .before .before in
     let at-value2 = at-tv-binary .before .before .before .before .before .before .before .before in
     let at-value = at-value2 .before .before .before .before .before .before .before .before .before .before in
-    at-tv-binary .tv-binary .kept .0 ∙ at-value2 .value2 .kept .1 .1 .1 .1 .0 ∙ at-value .value .kept .1 .1 .1 .1 .0
+    at-tv-binary .tv-binary .kept .0 ∙ at-value2 .value2 .kept .1 .1 .1 .1 .0 ∙
+    at-value .value .kept .1 .1 .1 .1 .0
 
 same-length-2 : tie.Need-same-length-2
 same-length-2 c =
@@ -35,11 +36,16 @@ returns c =
     let at-value2 = at-tv-binary .before .before .before .before .before .before .before .before in
     let at-value = at-value2 .before .before .before .before .before .before .before .before .before .before in
     let at-number-at = at-value .before .before .before .before in
+    let number = at-number-at .number-at .ensures in
     λ slot low.
     let n = at-number-at .number-at .result in
-    let small : n ≤ 64 = omega (arith, at-number-at .number-at .ensures, low) in
+    let small : n ≤ 64 = omega (arith, number, low) in
     let made = at-tv-binary .tv-binary .ensures small in
-    rw (length-tab, ← at-number-at .number-at .ensures) (made .0, ran-bind _ (at-value .value .ensures small) (ran-bind _ (at-value2 .value2 .ensures small) (made .1 _ _)))
+    rw (length-tab, ← number) (
+      made .0,
+      ran-bind _ (at-value .value .ensures small)
+          (ran-bind _ (at-value2 .value2 .ensures small) (made .1 _ _)),
+    )
 
 pub binary-cell-spec : {M : Type 1} → statement M
 binary-cell-spec =

@@ -10,7 +10,8 @@ returns c =
     let at-control-net = c .before .before .before .before .before .before in
     let at-control-of = at-control-net .before .before .before .before in
     let at-word-at = at-control-of .before in
-    let low : at-control-of .control-of .result .net .0 < 2 ^ 29 = rw (at-control-of .control-of .ensures) (omega arith) in
+    let low : at-control-of .control-of .result .net .0 < 2 ^ 29 =
+    rw (at-control-of .control-of .ensures) (omega arith) in
     rw (at-control-of .control-of .ensures, at-word-at .word-at .ensures) at (at-control-net .control-net .ensures low)
 
 pub control-at-spec : {M : Type 1} → statement M

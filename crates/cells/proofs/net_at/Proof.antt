@@ -9,8 +9,9 @@ returns : tie.Need-returns
 returns c =
     let at-net = c .before .before .before .before .before .before in
     let at-number-at = at-net .before .before .before .before in
-    let low : at-number-at .number-at .result < 2 ^ 29 = omega (arith, at-number-at .number-at .ensures) in
-    rw (at-number-at .number-at .ensures) at (at-net .net .ensures low)
+    let number = at-number-at .number-at .ensures in
+    let low : at-number-at .number-at .result < 2 ^ 29 = omega (arith, number) in
+    rw (number) at (at-net .net .ensures low)
 
 pub net-at-spec : {M : Type 1} → statement M
 net-at-spec =

@@ -14,10 +14,11 @@ returns c =
     let at-enum-told = c in
     let at-value = at-enum-told .before .before .before .before .before .before .before .before in
     let at-number-at = at-value .before .before .before .before in
+    let number = at-number-at .number-at .ensures in
     λ slot width low.
     let n = at-number-at .number-at .result in
-    let small : n ≤ 64 = omega (arith, at-number-at .number-at .ensures, low) in
-    rw (at-enum-told .enum-told .given .1, ← at-number-at .number-at .ensures) (n, at-value .value .ensures small)
+    let small : n ≤ 64 = omega (arith, number, low) in
+    rw (at-enum-told .enum-told .given .1, ← number) (n, at-value .value .ensures small)
 
 same-length-4 : tie.Need-same-length-4
 same-length-4 c =
@@ -32,10 +33,11 @@ returns-2 c =
     let at-enum-told2 = at-tv-not .before .before in
     let at-value = at-enum-told2 .before .before .before .before .before .before .before .before in
     let at-number-at = at-value .before .before .before .before in
+    let number = at-number-at .number-at .ensures in
     λ slot width low.
     let n = at-number-at .number-at .result in
-    let small : n ≤ 64 = omega (arith, at-number-at .number-at .ensures, low) in
-    rw (at-enum-told2 .enum-told2 .given .1, ← at-number-at .number-at .ensures) (n, ran-bind _ (at-value .value .ensures small) (at-tv-not .tv-not .ensures n _ _))
+    let small : n ≤ 64 = omega (arith, number, low) in
+    rw (at-enum-told2 .enum-told2 .given .1, ← number) (n, ran-bind _ (at-value .value .ensures small) (at-tv-not .tv-not .ensures n _ _))
 
 pub unary-cell-spec : {M : Type 1} → statement M
 unary-cell-spec =

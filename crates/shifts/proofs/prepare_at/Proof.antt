@@ -12,7 +12,8 @@ same-length c =
     let at-amount-times = c .before .before .before .before .before .before in
     let at-value2 = at-amount-times .before .before .before .before .before .before .before .before in
     let at-value = at-value2 .before .before .before .before .before .before .before .before .before .before in
-    at-amount-times .amount-times .kept .0 ∙ at-value2 .value2 .kept .1 .1 .1 .1 .0 ∙ at-value .value .kept .1 .1 .1 .1 .0
+    at-amount-times .amount-times .kept .0 ∙ at-value2 .value2 .kept .1 .1 .1 .1 .0 ∙
+    at-value .value .kept .1 .1 .1 .1 .0
 
 same-length-2 : tie.Need-same-length-2
 same-length-2 c =
@@ -31,8 +32,11 @@ unfolding prepareAt amountTimes
 returns c =
     let at-amount-times = c .before .before .before .before .before .before in
     let at-value2 = at-amount-times .before .before .before .before .before .before .before .before in
-    let at-value = at-value2 .before .before .before .before .before .before .before .before .before .before in
-    (λ low. ran-bind _ (at-value .value .ensures low) (ran-bind _ (at-value2 .value2 .ensures low) (ran-assoc _ _ _ (ran-ret _ (at-amount-times .amount-times .ensures low _ _ _)))), refl)
+    let at-value = at-value2 .before .before .before .before .before .before .before .before .before .before in (
+      λ low. ran-bind _ (at-value .value .ensures low)
+          (ran-bind _ (at-value2 .value2 .ensures low) (ran-assoc _ _ _ (ran-ret _ (at-amount-times .amount-times .ensures low _ _ _)))),
+      refl,
+    )
 
 pub prepare-at-spec : {M : Type 1} → statement M
 prepare-at-spec =

@@ -1,4 +1,5 @@
--- `shifts::prepare_shift` meets its contract: the words stored first are those of the extended value and amount, at the width of the model. Assumes nothing.
+-- `shifts::prepare_shift` meets its contract: the words stored first are those of the extended value and amount, at
+-- the width of the model. Assumes nothing.
 use borrow.Author.Needs.{needs}
 use native.Mathlib.Omega.{arith}
 use Rattle.operands.specs.Words.{Wide}
@@ -14,21 +15,25 @@ returns c =
     let at-extended-nets = at-number-at3 .before .before in
     let at-shift-width = at-extended-nets .before .before in
     let at-number-at2 = at-shift-width .before in
+    let number-2 = at-number-at2 .number-at2 .ensures in
     let at-number-at = at-number-at2 .before in
+    let number = at-number-at .number-at .ensures in
     let at-args = at-number-at .before .before .before .before .before .before .before in
     let args = at-args .args in
     let m = at-number-at .number-at .result in
     let stride = at-number-at2 .number-at2 .result in
     let width = at-shift-width .shift-width .result in (
       λ small few.
-          let wide : Wide (args .n) m stride width = at-shift-width .shift-width .ensures .1 small (omega (arith, at-number-at .number-at .ensures, few)) (omega (arith, at-number-at2 .number-at2 .ensures)) in
+          let wide : Wide (args .n) m stride width =
+          at-shift-width .shift-width .ensures .1 small (omega (arith, number, few)) (omega (arith, number-2)) in
           let value = at-extended-nets .extended-nets .ensures .1 (wide .value) (wide .narrow) in
           let amount = at-extended-nets2 .extended-nets2 .ensures .1 (wide .amount) (wide .narrow) in
-          rw (← at-number-at .number-at .ensures, ← at-number-at2 .number-at2 .ensures, ← at-number-at3 .number-at3 .ensures)
+          rw (← number, ← number-2, ← at-number-at3 .number-at3 .ensures)
           (ran-prepared _ (args .words .now) (args .n) (args .at) (args .fields .now) m _ stride (args .signed) width (wide .exact)
           (rw (value, amount) at (at-prepare-at .prepare-at .ensures .0 (wide .narrow)))),
       λ small few.
-          let wide : Wide (args .n) m stride width = at-shift-width .shift-width .ensures .1 small (omega (arith, at-number-at .number-at .ensures, few)) (omega (arith, at-number-at2 .number-at2 .ensures)) in
+          let wide : Wide (args .n) m stride width =
+          at-shift-width .shift-width .ensures .1 small (omega (arith, number, few)) (omega (arith, number-2)) in
           rw (at-prepare-at .prepare-at .ensures .1) (wide .narrow),
     )
 

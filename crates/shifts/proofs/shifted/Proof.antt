@@ -18,11 +18,13 @@ returns c =
     let at-tv-shift = c .before .before in
     let at-prepare-shift = at-tv-shift .before .before .before .before .before .before .before .before in
     let at-number-at = at-prepare-shift .before .before .before .before in
+    let number = at-number-at .number-at .ensures in
     λ low few.
     let n = at-number-at .number-at .result in
-    let small : n ≤ 64 = omega (arith, at-number-at .number-at .ensures, low) in
+    let small : n ≤ 64 = omega (arith, number, low) in
     let narrow = at-prepare-shift .prepare-shift .ensures .1 small few in
-    rw (← at-number-at .number-at .ensures) (ran-bind _ (rw (← at-number-at .number-at .ensures) at (at-prepare-shift .prepare-shift .ensures .0 small few)) (at-tv-shift .tv-shift .ensures narrow _ _))
+    rw (← number)
+    (ran-bind _ (rw (← number) at (at-prepare-shift .prepare-shift .ensures .0 small few)) (at-tv-shift .tv-shift .ensures narrow _ _))
 
 pub shifted-spec : {M : Type 1} → statement M
 shifted-spec =

@@ -1,4 +1,5 @@
--- `shifts::shifted_undef` meets its contract: the words stored first are those of the value and a net X; then its calls are those of the model, one after the other. Assumes nothing.
+-- `shifts::shifted_undef` meets its contract: the words stored first are those of the value and a net X; then its
+-- calls are those of the model, one after the other. Assumes nothing.
 use borrow.Author.Needs.{needs}
 use mathlib.Core.Path.{_∙_}
 use Prim.Native.Nat.{_+_, _≤_}
@@ -19,12 +20,14 @@ returns c =
     let at-prepare-shift = at-tv-shift .before .before .before .before .before .before .before .before in
     let at-concat-undef = at-prepare-shift .before .before .before .before .before .before in
     let at-number-at = at-concat-undef .before .before in
+    let number = at-number-at .number-at .ensures in
     λ low few.
     let n = at-number-at .number-at .result in
-    let small : n + 1 ≤ 64 = omega (arith, at-number-at .number-at .ensures, low) in
+    let small : n + 1 ≤ 64 = omega (arith, number, low) in
     let undef = at-concat-undef .concat-undef .ensures .1 small in
     let narrow = at-prepare-shift .prepare-shift .ensures .1 small few in
-    rw (← at-number-at .number-at .ensures) (ran-bind _ (rw (undef, ← at-number-at .number-at .ensures) at (at-prepare-shift .prepare-shift .ensures .0 small few)) (at-tv-shift .tv-shift .ensures narrow _ _))
+    rw (← number)
+    (ran-bind _ (rw (undef, ← number) at (at-prepare-shift .prepare-shift .ensures .0 small few)) (at-tv-shift .tv-shift .ensures narrow _ _))
 
 pub shifted-undef-spec : {M : Type 1} → statement M
 shifted-undef-spec =
