@@ -1,12 +1,13 @@
--- `answer::run_end` meets its contract. The loop's invariant: the run that starts at `at` ends where the one from `start` does.
+-- `tokens::run_end` meets its contract. The loop's invariant: the run that starts at `at` ends where the one from `start` does.
 -- The measure is what is left of the text. Assumes nothing.
 use borrow.Author.Needs.{needs}
 use Prim.Native.Nat.{_-_}
 use mathlib.Core.Path.{_≡_, refl, sym, _∙_}
 use lib.ListN.{length}
-use Rattle.answer.specs.Place.{runEnd, run-none, run-stops, run-goes}
-use Rattle.answer.proofs.run_end.Statement.{statement}
-use Rattle.answer.proofs.run_end.Tie as tie
+use Rattle.tokens.specs.Place.{runEnd}
+use Rattle.tokens.proofs.Laws.{run-none, run-stops, run-goes}
+use Rattle.tokens.proofs.run_end.Statement.{statement}
+use Rattle.tokens.proofs.run_end.Tie as tie
 
 abbrev Inv-loop : tie.InvT-loop
 Inv-loop text start at₀ at = runEnd text start ≡ runEnd text at

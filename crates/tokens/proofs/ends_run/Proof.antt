@@ -1,7 +1,7 @@
--- `answer::ends_run` meets its contract: white space first, then a parenthesis. Assumes nothing.
+-- `tokens::ends_run` meets its contract: white space first, then a parenthesis. Assumes nothing.
 use borrow.Author.Needs.{needs}
-use Rattle.answer.proofs.ends_run.Statement.{statement}
-use Rattle.answer.proofs.ends_run.Tie as tie
+use Rattle.tokens.proofs.ends_run.Statement.{statement}
+use Rattle.tokens.proofs.ends_run.Tie as tie
 
 is-white-requires : tie.Need-is-white-requires
 is-white-requires c κs = search needs

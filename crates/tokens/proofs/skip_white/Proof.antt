@@ -1,14 +1,15 @@
--- `answer::skip_white` meets its contract. The loop's invariant: the tokens from `at` are those from `start`.
+-- `tokens::skip_white` meets its contract. The loop's invariant: the tokens from `at` are those from `start`.
 -- The measure is what is left of the text. Assumes nothing.
 use borrow.Author.Needs.{needs}
 use Prim.Native.Nat.{_-_}
 use mathlib.Core.Path.{_≡_, refl, sym, _∙_}
 use native.Mathlib.Omega.{arith}
 use lib.ListN.{length}
-use Rattle.answer.specs.Place.{tokensFrom, tokens-white}
+use Rattle.tokens.specs.Place.{tokensFrom}
+use Rattle.tokens.proofs.Laws.{tokens-white}
 use borrow.Author.Tests.{not-true, not-false}
-use Rattle.answer.proofs.skip_white.Statement.{statement}
-use Rattle.answer.proofs.skip_white.Tie as tie
+use Rattle.tokens.proofs.skip_white.Statement.{statement}
+use Rattle.tokens.proofs.skip_white.Tie as tie
 
 abbrev Inv-loop : tie.InvT-loop
 Inv-loop text start at₀ at = tokensFrom text start ≡ tokensFrom text at

@@ -1,12 +1,12 @@
--- `answer::next_token` meets its contract: past the white space stands the end, a parenthesis or a run. Assumes nothing.
+-- `tokens::next_token` meets its contract: past the white space stands the end, a parenthesis or a run. Assumes nothing.
 use borrow.Author.Needs.{needs}
 use mathlib.Core.Path.{sym, _∙_}
 use native.Mathlib.Omega.{arith}
-use Rattle.answer.specs.Place.{tokens-none, tokens-parenthesis, tokens-run, run-inside, run-after}
+use Rattle.tokens.proofs.Laws.{tokens-none, tokens-parenthesis, tokens-run, run-inside, run-after}
 use Prim.Native.Nat.{_+_, _≤_}
 use lib.ListN.{length}
-use Rattle.answer.proofs.next_token.Statement.{statement}
-use Rattle.answer.proofs.next_token.Tie as tie
+use Rattle.tokens.proofs.next_token.Statement.{statement}
+use Rattle.tokens.proofs.next_token.Tie as tie
 
 skip-white-requires : tie.Need-skip-white-requires
 skip-white-requires c κs = search needs

@@ -1,42 +1,17 @@
--- The reader goes from place to place of the text: the tokens from a place on, and what a step of the code says of them.
+-- What the steps of the code need to know of the tokens from a place on.
 use mathlib.Core.Path.{_≡_, refl, _∙_}
 use mathlib.Core.Bool.{Bool, true, false, _||_}
 use mathlib.Core.List.{List, [], _∷_}
-use Prim.Native.Nat.{ℕ, zero, suc, _+_, _-_, _<_, _≤_}
+use Prim.Native.Nat.{ℕ, zero, suc, _+_, _<_, _≤_}
 use native.Mathlib.Nat.{add-zero, add-suc, suc-add, lt-suc-self}
 use native.Mathlib.Numerals.{add-one}
 use native.Mathlib.Omega.{arith}
 use lib.ListN.{length, take, drop, getD, drop-of-length-le, length-drop}
 use lib.Seq.{slice, slice-cons, slice-empty, drop-cons, drop-drop, drop-at, take-add, length-take-le}
-use Rattle.answer.specs.Token.{Token, tokens, run, white, parenthesis}
-use Rattle.answer.specs.declared.Next.{Next}
-use Rattle.answer.specs.declared.Next.the-variants as next
-
--- The tokens from a place of the text on.
-unfoldable pub tokensFrom : List ℕ → ℕ → List Token
-tokensFrom text at = tokens at 0 (drop at text)
-
--- Where the run that starts at a place ends.
-unfoldable pub runEnd : List ℕ → ℕ → ℕ
-runEnd text at = at + length (run (drop at text))
-
--- White space passed over: the tokens are the same, and what stands there is not white.
-pub record Skipped (text : List ℕ) (start at : ℕ) : Type 0 where
-  pub tokens : tokensFrom text start ≡ tokensFrom text at
-  pub stops : at < length text → white (getD text at 0) ≡ false
-
--- The tokens that the next token's place stands for.
-abbrev pub tokensAt : List ℕ → Next → List Token
-tokensAt text next.End = []
-tokensAt text (next.Token start end) = record { place = start; spelling = slice start end text } ∷ tokensFrom text end
-
-abbrev pub Inside : List ℕ → Next → Type 0
-Inside text next.End = Unit {0}
-Inside text (next.Token start end) = (start ≤ end) × (end ≤ length text)
-
-pub record Found (text : List ℕ) (at : ℕ) (found : Next) : Type 0 where
-  pub tokens : tokensFrom text at ≡ tokensAt text found
-  pub inside : Inside text found
+use Rattle.tokens.specs.Token.{tokens, run, white, parenthesis}
+use Rattle.tokens.specs.Place.{tokensFrom, runEnd, Found}
+use Rattle.tokens.specs.declared.Next.{Next}
+use Rattle.tokens.specs.declared.Next.the-variants as next
 
 -- Bytes that a token covers hold no other token.
 covered : (place n : ℕ) (bytes : List ℕ) → tokens place n bytes ≡ tokens (place + n) 0 (drop n bytes)
