@@ -13,7 +13,7 @@ use Rattle.logic.specs.declared.Readback.the-variants.{Shown}
 use Rattle.logic.specs.declared.Fault.{Fault}
 use Rattle.text.specs.Write.{overwrite, overwrite-none, overwrite-more}
 use Rattle.text.specs.Names.{spelling, askedFrom, asked}
-use Rattle.answer.specs.Token.{Token}
+use Rattle.tokens.specs.Token.{Token}
 use Rattle.answer.specs.Reply.{Result, Reader, got, refused, return, onGot, pairs, pairSpelled, shownFirst, table}
 use Rattle.answer.specs.Step.{trit, entryOf, entries, written}
 

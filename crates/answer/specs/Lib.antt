@@ -1,7 +1,5 @@
-pub mod Token
 pub mod Reply
 pub mod Same
-pub mod Place
 pub mod Step
 pub mod Entries
 pub mod Model

@@ -17,9 +17,9 @@ use Rattle.answer.specs.declared.Step.{Step}
 use Rattle.answer.specs.declared.Step.the-variants as step
 use Rattle.answer.specs.declared.Verdict.{Verdict}
 use Rattle.answer.specs.declared.Verdict.the-variants as verdict
-use Rattle.answer.specs.Token.{Token, tokensOf}
+use Rattle.tokens.specs.Token.{Token, tokensOf}
 use Rattle.answer.specs.Reply.{Result, Reader, Reply, got, refused, return, onGot, pairs, table, badMark, expect, ended, model, satisfied, unsat, sat, bad, refuse, reply, replyTo, tableAfter, answerOf, Read}
-use Rattle.answer.specs.Place.{tokensFrom}
+use Rattle.tokens.specs.Place.{tokensFrom}
 use Rattle.answer.specs.Step.{entries, written}
 use Rattle.answer.specs.Entries.{forget, nothing, entries-table, whole}
 

@@ -17,7 +17,7 @@ use Rattle.text.specs.Bytes.{ascii, decimal, decimal-digit, decimal-more}
 use Rattle.text.specs.Names.{nameText, letterText, suffixText, asked, askedFrom}
 use Rattle.answer.specs.declared.Answer.the-variants.{Sat}
 use Rattle.answer.specs.declared.Mark.the-variants.{Fine}
-use Rattle.answer.specs.Token.{tokens, tokensOf, run, white, parenthesis}
+use Rattle.tokens.specs.Token.{tokens, tokensOf, run, white, parenthesis}
 use Rattle.answer.specs.Reply.{got, same, expect, expectName, value, pairSpelled, pair, pairs, model, ended, reply, sat, satisfied, table, badMark, Read}
 use Rattle.answer.specs.Model.{reply-text, read-as}
 

@@ -16,7 +16,7 @@ use Rattle.answer.specs.declared.Answer.{Answer}
 use Rattle.answer.specs.declared.Answer.the-variants.{Unsat, Sat, Refused}
 use Rattle.answer.specs.declared.Mark.{Mark}
 use Rattle.answer.specs.declared.Mark.the-variants.{Fine, Bad}
-use Rattle.answer.specs.Token.{Token, tokensOf}
+use Rattle.tokens.specs.Token.{Token, tokensOf}
 
 -- Equality of spellings.
 unfoldable pub same : List ℕ → List ℕ → Bool

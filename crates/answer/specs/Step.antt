@@ -12,9 +12,9 @@ use Rattle.answer.specs.declared.Bit.{Bit}
 use Rattle.answer.specs.declared.Bit.the-variants as bit
 use Rattle.answer.specs.declared.Entry.{Entry}
 use Rattle.answer.specs.declared.Entry.the-variants as entry
-use Rattle.answer.specs.Token.{Token}
+use Rattle.tokens.specs.Token.{Token}
 use Rattle.answer.specs.Reply.{Result, Reader, got, refused, return, onGot, _>>=_, _>>_, pairSpelled}
-use Rattle.answer.specs.Place.{tokensFrom}
+use Rattle.tokens.specs.Place.{tokensFrom}
 
 abbrev pub stepResult : List ℕ → Step → Result (Unit {0})
 stepResult text (step.At at) = got tt (tokensFrom text at)

@@ -1,17 +1,17 @@
 // The answer reader: a solver's reply, read against the recorded marks into a lent table of trits.
 use logic::Fault;
 use logic::Readback;
+use tokens::Next;
 ghost use mathlib.Core.Path.{_≡_};
-ghost use mathlib.Core.Bool.{_||_};
 ghost use mathlib.Core.List.{List};
 ghost use Prim.Native.Nat.{_≤_};
 ghost use lib.ListN.{length};
 ghost use lib.Seq.{slice};
-ghost use Rattle.answer.specs.Token.{white, parenthesis, tokensOf};
+ghost use Rattle.tokens.specs.Token.{tokensOf};
+ghost use Rattle.tokens.specs.Place.{tokensFrom};
 ghost use Rattle.engine.specs.Call.{Name};
 ghost use Rattle.answer.specs.Reply.{same, expectSpelled, expectName, value, pairSpelled, ended, badMark, model, reply, Read};
 ghost use Rattle.answer.specs.Model.{listed, Tabled, replyAfter};
-ghost use Rattle.answer.specs.Place.{Skipped, Found, runEnd, tokensFrom};
 ghost use Rattle.answer.specs.Step.{endResult, stepResult, bitResult, entryResult, trit, entryOf, entries, written};
 ghost use Rattle.answer.specs.Entries.{forget, nothing};
 ghost use Rattle.text.specs.Names.{spelling, asked};
@@ -28,12 +28,6 @@ pub enum Answer {
 enum Mark {
     Fine,
     Bad(usize),
-}
-
-// Where the next token stands: from a place up to another.
-enum Next {
-    End,
-    Token(usize, usize),
 }
 
 // The place after a token that was expected.
@@ -61,84 +55,6 @@ enum Verdict {
     Refused(Fault),
 }
 
-// Is a byte white space?
-fn is_white(byte: u8) -> bool
-    ensures { λ r. ⌜ r ≡ white byte ⌝ }
-{
-    if byte == 9 {
-        return true;
-    }
-    if byte == 10 {
-        return true;
-    }
-    if byte == 13 {
-        return true;
-    }
-    byte == 32
-}
-
-// Is a byte a parenthesis?
-fn is_parenthesis(byte: u8) -> bool
-    ensures { λ r. ⌜ r ≡ parenthesis byte ⌝ }
-{
-    if byte == 40 {
-        return true;
-    }
-    byte == 41
-}
-
-// Does a byte end a run?
-fn ends_run(byte: u8) -> bool
-    ensures { λ r. ⌜ r ≡ (white byte || parenthesis byte) ⌝ }
-{
-    if is_white(byte) {
-        return true;
-    }
-    is_parenthesis(byte)
-}
-
-// The first place from `start` on where no white space stands.
-fn skip_white(text: &[u8], start: usize) -> usize
-    ensures { λ r. ⌜ Skipped (now (text .entry)) start r ⌝ }
-{
-    let mut at = start;
-    while at < text.len() {
-        if !is_white(text[at]) {
-            return at;
-        }
-        at += 1;
-    }
-    at
-}
-
-// The place where the run of bytes that starts at `start` ends.
-fn run_end(text: &[u8], start: usize) -> usize
-    ensures { λ r. ⌜ r ≡ runEnd (now (text .entry)) start ⌝ }
-{
-    let mut at = start;
-    while at < text.len() {
-        if ends_run(text[at]) {
-            return at;
-        }
-        at += 1;
-    }
-    at
-}
-
-// The next token from a place on.
-fn next_token(text: &[u8], start: usize) -> Next
-    ensures { λ r. ⌜ Found (now (text .entry)) start r ⌝ }
-{
-    let at = skip_white(text, start);
-    if text.len() <= at {
-        return Next::End;
-    }
-    if is_parenthesis(text[at]) {
-        return Next::Token(at, at + 1);
-    }
-    Next::Token(at, run_end(text, at + 1))
-}
-
 // Is the token between two places spelled as a word?
 fn token_is(text: &[u8], start: usize, end: usize, word: &[u8]) -> bool
     requires { ⌜ (start ≤ end) × (end ≤ length (now text)) ⌝ }
@@ -161,7 +77,7 @@ fn token_is(text: &[u8], start: usize, end: usize, word: &[u8]) -> bool
 fn expect_word(text: &[u8], at: usize, word: &[u8]) -> Step
     ensures { λ r. ⌜ expectSpelled (now (word .entry)) (tokensFrom (now (text .entry)) at) ≡ stepResult (now (text .entry)) r ⌝ }
 {
-    match next_token(text, at) {
+    match tokens::next_token(text, at) {
         Next::End => Step::Refused(Fault {
             number: 16,
             place: 0,
@@ -183,7 +99,7 @@ fn expect_word(text: &[u8], at: usize, word: &[u8]) -> Step
 fn expect_name(text: &[u8], at: usize, name: &[u8]) -> Step
     ensures { λ r. ⌜ expectName (now (name .entry)) (tokensFrom (now (text .entry)) at) ≡ stepResult (now (text .entry)) r ⌝ }
 {
-    match next_token(text, at) {
+    match tokens::next_token(text, at) {
         Next::End => Step::Refused(Fault {
             number: 16,
             place: 0,
@@ -216,7 +132,7 @@ fn expect_name(text: &[u8], at: usize, name: &[u8]) -> Step
 fn value_at(text: &[u8], at: usize) -> Bit
     ensures { λ r. ⌜ value (tokensFrom (now (text .entry)) at) ≡ bitResult (now (text .entry)) r ⌝ }
 {
-    match next_token(text, at) {
+    match tokens::next_token(text, at) {
         Next::End => Bit::Refused(Fault {
             number: 16,
             place: 0,
@@ -299,7 +215,7 @@ fn entry_at(text: &[u8], at: usize, slot: usize, mark: u8) -> Entry
 fn end_at(text: &[u8], at: usize) -> Step
     ensures { λ r. ⌜ ended (tokensFrom (now (text .entry)) at) ≡ endResult r ⌝ }
 {
-    match next_token(text, at) {
+    match tokens::next_token(text, at) {
         Next::End => Step::At(at),
         Next::Token(start, _) => Step::Refused(Fault {
             number: 16,
@@ -412,7 +328,7 @@ fn model_at(text: &[u8], at: usize, recorded: &[u8]) -> Step
 fn verdict_of(text: &[u8]) -> Verdict
     ensures { λ r. ⌜ ((names : List Name) → reply names (tokensOf (now (text .entry))) ≡ replyAfter (now (text .entry)) names r) ⌝ }
 {
-    match next_token(text, 0) {
+    match tokens::next_token(text, 0) {
         Next::End => Verdict::Refused(Fault {
             number: 16,
             place: 0,

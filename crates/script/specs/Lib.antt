@@ -1,10 +1,5 @@
 pub mod Text
 pub mod Shape
-pub mod Pieces
-pub mod Operation
 pub mod Record
 pub mod Walk
-pub mod Ending
-pub mod Marks
 pub mod Written
-pub mod Tables

@@ -1,30 +1,23 @@
 -- The line of a record: what the code writes at a place, after some records.
 use mathlib.Core.Path.{_≡_, _∙_}
 use mathlib.Core.List.{List}
-use Prim.Native.Nat.{ℕ, _-_, _%_}
-use lib.ListN.{length, getD}
+use Prim.Native.Nat.{ℕ}
+use lib.ListN.{length}
 use borrow.Author.Tests.{ne-eqb}
-use Rattle.logic.specs.Word.{payloadOf}
-use Rattle.engine.specs.Encode.{opOf, operationAt, countAt, callAt}
+use Rattle.engine.specs.Encode.{operationAt, countAt, callAt}
 use Rattle.terms.specs.Made.{made, sortsOf, sortOfCall}
 use Rattle.terms.specs.Find.{firstCalls}
-use Rattle.terms.specs.Literal.{payloads}
-use Rattle.script.specs.Text.{reference, applied, line}
-use Rattle.script.specs.Pieces.{argumentTexts}
-use Rattle.terms.specs.Literal.{LiteralFits}
+use Rattle.terms.specs.Literal.{payloads, LiteralFits}
 use Rattle.text.specs.Bytes.{ascii}
-use Rattle.script.specs.Shape.{shapeOf, arityOf, operationText, nameOf, bodyBy, defineLine, declareLine, assertLine, lineBy, line-by}
-
-abbrev pub shapeAt : List ℕ → ℕ → ℕ
-shapeAt w head = shapeOf (operationAt w head)
+use Rattle.pieces.specs.Text.{reference, applied}
+use Rattle.pieces.specs.Shape.{arityOf, operationText, nameOf, shapeAt}
+use Rattle.pieces.specs.Arguments.{argumentTexts}
+use Rattle.script.specs.Text.{line}
+use Rattle.script.specs.Shape.{bodyBy, defineLine, declareLine, assertLine, lineBy, line-by}
 
 -- The text of the term that the record at a place makes.
 abbrev pub bodyAt : List ℕ → ℕ → ℕ → List ℕ
 bodyAt w records head = bodyBy (shapeAt w head) (reference (firstCalls w records)) (operationAt w head) (countAt w head) (payloads w head)
-
--- The shape as the code finds it.
-pub shape-at : (w : List ℕ) (head : ℕ) {op shape : ℕ} → op ≡ payloadOf (getD w head 0) % 32 → shape ≡ shapeOf (opOf op) → shapeAt w head ≡ shape
-shape-at w head is-op is-shape = rw (is-shape, is-op)
 
 -- Any other term is an application.
 pub body-applied : (w : List ℕ) (records head : ℕ) → (shapeAt w head ≡ 1 → ⊥) → (shapeAt w head ≡ 2 → ⊥) → (shapeAt w head ≡ 3 → ⊥)

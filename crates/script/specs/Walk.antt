@@ -22,7 +22,7 @@ use Rattle.checker.specs.TableLaws.{ReadTo, record-sort-said, sorts-more}
 use Rattle.checker.specs.Checking.{read-start}
 use Rattle.terms.specs.Made.{sortsOf, sortOfCall, leaves-append}
 use Rattle.terms.specs.Find.{firstCalls, Reached, reached-start, reached-next, first-more, split, madeAt, made-at}
-use Rattle.script.specs.Shape.{shapeOf}
+use Rattle.pieces.specs.Shape.{shapeOf}
 use Rattle.terms.specs.Literal.{literal-fits}
 use Rattle.script.specs.Record.{Ready, lineAt}
 use Rattle.script.specs.Text.{line, lines, lines-more}

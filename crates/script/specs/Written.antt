@@ -15,12 +15,12 @@ use Rattle.checker.specs.Tables.{checkedAs}
 use Rattle.checker.specs.declared.CallList.the-variants.{WellFormed, Malformed}
 use Rattle.text.specs.Names.{asked}
 use Rattle.text.specs.Write.{capped, overwrite-fits, Wrote}
-use Rattle.script.specs.declared.Mark.{Mark}
-use Rattle.script.specs.declared.Mark.the-variants.{Fine, Bad}
+use Rattle.asked.specs.declared.Mark.{Mark}
+use Rattle.asked.specs.declared.Mark.the-variants.{Fine, Bad}
 use Rattle.script.specs.declared.Written.{Written}
 use Rattle.script.specs.declared.Written.the-variants.{Bytes, Refused}
 use Rattle.script.specs.Text.{script}
-use Rattle.script.specs.Marks.{badMark}
+use Rattle.asked.specs.Marks.{badMark}
 use Rattle.script.specs.Walk.{IsWellFormed}
 
 -- The script of a list of words and its recorded marks.

@@ -19,8 +19,8 @@ use Rattle.design.specs.Requirement3.{declaredNames, IsDeclared, Declared}
 use Rattle.design.specs.Verified.{callWords, marks}
 use Rattle.design.specs.Required.{never-malformed}
 use Rattle.design.specs.Marks.{Marked, list-marked}
-use Rattle.script.specs.Ending.{any}
-use Rattle.script.specs.Marks.{declaresName, declared, allDeclared, markStands, badMark, mark-fine, marks-done}
+use Rattle.asked.specs.Marks.{any, declaresName, declared, allDeclared, markStands, badMark}
+use Rattle.asked.proofs.Marks.{mark-fine, marks-done}
 use Rattle.script.specs.Written.{scriptOf, roomFor, onFormed, marked, marked-fine, written}
 
 -- A declared name is found.

@@ -1,6 +1,6 @@
 -- `answer::end_at` meets its contract: the next token, if there is one, is unreadable. Assumes nothing.
 use borrow.Author.Needs.{needs}
-use Rattle.answer.specs.Place.{found-end, found-token}
+use Rattle.tokens.proofs.Laws.{found-end, found-token}
 use Rattle.answer.proofs.end_at.Statement.{statement}
 use Rattle.answer.proofs.end_at.Tie as tie
 

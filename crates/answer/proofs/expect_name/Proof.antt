@@ -1,6 +1,6 @@
 -- `answer::expect_name` meets its contract: the next token is compared with the name, and then with the parentheses. Assumes nothing.
 use borrow.Author.Needs.{needs}
-use Rattle.answer.specs.Place.{found-end, found-token, found-inside}
+use Rattle.tokens.proofs.Laws.{found-end, found-token, found-inside}
 use Rattle.answer.proofs.expect_name.Statement.{statement}
 use Rattle.answer.proofs.expect_name.Tie as tie
 

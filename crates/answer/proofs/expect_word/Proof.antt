@@ -1,6 +1,6 @@
 -- `answer::expect_word` meets its contract: the next token is compared with the word. Assumes nothing.
 use borrow.Author.Needs.{needs}
-use Rattle.answer.specs.Place.{found-end, found-token, found-inside}
+use Rattle.tokens.proofs.Laws.{found-end, found-token, found-inside}
 use Rattle.answer.proofs.expect_word.Statement.{statement}
 use Rattle.answer.proofs.expect_word.Tie as tie
 

@@ -4,7 +4,7 @@ use borrow.Author.Needs.{needs}
 use Prim.Native.Nat.{_-_}
 use mathlib.Core.Path.{_≡_, refl, ap, _∙_}
 use lib.ListN.{length, drop}
-use Rattle.answer.specs.Place.{tokensFrom}
+use Rattle.tokens.specs.Place.{tokensFrom}
 use Rattle.answer.specs.Step.{entries}
 use Rattle.answer.specs.Entries.{forget, entries-turn, entries-fault, entries-done}
 use Rattle.answer.proofs.scan_entries.Statement.{statement}

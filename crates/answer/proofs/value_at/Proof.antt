@@ -1,6 +1,6 @@
 -- `answer::value_at` meets its contract: the next token is compared with the two values. Assumes nothing.
 use borrow.Author.Needs.{needs}
-use Rattle.answer.specs.Place.{found-end, found-token, found-inside}
+use Rattle.tokens.proofs.Laws.{found-end, found-token, found-inside}
 use Rattle.answer.proofs.value_at.Statement.{statement}
 use Rattle.answer.proofs.value_at.Tie as tie
 

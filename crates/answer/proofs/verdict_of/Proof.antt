@@ -1,6 +1,6 @@
 -- `answer::verdict_of` meets its contract: the first token is compared with sat, unsat and unknown. Assumes nothing.
 use borrow.Author.Needs.{needs}
-use Rattle.answer.specs.Place.{found-end, found-token, found-inside}
+use Rattle.tokens.proofs.Laws.{found-end, found-token, found-inside}
 use Rattle.answer.specs.Reply.{reply}
 use Rattle.answer.specs.Model.{tokens-start}
 use Rattle.answer.proofs.verdict_of.Statement.{statement}

@@ -1,7 +1,7 @@
 -- `script::put_body` meets its contract: each shape has its own function. Assumes nothing.
 use borrow.Author.Needs.{needs}
 use mathlib.Core.Path.{sym, _∙_}
-use Rattle.script.specs.Record.{shape-at}
+use Rattle.pieces.proofs.Laws.{shape-at}
 use Rattle.script.specs.Record.{body-applied}
 use Rattle.script.proofs.put_body.Statement.{statement}
 use Rattle.script.proofs.put_body.Tie as tie

@@ -1,7 +1,8 @@
 -- `script::put_record` meets its contract: each shape has its own line. Assumes nothing.
 use borrow.Author.Needs.{needs}
 use mathlib.Core.Path.{sym, _∙_}
-use Rattle.script.specs.Record.{shape-at, line-declared, line-asserted, line-checked, line-defined}
+use Rattle.pieces.proofs.Laws.{shape-at}
+use Rattle.script.specs.Record.{line-declared, line-asserted, line-checked, line-defined}
 use Rattle.script.proofs.put_record.Statement.{statement}
 use Rattle.script.proofs.put_record.Tie as tie
 

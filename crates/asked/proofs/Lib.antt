@@ -1,0 +1,2 @@
+mod Ending
+pub mod Marks

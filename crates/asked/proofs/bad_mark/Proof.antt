@@ -1,0 +1,65 @@
+-- `asked::bad_mark` meets its contract. The loop's invariant: the first mark that does not stand is the first from `slot` on.
+-- The measure is the number of marks left. Assumes nothing.
+use borrow.Author.Needs.{needs}
+use Prim.Native.Nat.{_-_}
+use mathlib.Core.Path.{_≡_, refl, sym, _∙_}
+use lib.ListN.{length, drop}
+use borrow.Author.Tests.{not-true, not-false}
+use Rattle.engine.specs.Encode.{decode}
+use Rattle.asked.specs.Marks.{badMark}
+use Rattle.asked.proofs.Marks.{mark-bad, mark-fine, marks-done}
+use Rattle.asked.proofs.bad_mark.Statement.{statement}
+use Rattle.asked.proofs.bad_mark.Tie as tie
+
+abbrev Inv-loop : tie.InvT-loop
+Inv-loop calls recorded slot₀ slot = badMark (decode calls) 0 recorded ≡ badMark (decode calls) slot (drop slot recorded)
+
+abbrev μ-loop : tie.MeasureT-loop
+μ-loop calls recorded slot₀ slot = length recorded - slot
+
+loop-holds : tie.Need-loop-holds Inv-loop μ-loop
+loop-holds c = refl
+
+shared-slice-read-mark-stands : tie.Need-shared-slice-read-mark-stands Inv-loop μ-loop
+shared-slice-read-mark-stands c = search needs
+
+mark-stands-requires : tie.Need-mark-stands-requires Inv-loop μ-loop
+mark-stands-requires c κs = search needs
+
+returns : tie.Need-returns Inv-loop μ-loop
+returns c =
+    let tested = c .before in
+    let turn = tested .before .before in
+    let looped = turn .before in
+    sym (looped .loop .inv ∙ mark-bad _ _ _ (turn .loop-test .taken) (sym (tested .mark-stands .ensures) ∙ not-true _ (c .if1 .taken)))
+
+add-slot : tie.Need-add-slot Inv-loop μ-loop
+add-slot c = search needs
+
+loop-less : tie.Need-loop-less Inv-loop μ-loop
+loop-less c = search needs
+
+loop-again : tie.Need-loop-again Inv-loop μ-loop
+loop-again c =
+    let tested = c .before in
+    let turn = tested .before .before in
+    let looped = turn .before in
+    looped .loop .inv ∙ mark-fine _ _ _ (turn .loop-test .taken) (sym (tested .mark-stands .ensures) ∙ not-false _ (c .if1 .left))
+
+returns-2 : tie.Need-returns-2 Inv-loop μ-loop
+returns-2 c = sym (c .before .loop .inv ∙ marks-done _ _ _ (c .loop-test .left))
+
+pub bad-mark-spec : {M : Type 1} → statement M
+bad-mark-spec =
+    tie.close
+    (tie.spec
+    Inv-loop
+    μ-loop
+    loop-holds
+    shared-slice-read-mark-stands
+    mark-stands-requires
+    returns
+    add-slot
+    loop-less
+    loop-again
+    returns-2)

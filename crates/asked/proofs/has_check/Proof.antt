@@ -1,0 +1,82 @@
+-- `asked::has_check` meets its contract. The loop's invariant: the records before `head` have no check.
+-- The measure is what is left of the list. Assumes nothing.
+use borrow.Author.Needs.{needs}
+use Prim.Native.Nat.{_-_}
+use Prim.Native.Nat.{ℕ}
+use mathlib.Core.Path.{_≡_, sym, _∙_}
+use native.Mathlib.Omega.{arith}
+use borrow.Author.Tests.{eq-eqb, ne-eqb}
+use lib.ListN.{length}
+use Rattle.engine.specs.Encode.{nextAt}
+use Rattle.pieces.proofs.Laws.{shape-at}
+use Rattle.asked.proofs.Ending.{checks, checks-at, checked-any, NoneOf, none-start, none-next, none-end, some-here}
+use Rattle.asked.proofs.has_check.Statement.{statement}
+use Rattle.asked.proofs.has_check.Tie as tie
+
+abbrev Inv-loop : tie.InvT-loop
+Inv-loop calls head₀ head = (records terms : ℕ) × NoneOf checks calls records head terms
+
+abbrev μ-loop : tie.MeasureT-loop
+μ-loop calls head₀ head = length calls - head
+
+loop-holds : tie.Need-loop-holds Inv-loop μ-loop
+loop-holds c = (0, 0, none-start _ _)
+
+operation-requires : tie.Need-operation-requires Inv-loop μ-loop
+operation-requires c κs = search needs
+
+shape-requires : tie.Need-shape-requires Inv-loop μ-loop
+shape-requires c κs = search needs
+
+returns : tie.Need-returns Inv-loop μ-loop
+returns c =
+    let shaped = c .before in
+    let turn = shaped .before .before in
+    let looped = turn .before in
+    let start = looped .before .before in
+    let shape = shape-at (start .args .calls .now) (looped .loop .head) (shaped .before .operation .ensures) (shaped .shape .ensures) in
+    let check = checks-at (start .args .calls .now) (looped .loop .head) ∙ eq-eqb _ 7 (shape ∙ c .if1 .taken) in
+    sym (checked-any _ ∙ some-here (looped .loop .inv .2) (turn .loop-test .taken) check)
+
+next-record-requires : tie.Need-next-record-requires Inv-loop μ-loop
+next-record-requires c κs = search needs
+
+loop-less : tie.Need-loop-less Inv-loop μ-loop
+loop-less c =
+    let turn = c .before .before .before .before in
+    let start = turn .before .before .before in
+    omega (arith, c .next-record .ensures, turn .loop-test .taken, start .good .0)
+
+loop-again : tie.Need-loop-again Inv-loop μ-loop
+loop-again c =
+    let other = c .before in
+    let shaped = other .before in
+    let turn = shaped .before .before in
+    let looped = turn .before in
+    let start = looped .before .before in
+    let shape = shape-at (start .args .calls .now) (looped .loop .head) (shaped .before .operation .ensures) (shaped .shape .ensures) in
+    let inside = turn .loop-test .taken in
+    let short = start .good .0 in
+    let next : nextAt (start .args .calls .now) (looped .loop .head) ≡ c .next-record .result =
+    omega (arith, inside, c .next-record .ensures) in
+    let none = checks-at (start .args .calls .now) (looped .loop .head) ∙ ne-eqb _ 7 (λ e. other .if1 .left (sym shape ∙ e)) in
+    let step = none-next (looped .loop .inv .2) inside none in
+    (_, _, rw next at step)
+
+returns-2 : tie.Need-returns-2 Inv-loop μ-loop
+returns-2 c = sym (checked-any _ ∙ none-end (c .before .loop .inv .2) (c .loop-test .left))
+
+pub has-check-spec : {M : Type 1} → statement M
+has-check-spec =
+    tie.close
+    (tie.spec
+    Inv-loop
+    μ-loop
+    loop-holds
+    operation-requires
+    shape-requires
+    returns
+    next-record-requires
+    loop-less
+    loop-again
+    returns-2)

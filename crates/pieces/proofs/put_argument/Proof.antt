@@ -1,0 +1,26 @@
+-- `pieces::put_argument` meets its contract: a space, then the term. Assumes nothing.
+use borrow.Author.Needs.{needs}
+use Rattle.text.specs.Write.{wrote-then}
+use Rattle.pieces.proofs.put_argument.Statement.{statement}
+use Rattle.pieces.proofs.put_argument.Tie as tie
+
+put-byte-requires : tie.Need-put-byte-requires
+put-byte-requires c κs = search needs
+
+put-reference-requires : tie.Need-put-reference-requires
+put-reference-requires c κs = search needs
+
+same-length : tie.Need-same-length
+same-length c = search needs
+
+returns : tie.Need-returns
+returns c =
+    let written = c .before .before in
+    let spaced = written .before .before .before .before in
+    let start = spaced .before .before .before .before in
+    let short = start .good .0 .0 in
+    wrote-then short (spaced .put-byte .ensures) (written .put-reference .ensures)
+
+pub put-argument-spec : {M : Type 1} → statement M
+put-argument-spec =
+    tie.close (tie.spec put-byte-requires put-reference-requires same-length returns)
