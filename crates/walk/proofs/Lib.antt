@@ -1,0 +1,3 @@
+-- Laws of the walk, for the proofs of this crate and of those that use it.
+pub mod Does
+pub mod Cells
