@@ -146,7 +146,7 @@ pub record Here (w table : List ℕ) (slot at : ℕ) : Type 0 where
   pub after : slot + max 1 (widthIn table slot) ≤ 4096
 
 module _ (w : List ℕ) {table : List ℕ} {d : Design} {replacements pairs : ℕ} (accepts : read w ≡ accepted d replacements pairs) (tells : Tells d table) where
-  pub place-start : Place d w table replacements pairs 0 4 replacements
+  unfoldable pub place-start : Place d w table replacements pairs 0 4 replacements
   place-start =
       let all = stages (accepted-read w accepts) in
       let laid = accepted-laid w accepts in

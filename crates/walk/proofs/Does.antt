@@ -112,7 +112,7 @@ left-end {calls = calls} {names = names} {marks = marks} {eqs = eqs} {s = s} p =
 
 module _ (past : ℕ → Bool) (slot : ℕ) (a : Cell) where
   -- A cell that is added obliges nothing.
-  added-none : (width : ℕ) → obligedIn (addCell past slot width a ∷ []) ≡ 0
+  pub added-none : (width : ℕ) → obligedIn (addCell past slot width a ∷ []) ≡ 0
   unfolding obligedIn
   added-none width = go (isInput a) _ _
     where

@@ -1,0 +1,76 @@
+-- The two loops: where each stands, and that the steps that are left complete the whole order of work.
+use mathlib.Core.Path.{_≡_, refl, sym, subst, _∙_}
+use mathlib.Core.List.{List, [], _∷_, _++_}
+use Prim.Native.Nat.{ℕ, _+_, _≤_, _<_, max}
+use lib.ListN.{length}
+use Rattle.cell.specs.Design.{Design, total}
+use Rattle.cell_reader.specs.Parse.{cellAt, endAt}
+use Rattle.design_list.specs.Items.{netPair}
+use Rattle.design_list.specs.Read.{read, accepted}
+use Rattle.working_out.specs.Reading.{readsPast, pairOf}
+use Rattle.nets.specs.Reads.{pastIn}
+use Rattle.order.specs.Verify.{Step, pairSteps, eachCell, eachPair, steps}
+use Rattle.slots.specs.Tells.{widthIn, Tells}
+use Rattle.walk.specs.declared.Walked.{Walked}
+use Rattle.walk.specs.Does.{Does}
+use Rattle.walk.specs.Cursor.{newAt, repAfter, stepsAt}
+use Rattle.walk.proofs.Does.{Left, left-start, left-turn, left-end}
+use Rattle.walk.proofs.Cells.{Place, place-start, past-is, cell-turn, cells-end}
+use Rattle.walk.proofs.Pairs.{AtPair, pairs-start, pair-turn, pairs-end}
+
+-- Along the cells.
+pub record Along (d : Design) (w table : List ℕ) (replacements pairs slot at rep : ℕ) (calls₀ names₀ marks₀ eqs₀ : List ℕ) (s₀ : Walked) (calls names marks eqs : List ℕ) (s : Walked) : Type 0 where
+  pub place : Place d w table replacements pairs slot at rep
+  pub left : Left (eachCell d (d .cells)) (eachCell d (place .cells)) calls₀ names₀ marks₀ eqs₀ s₀ calls names marks eqs s
+
+module _ (w : List ℕ) {table : List ℕ} {d : Design} {replacements pairs : ℕ} (accepts : read w ≡ accepted d replacements pairs) (tells : Tells d table) where
+  pub along-start : (calls names marks eqs : List ℕ) (s : Walked)
+      → Along d w table replacements pairs 0 4 replacements calls names marks eqs s calls names marks eqs s
+  unfolding place-start
+  along-start calls names marks eqs s = record { place = place-start w accepts tells; left = left-start _ calls names marks eqs s }
+
+  pub along-turn : {slot at rep : ℕ} {calls₀ names₀ marks₀ eqs₀ calls names marks eqs calls₁ names₁ marks₁ eqs₁ : List ℕ} {s₀ s s₁ : Walked}
+      → Along d w table replacements pairs slot at rep calls₀ names₀ marks₀ eqs₀ s₀ calls names marks eqs s → slot < total d
+      → Does (stepsAt (pastIn table) slot (widthIn table slot) (cellAt w at) (newAt w pairs rep slot)) calls names marks eqs s calls₁ names₁ marks₁ eqs₁ s₁
+      → Along d w table replacements pairs (slot + max 1 (widthIn table slot)) (endAt w at) (repAfter w pairs rep slot)
+      calls₀ names₀ marks₀ eqs₀ s₀ calls₁ names₁ marks₁ eqs₁ s₁
+  along-turn {slot} {at} {rep} along inside does =
+      let turn = cell-turn w accepts tells (along .place) inside in
+      record {
+        place = turn .next;
+        left = left-turn (stepsAt (pastIn table) slot (widthIn table slot) (cellAt w at) (newAt w pairs rep slot)) (eachCell d (turn .next .cells))
+            (rw (turn .step) at (along .left)) does;
+      }
+
+  pub along-end : {slot at rep : ℕ} {calls₀ names₀ marks₀ eqs₀ calls names marks eqs : List ℕ} {s₀ s : Walked}
+      → Along d w table replacements pairs slot at rep calls₀ names₀ marks₀ eqs₀ s₀ calls names marks eqs s → total d ≤ slot
+      → Does (eachCell d (d .cells)) calls₀ names₀ marks₀ eqs₀ s₀ calls names marks eqs s
+  along-end along past = left-end (rw (cells-end w accepts tells (along .place) past) at (along .left))
+
+-- Along the net replacements.
+pub record AlongPairs (d : Design) (w : List ℕ) (at : ℕ) (calls₀ names₀ marks₀ eqs₀ : List ℕ) (s₀ : Walked) (calls names marks eqs : List ℕ) (s : Walked) : Type 0 where
+  pub place : AtPair d w at
+  pub left : Left (eachPair d (d .netReps)) (eachPair d (place .pairs)) calls₀ names₀ marks₀ eqs₀ s₀ calls names marks eqs s
+
+pub pairs-along : (w : List ℕ) {d : Design} {replacements pairs : ℕ} → read w ≡ accepted d replacements pairs
+    → (calls names marks eqs : List ℕ) (s : Walked) → AlongPairs d w pairs calls names marks eqs s calls names marks eqs s
+unfolding pairs-start
+pairs-along w accepts calls names marks eqs s = record { place = pairs-start w accepts; left = left-start _ calls names marks eqs s }
+
+module _ {w : List ℕ} {d : Design} where
+  pub pairs-turn : {at : ℕ} {calls₀ names₀ marks₀ eqs₀ calls names marks eqs calls₁ names₁ marks₁ eqs₁ : List ℕ} {s₀ s s₁ : Walked}
+      → AlongPairs d w at calls₀ names₀ marks₀ eqs₀ s₀ calls names marks eqs s → at < length w
+      → Does (pairSteps (readsPast d) (pairOf d (netPair w at)) (netPair w at)) calls names marks eqs s calls₁ names₁ marks₁ eqs₁ s₁
+      → AlongPairs d w (at + 2) calls₀ names₀ marks₀ eqs₀ s₀ calls₁ names₁ marks₁ eqs₁ s₁
+  pairs-turn {at} along inside does =
+      let turn = pair-turn d w (along .place) inside in
+      record {
+        place = turn .next;
+        left = left-turn (pairSteps (readsPast d) (pairOf d (netPair w at)) (netPair w at)) (eachPair d (turn .next .pairs))
+            (rw (turn .step) at (along .left)) does;
+      }
+
+  pub pairs-done : {at : ℕ} {calls₀ names₀ marks₀ eqs₀ calls names marks eqs : List ℕ} {s₀ s : Walked}
+      → AlongPairs d w at calls₀ names₀ marks₀ eqs₀ s₀ calls names marks eqs s → length w ≤ at
+      → Does (eachPair d (d .netReps)) calls₀ names₀ marks₀ eqs₀ s₀ calls names marks eqs s
+  pairs-done along past = left-end (rw (pairs-end d w (along .place) past) at (along .left))
