@@ -15,7 +15,7 @@ use Rattle.walk.specs.declared.Walked.{Walked}
 use Rattle.walk.specs.Does.{Does}
 use Rattle.walk.specs.Cursor.{newAt, repAfter, stepsAt}
 use Rattle.walk.proofs.Does.{Left, left-start, left-turn, left-end}
-use Rattle.walk.proofs.Cells.{Place, place-start, past-is, cell-turn, cells-end}
+use Rattle.walk.proofs.Cells.{Place, place-start, cell-turn, cells-end}
 use Rattle.walk.proofs.Pairs.{AtPair, pairs-start, pair-turn, pairs-end}
 
 -- Along the cells.

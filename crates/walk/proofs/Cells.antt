@@ -31,6 +31,7 @@ use Rattle.nets.specs.Reads.{pastIn}
 use Rattle.order.specs.Verify.{Step, cellSteps, eachCell, newCellIn}
 use Rattle.order.proofs.Replacements.{Heads, none-below, above, at-first, later}
 use Rattle.slots.specs.Tells.{widthIn, Tells}
+use Rattle.slots.proofs.Laws.{tells-past}
 use Rattle.walk.specs.Cursor.{isNext, newAt, repAfter, stepsAt, Readable}
 
 -- The cell replacements from a place up to `end`, the slots of their cells from `least` on.
@@ -163,10 +164,6 @@ module _ (w : List ℕ) {table : List ℕ} {d : Design} {replacements pairs : �
         };
       }
 
-  -- The slot table says which slots read their past trit.
-  pub past-is : pastIn table ≡ readsPast d
-  past-is = fun-ext (tells .past)
-
   here-in : {slot at : ℕ} {cells : List Placed} → Walk w (d .base) (total d) slot at cells replacements
       → Each (λ (p : Placed). widthIn table (p .slot) ≡ outputLen (p .cell)) cells → slot < total d → Here w table slot at
   here-in (done full ended) widths inside = absurd (omega arith)
@@ -215,7 +212,7 @@ module _ (w : List ℕ) {table : List ℕ} {d : Design} {replacements pairs : �
           widths = widths .1;
           cursor = rw same (cursor-turn d w pairs (cellAt w at) cells slot cursor);
         };
-        step = rw (past-is, same, ← new-cell-is d w pairs (cellAt w at) cells slot cursor);
+        step = rw (tells-past tells, same, ← new-cell-is d w pairs (cellAt w at) cells slot cursor);
       }
 
   pub cell-turn : {slot at rep : ℕ} (place : Place d w table replacements pairs slot at rep) → slot < total d → Turn (place .cells) slot at rep

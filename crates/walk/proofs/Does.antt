@@ -13,11 +13,12 @@ use lib.Seq.{sets, length-sets}
 use Rattle.cell.specs.Cell.{Cell}
 use Rattle.smt.specs.Prog.{Prog, TritVec}
 use Rattle.builder.specs.declared.Counts.{Counts}
+use Rattle.builder.specs.declared.Built.{Built}
 use Rattle.order.specs.Verify.{Step, declared, asserted, obliged, isInput, addCell, newCell}
 use Rattle.steps.specs.Did.{Did}
 use Rattle.steps.proofs.Laws.{did-none, did-append}
 use Rattle.walk.specs.declared.Walked.{Walked}
-use Rattle.walk.specs.Does.{obligedIn, Kept, Does}
+use Rattle.walk.specs.Does.{obligedIn, Kept, Pushed, Does}
 use Rattle.walk.specs.Cursor.{stepsAt}
 
 sets-append : (t : List ℕ) (i : ℕ) (a b : List ℕ) → sets t i (a ++ b) ≡ sets (sets t i a) (i + length a) b
@@ -51,17 +52,15 @@ does-did quiet same did = record {
   kept = λ room. record { words = refl; many = omega arith };
 }
 
--- An obligation, its term stored.
-pub does-obliged : {m : Prog ℕ} {calls names marks eqs calls′ names′ marks′ eqs′ : List ℕ} {s s′ : Walked} {term : ℕ}
-    → Did (obliged m ∷ []) calls names marks (s .counts) calls′ names′ marks′ (s′ .counts) (term ∷ [])
-    → eqs′ ≡ set eqs (s .obligations) term → (s .obligations < length eqs → s′ .obligations ≡ s .obligations + 1)
-    → Does (obliged m ∷ []) calls names marks eqs s calls′ names′ marks′ eqs′ s′
-unfolding obligedIn
-does-obliged {term = term} did stored more = record {
-  terms = term ∷ [];
-  many = refl;
-  did = did;
-  kept = λ room. record { words = stored; many = more (omega arith) };
+-- An obligation, after steps without one; its term pushed.
+pub does-pushed : {steps : List Step} {calls names marks eqs calls′ names′ marks′ eqs′ : List ℕ} {s s′ : Walked} {made : Built}
+    → obligedIn steps ≡ 1 → Did steps calls names marks (s .counts) calls′ names′ marks′ (made .counts) (made .term .0 ∷ [])
+    → Pushed eqs (s .obligations) made eqs′ s′ → Does steps calls names marks eqs s calls′ names′ marks′ eqs′ s′
+does-pushed {made = made} one did pushed = record {
+  terms = made .term .0 ∷ [];
+  many = sym one;
+  did = rw (pushed .counts) did;
+  kept = λ room. record { words = pushed .words; many = pushed .many (omega arith) };
 }
 
 pub does-append : (xs ys : List Step) {calls names marks eqs calls₁ names₁ marks₁ eqs₁ calls₂ names₂ marks₂ eqs₂ : List ℕ} {s s₁ s₂ : Walked}
@@ -129,14 +128,15 @@ module _ (past : ℕ → Bool) (slot : ℕ) (a : Cell) where
       → Does (stepsAt past slot width a none) calls names marks eqs s calls′ names′ marks′ eqs s′
   does-add width wide same did = rw (ne-eqb width 0 wide) (does-did (added-none width) same did)
 
-  pub does-replace : (width : ℕ) (new : Cell) {calls names marks eqs calls₁ names₁ marks₁ calls₂ names₂ marks₂ eqs₂ : List ℕ} {s s₂ : Walked} {c₁ : Counts} {term : ℕ}
+  pub does-replace : (width : ℕ) (new : Cell) {calls names marks eqs calls₁ names₁ marks₁ calls₂ names₂ marks₂ eqs₂ : List ℕ} {s s₂ : Walked} {c₁ : Counts} {made : Built}
       → (width ≡ 0 → ⊥)
       → Did (addCell past slot width a ∷ []) calls names marks (s .counts) calls₁ names₁ marks₁ c₁ []
-      → Did (obliged (newCell past slot width new) ∷ []) calls₁ names₁ marks₁ c₁ calls₂ names₂ marks₂ (s₂ .counts) (term ∷ [])
-      → eqs₂ ≡ set eqs (s .obligations) term → (s .obligations < length eqs → s₂ .obligations ≡ s .obligations + 1)
+      → Did (obliged (newCell past slot width new) ∷ []) calls₁ names₁ marks₁ c₁ calls₂ names₂ marks₂ (made .counts) (made .term .0 ∷ [])
+      → Pushed eqs (s .obligations) made eqs₂ s₂
       → Does (stepsAt past slot width a (some new)) calls names marks eqs s calls₂ names₂ marks₂ eqs₂ s₂
-  does-replace width new {s = s} {c₁ = c₁} wide add replace stored more =
+  unfolding obligedIn
+  does-replace width new {s = s} {c₁ = c₁} wide add replace pushed =
       let between : Walked = record { counts = c₁; obligations = s .obligations } in
       rw (ne-eqb width 0 wide)
       (does-append (addCell past slot width a ∷ []) (obliged (newCell past slot width new) ∷ [])
-      (does-did {s′ = between} (added-none width) refl add) (does-obliged {s = between} replace stored more))
+      (does-did {s′ = between} (added-none width) refl add) (does-pushed {s = between} refl replace pushed))

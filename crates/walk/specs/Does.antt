@@ -2,9 +2,10 @@
 -- lent table, one after another.
 use mathlib.Core.Path.{_≡_}
 use mathlib.Core.List.{List, [], _∷_}
-use Prim.Native.Nat.{ℕ, _+_, _≤_}
-use lib.ListN.{length}
+use Prim.Native.Nat.{ℕ, _+_, _≤_, _<_}
+use lib.ListN.{length, set}
 use lib.Seq.{sets}
+use Rattle.builder.specs.declared.Built.{Built}
 use Rattle.order.specs.Verify.{Step, declared, asserted, obliged}
 use Rattle.steps.specs.Did.{Did}
 use Rattle.walk.specs.declared.Walked.{Walked}
@@ -20,6 +21,12 @@ obligedIn (obliged m ∷ rest) = 1 + obligedIn rest
 pub record Kept (eqs : List ℕ) (n : ℕ) (terms eqs′ : List ℕ) (n′ : ℕ) : Type 0 where
   pub words : eqs′ ≡ sets eqs n terms
   pub many : n′ ≡ n + length terms
+
+-- A term stored in a table after so many others, the counts being those after it; past the table's end nothing is stored.
+pub record Pushed (eqs : List ℕ) (n : ℕ) (made : Built) (eqs′ : List ℕ) (s′ : Walked) : Type 0 where
+  pub words : eqs′ ≡ set eqs n (made .term .0)
+  pub counts : s′ .counts ≡ made .counts
+  pub many : n < length eqs → s′ .obligations ≡ n + 1
 
 -- That the table has room for the obligations is a premise, met once, for the whole list.
 pub record Does (steps : List Step) (calls names marks eqs : List ℕ) (s : Walked) (calls′ names′ marks′ eqs′ : List ℕ) (s′ : Walked) : Type 0 where

@@ -1,8 +1,90 @@
 // `Design::verify` of design.rs: its two loops, over the cells and over the net replacements, as one walk over the words of an accepted list.
+use builder::Built;
 use builder::Counts;
+use logic::Net;
+ghost use mathlib.Core.Path.{_≡_};
+ghost use mathlib.Core.List.{[], _∷_};
+ghost use Prim.Native.Nat.{_<_, _^_};
+ghost use Rattle.logic.specs.Net.{netOf};
+ghost use Rattle.order.specs.Verify.{asserted, obliged, replaceNet, replaceVoidNet, replaceDffNet};
+ghost use Rattle.nets.specs.Reads.{pastIn};
+ghost use Rattle.walk.specs.Does.{Pushed, Does};
 
 // What a part of the walk has done: the counts, and how many obligations there are.
 pub struct Walked {
     pub counts: Counts,
     pub obligations: usize,
+}
+
+// `self.eqs.borrow_mut().push`: the term of an obligation, stored after the others; past the table's end nothing is stored.
+fn push(eqs: &mut [u32], obligations: usize, eq: Built) -> Walked
+    ensures { λ r. ⌜ Pushed (now (eqs .entry)) obligations eq (now (eqs .exit)) r ⌝ }
+{
+    let counts = eq.counts;
+    if obligations < eqs.len() {
+        eqs[obligations] = eq.term.0;
+        return Walked {
+            counts,
+            obligations: obligations + 1,
+        };
+    }
+    Walked {
+        counts,
+        obligations,
+    }
+}
+
+// ---- the net replacements
+
+fn replace_net(
+    table: &[u32],
+    calls: &mut [u32],
+    names: &mut [u32],
+    marks: &mut [u8],
+    eqs: &mut [u32],
+    s: Walked,
+    from_net: Net,
+    to_net: Net,
+) -> Walked
+    ensures { λ r. ⌜ («from_net» .0 < 2 ^ 29 → «to_net» .0 < 2 ^ 29 → Does (obliged (replaceNet (pastIn (now (table .entry))) (netOf («from_net» .0)) (netOf («to_net» .0))) ∷ [])
+        (now (calls .entry)) (now (names .entry)) (now (marks .entry)) (now (eqs .entry)) s (now (calls .exit)) (now (names .exit)) (now (marks .exit)) (now (eqs .exit)) r) ⌝ }
+{
+    let eq = steps::replace_net(table, calls, names, marks, s.counts, from_net, to_net);
+    push(eqs, s.obligations, eq)
+}
+
+fn replace_void_net(
+    table: &[u32],
+    calls: &mut [u32],
+    names: &mut [u32],
+    marks: &mut [u8],
+    eqs: &mut [u32],
+    s: Walked,
+    from_net: Net,
+    to_net: Net,
+) -> Walked
+    ensures { λ r. ⌜ («from_net» .0 < 2 ^ 29 → «to_net» .0 < 2 ^ 29 → Does (asserted (replaceVoidNet (pastIn (now (table .entry))) (netOf («from_net» .0)) (netOf («to_net» .0))) ∷ [])
+        (now (calls .entry)) (now (names .entry)) (now (marks .entry)) (now (eqs .entry)) s (now (calls .exit)) (now (names .exit)) (now (marks .exit)) (now (eqs .exit)) r) ⌝ }
+{
+    let counts = steps::replace_void_net(table, calls, names, marks, s.counts, from_net, to_net);
+    Walked {
+        counts,
+        obligations: s.obligations,
+    }
+}
+
+fn replace_dff_net(
+    calls: &mut [u32],
+    names: &mut [u32],
+    marks: &mut [u8],
+    eqs: &mut [u32],
+    s: Walked,
+    from_net: Net,
+    to_net: Net,
+) -> Walked
+    ensures { λ r. ⌜ («from_net» .0 < 2 ^ 29 → «to_net» .0 < 2 ^ 29 → Does (replaceDffNet (netOf («from_net» .0)) (netOf («to_net» .0)))
+        (now (calls .entry)) (now (names .entry)) (now (marks .entry)) (now (eqs .entry)) s (now (calls .exit)) (now (names .exit)) (now (marks .exit)) (now (eqs .exit)) r) ⌝ }
+{
+    let eq = steps::replace_dff_net(calls, names, marks, s.counts, from_net, to_net);
+    push(eqs, s.obligations, eq)
 }
