@@ -1,7 +1,8 @@
 -- The two loops: where each stands, and that the steps that are left complete the whole order of work.
 use mathlib.Core.Path.{_≡_, refl, sym, subst, _∙_}
+use mathlib.Core.Bool.{true}
 use mathlib.Core.List.{List, [], _∷_, _++_}
-use Prim.Native.Nat.{ℕ, _+_, _≤_, _<_, _^_, max}
+use Prim.Native.Nat.{ℕ, _+_, _%_, _≤_, _<_, _^_, max}
 use native.Mathlib.Omega.{arith}
 use lib.ListN.{length}
 use Rattle.logic.specs.Net.{netOf}
@@ -10,6 +11,7 @@ use Rattle.cell_reader.specs.Parse.{numberIn, cellAt, endAt}
 use Rattle.design_list.specs.Items.{netPair}
 use Rattle.design_list.specs.Read.{read, accepted}
 use Rattle.working_out.specs.Reading.{readsPast, pairOf}
+use Rattle.builder.specs.declared.Counts.{Counts}
 use Rattle.nets.specs.Reads.{pastIn}
 use Rattle.order.specs.Verify.{Step, pairSteps, eachCell, eachPair, steps}
 use Rattle.slots.specs.Tells.{widthIn, Tells}
@@ -17,10 +19,11 @@ use Rattle.slots.specs.Pairs.{pairIn}
 use Rattle.slots.proofs.Laws.{tells-past}
 use Rattle.slots.proofs.Pairs.{tells-pair}
 use Rattle.walk.specs.declared.Walked.{Walked}
-use Rattle.walk.specs.Does.{Does}
-use Rattle.walk.specs.Cursor.{newAt, repAfter, stepsAt}
-use Rattle.walk.proofs.Does.{Left, left-start, left-turn, left-end}
-use Rattle.walk.proofs.Cells.{Place, place-start, cell-turn, cells-end}
+use Rattle.walk.specs.Does.{obligedIn, Does, Works}
+use Rattle.walk.specs.Cursor.{isNext, newAt, repAfter, stepsAt, Readable}
+use Rattle.walk.proofs.Does.{does-append, Left, left-start, left-turn, left-end}
+use Rattle.walk.proofs.Cells.{Place, place-start, here-cell, here-new, cell-turn, cells-end}
+use Rattle.walk.proofs.Room.{obligations-low, kept-first}
 use Rattle.walk.proofs.Pairs.{AtPair, pairs-start, here-pair, pair-turn, pairs-end}
 
 -- Along the cells.
@@ -46,6 +49,25 @@ module _ (w : List ℕ) {table : List ℕ} {d : Design} {replacements pairs : �
         left = left-turn (stepsAt (pastIn table) slot (widthIn table slot) (cellAt w at) (newAt w pairs rep slot)) (eachCell d (turn .next .cells))
             (rw (turn .step) at (along .left)) does;
       }
+
+  -- A turn in the code's terms: the slot's number is the index, the width the table's, and what each call answers.
+  pub along-step : {index number width k at at₁ rep rep₁ : ℕ} {calls₀ names₀ marks₀ eqs₀ calls names marks eqs calls₁ names₁ marks₁ eqs₁ : List ℕ} {s₀ s s₁ : Walked}
+      → Along d w table replacements pairs index at rep calls₀ names₀ marks₀ eqs₀ s₀ calls names marks eqs s → index < total d
+      → number ≡ index % 4294967296 → width ≡ widthIn table number
+      → (Readable w at → (isNext w pairs rep number ≡ true → Readable w (rep + 1)) → width ≤ 64 → number + width + 1 < 536870911
+      → Does (stepsAt (pastIn table) number width (cellAt w at) (newAt w pairs rep number)) calls names marks eqs s calls₁ names₁ marks₁ eqs₁ s₁)
+      → (at < length w → at₁ ≡ endAt w at)
+      → ((isNext w pairs rep number ≡ true → Readable w (rep + 1)) → rep₁ ≡ repAfter w pairs rep number) → k ≡ max 1 width
+      → Along d w table replacements pairs (index + k) at₁ rep₁ calls₀ names₀ marks₀ eqs₀ s₀ calls₁ names₁ marks₁ eqs₁ s₁
+  along-step {index} {number} {width} {k} {at} {at₁} {rep} {rep₁} along inside same wide does next after size =
+      let here = here-cell w accepts tells (along .place) inside in
+      let last = here .after in
+      let is : number ≡ index = omega arith in
+      let wide′ : width ≡ widthIn table index = rw is at wide in
+      let new = here-new w accepts tells (along .place) in
+      let low = here .narrow in
+      let step = rw (is, wide′) at (does (here .readable) (rw is new) (omega arith) (omega arith)) in
+      rw (size, wide′, next (here .readable .inside), rw is at (after (rw is new))) (along-turn along inside step)
 
   pub along-end : {slot at rep : ℕ} {calls₀ names₀ marks₀ eqs₀ calls names marks eqs : List ℕ} {s₀ s : Walked}
       → Along d w table replacements pairs slot at rep calls₀ names₀ marks₀ eqs₀ s₀ calls names marks eqs s → total d ≤ slot
@@ -87,3 +109,19 @@ module _ {w : List ℕ} {d : Design} where
       → AlongPairs d w at calls₀ names₀ marks₀ eqs₀ s₀ calls names marks eqs s → length w ≤ at
       → Does (eachPair d (d .netReps)) calls₀ names₀ marks₀ eqs₀ s₀ calls names marks eqs s
   pairs-done along past = left-end (rw (pairs-end d w (along .place) past) at (along .left))
+
+-- The cells and then the net replacements are the whole order of work, and the obligations' terms stand first in the table.
+pub works : (w : List ℕ) {d : Design} {replacements pairs : ℕ} → read w ≡ accepted d replacements pairs
+    → {calls names marks eqs calls₁ names₁ marks₁ eqs₁ calls₂ names₂ marks₂ eqs₂ : List ℕ} {c : Counts} {s₁ s₂ : Walked}
+    → Does (eachCell d (d .cells)) calls names marks eqs (record { counts = c; obligations = 0 }) calls₁ names₁ marks₁ eqs₁ s₁
+    → Does (eachPair d (d .netReps)) calls₁ names₁ marks₁ eqs₁ s₁ calls₂ names₂ marks₂ eqs₂ s₂
+    → Works d calls names marks eqs c calls₂ names₂ marks₂ eqs₂ s₂
+works w {d} accepts {eqs = eqs} cells pairs =
+    let whole = does-append (eachCell d (d .cells)) (eachPair d (d .netReps)) cells pairs in
+    let few : obligedIn (steps d) ≤ 12288 = obligations-low w accepts in
+    let many = whole .many in
+    record {
+      terms = whole .terms;
+      did = whole .did;
+      first = λ room. kept-first (whole .kept (omega arith)) (omega arith);
+    }

@@ -4,16 +4,16 @@ use mathlib.Core.Path.{_≡_, refl, sym, ap, ap₂, fun-ext, _∙_}
 use mathlib.Core.Bool.{Bool, true, false, cond, false≢true}
 use mathlib.Core.Option.{Option, none, some}
 use mathlib.Core.List.{List, [], _∷_, _++_}
-use Prim.Native.Nat.{ℕ, _+_, _≤_, _<_, max}
+use Prim.Native.Nat.{ℕ, _+_, _-_, _≤_, _<_, max}
 use native.Mathlib.Omega.{arith}
 use native.Mathlib.Decide.{ℕ-discrete}
 use borrow.Author.Tests.{eq-eqb, ne-eqb, lt-ltb, le-ltb, ltb-true, eqb-true}
 use lib.Dec.{eqb, ltb}
-use lib.ListN.{length}
+use lib.ListN.{length, take, drop}
 use Rattle.cell.specs.Cell.{Cell, outputLen, slotsOf}
 use Rattle.cell.specs.Design.{Design, Placed, total}
 use Rattle.cell.specs.declared.Operation.{Operation}
-use Rattle.cell_reader.specs.Parse.{numberIn, cellAt, endAt}
+use Rattle.cell_reader.specs.Parse.{numberIn, opAt, cellIn, cellAt, endAt}
 use Rattle.cell_reader.specs.Accepted.{IsRecord}
 use Rattle.design_list.specs.Slots.{heads}
 use Rattle.design_list.specs.Items.{newCell}
@@ -27,6 +27,7 @@ use Rattle.accepted.specs.Cells.{cell-read}
 use Rattle.accepted.specs.Replacements.{Climb, climb-ascends, IsReplacement}
 use Rattle.accepted.specs.Replacements as R
 use Rattle.accepted.specs.Laid.{stages, accepted-laid}
+use Rattle.operands.proofs.Part.{part-all, cell-in}
 use Rattle.nets.specs.Reads.{pastIn}
 use Rattle.order.specs.Verify.{Step, cellSteps, eachCell, newCellIn}
 use Rattle.order.proofs.Replacements.{Heads, none-below, above, at-first, later}
@@ -37,6 +38,19 @@ use Rattle.walk.specs.Cursor.{isNext, newAt, repAfter, stepsAt, Readable
 -- The cell replacements from a place up to `end`, the slots of their cells from `least` on.
 abbrev pub NewCells : Design → List ℕ → ℕ → ℕ → List Placed → ℕ → Type 0
 NewCells d w = Climb (IsReplacement w (total d) (heads (d .cells) (d .base))) (newCell w)
+
+-- The next replacement stands before the end of them.
+pub next-inside : (w : List ℕ) (end rep slot : ℕ) → isNext w end rep slot ≡ true → rep < end
+next-inside w end rep slot = go (ltb rep end) refl
+  where
+    go : (b : Bool) → ltb rep end ≡ b → cond b (eqb (numberIn w rep) slot) false ≡ true → rep < end
+    go true inside e = ltb-true rep end inside
+    go false inside e = absurd (false≢true e)
+
+-- The cell of a record is that of the part of the list after its head.
+pub fields-in : (w : List ℕ) (at : ℕ) {op : Operation} → op ≡ opAt w at → cellIn (take (length w - (at + 1)) (drop (at + 1) w)) op 0 ≡ cellAt w at
+unfolding cellAt
+fields-in w at same = rw (part-all w (at + 1), same) (cell-in w (at + 1) (opAt w at))
 
 -- The replacements from a place on are all that are left for the cells from a slot on: each heads one of them.
 pub record Cursor (d : Design) (w : List ℕ) (end : ℕ) (cells : List Placed) (slot rep : ℕ) : Type 0 where
@@ -185,11 +199,7 @@ module _ (w : List ℕ) {table : List ℕ} {d : Design} {replacements pairs : �
   new-in (R.taken is rest) inside = readable (is .record-is)
 
   pub here-new : {slot at rep : ℕ} → Place d w table replacements pairs slot at rep → isNext w pairs rep slot ≡ true → Readable w (rep + 1)
-  here-new {slot} {at} {rep} place next = go (ltb rep pairs) refl next
-    where
-      go : (b : Bool) → ltb rep pairs ≡ b → cond b (eqb (numberIn w rep) slot) false ≡ true → Readable w (rep + 1)
-      go true inside e = new-in (place .cursor .climb) (ltb-true rep pairs inside)
-      go false inside e = absurd (false≢true e)
+  here-new {slot} {at} {rep} place next = new-in (place .cursor .climb) (next-inside w pairs rep slot next)
 
   -- A turn: the steps of the first cell that is left, and the place after it.
   pub record Turn (cells : List Placed) (slot at rep : ℕ) : Type 0 where

@@ -123,20 +123,15 @@ module _ (past : ℕ → Bool) (slot : ℕ) (a : Cell) where
       → Does (stepsAt past slot width a new) calls names marks eqs s calls names marks eqs s
   does-skip width new calls names marks eqs s empty = rw (eq-eqb width 0 empty) (does-none calls names marks eqs s)
 
-  pub does-add : (width : ℕ) {calls names marks eqs calls′ names′ marks′ : List ℕ} {s s′ : Walked} → (width ≡ 0 → ⊥)
-      → s′ .obligations ≡ s .obligations → Did (addCell past slot width a ∷ []) calls names marks (s .counts) calls′ names′ marks′ (s′ .counts) []
+  -- A cell without a new one, and one with.
+  pub does-old : (width : ℕ) {calls names marks eqs calls′ names′ marks′ : List ℕ} {s s′ : Walked} → (width ≡ 0 → ⊥)
+      → Does (addCell past slot width a ∷ []) calls names marks eqs s calls′ names′ marks′ eqs s′
       → Does (stepsAt past slot width a none) calls names marks eqs s calls′ names′ marks′ eqs s′
-  does-add width wide same did = rw (ne-eqb width 0 wide) (does-did (added-none width) same did)
+  does-old width wide old = rw (ne-eqb width 0 wide) old
 
-  pub does-replace : (width : ℕ) (new : Cell) {calls names marks eqs calls₁ names₁ marks₁ calls₂ names₂ marks₂ eqs₂ : List ℕ} {s s₂ : Walked} {c₁ : Counts} {made : Built}
-      → (width ≡ 0 → ⊥)
-      → Did (addCell past slot width a ∷ []) calls names marks (s .counts) calls₁ names₁ marks₁ c₁ []
-      → Did (obliged (newCell past slot width new) ∷ []) calls₁ names₁ marks₁ c₁ calls₂ names₂ marks₂ (made .counts) (made .term .0 ∷ [])
-      → Pushed eqs (s .obligations) made eqs₂ s₂
-      → Does (stepsAt past slot width a (some new)) calls names marks eqs s calls₂ names₂ marks₂ eqs₂ s₂
-  unfolding obligedIn
-  does-replace width new {s = s} {c₁ = c₁} wide add replace pushed =
-      let between : Walked = record { counts = c₁; obligations = s .obligations } in
-      rw (ne-eqb width 0 wide)
-      (does-append (addCell past slot width a ∷ []) (obliged (newCell past slot width new) ∷ [])
-      (does-did {s′ = between} (added-none width) refl add) (does-pushed {s = between} refl replace pushed))
+  pub does-both : (width : ℕ) (b : Cell) {calls names marks eqs calls₁ names₁ marks₁ calls₂ names₂ marks₂ eqs₂ : List ℕ} {s s₁ s₂ : Walked} → (width ≡ 0 → ⊥)
+      → Does (addCell past slot width a ∷ []) calls names marks eqs s calls₁ names₁ marks₁ eqs s₁
+      → Does (obliged (newCell past slot width b) ∷ []) calls₁ names₁ marks₁ eqs s₁ calls₂ names₂ marks₂ eqs₂ s₂
+      → Does (stepsAt past slot width a (some b)) calls names marks eqs s calls₂ names₂ marks₂ eqs₂ s₂
+  does-both width b wide old new =
+      rw (ne-eqb width 0 wide) (does-append (addCell past slot width a ∷ []) (obliged (newCell past slot width b) ∷ []) old new)

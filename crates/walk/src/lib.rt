@@ -1,20 +1,26 @@
 // `Design::verify` of design.rs: its two loops, over the cells and over the net replacements, as one walk over the words of an accepted list.
 use builder::Built;
 use builder::Counts;
+use cell::Decoded;
+use cell::Operation;
 use logic::Net;
+use logic::Slot;
 use slots::Pair;
 ghost use mathlib.Core.Path.{_≡_};
-ghost use mathlib.Core.List.{[], _∷_};
-ghost use Prim.Native.Nat.{ℕ, _<_, _^_};
+ghost use mathlib.Core.Bool.{true};
+ghost use mathlib.Core.List.{List, [], _∷_};
+ghost use Prim.Native.Nat.{ℕ, _+_, _<_, _^_, max};
+ghost use lib.ListN.{length};
 ghost use Rattle.logic.specs.Net.{netOf};
 ghost use Rattle.cell.specs.Design.{Design};
-ghost use Rattle.cell_reader.specs.Parse.{numberIn};
+ghost use Rattle.cell_reader.specs.Parse.{numberIn, opAt, endAt};
 ghost use Rattle.design_list.specs.Read.{read, accepted};
 ghost use Rattle.order.specs.Verify.{asserted, obliged, replaceNet, replaceVoidNet, replaceDffNet, pairSteps, eachPair};
 ghost use Rattle.nets.specs.Reads.{pastIn};
 ghost use Rattle.slots.specs.Tells.{Tells};
 ghost use Rattle.slots.specs.Pairs.{pairIn};
 ghost use Rattle.walk.specs.Does.{Pushed, Does};
+ghost use Rattle.walk.specs.Cursor.{isNext, repAfter, Readable};
 
 // What a part of the walk has done: the counts, and how many obligations there are.
 pub struct Walked {
@@ -38,6 +44,55 @@ fn push(eqs: &mut [u32], obligations: usize, eq: Built) -> Walked
         counts,
         obligations,
     }
+}
+
+// ---- the cells
+
+// The operation of the record at a place; a Note's where its head names none.
+fn op_at(list: &[u32], at: usize) -> Operation
+    ensures { λ r. ⌜ r ≡ opAt (now (list .entry)) at ⌝ }
+{
+    match cell::operation_of(logic::payload(logic::word_at(list, at)) % 32) {
+        Decoded::Unknown => Operation::Note,
+        Decoded::Known(op) => op,
+    }
+}
+
+// The place after the record at a place in the list.
+fn next_at(list: &[u32], at: usize) -> usize
+    ensures { λ r. ⌜ (at < length (now (list .entry)) → r ≡ endAt (now (list .entry)) at) ⌝ }
+{
+    if at < list.len() {
+        return at + 1 + (logic::payload(logic::word_at(list, at)) / 32) as usize;
+    }
+    at
+}
+
+// `changes.replaced_cells.get(&index)`: whether the next cell replacement is that of a slot.
+fn is_next(list: &[u32], end: usize, rep: usize, slot: Slot) -> bool
+    ensures { λ r. ⌜ r ≡ isNext (now (list .entry)) end rep (slot .0) ⌝ }
+{
+    if rep < end {
+        return logic::payload(logic::word_at(list, rep)) == slot.0;
+    }
+    false
+}
+
+// The place of the next cell replacement, after the cell at a slot.
+fn rep_after(list: &[u32], end: usize, rep: usize, slot: Slot) -> usize
+    ensures { λ r. ⌜ ((isNext (now (list .entry)) end rep (slot .0) ≡ true → Readable (now (list .entry)) (rep + 1)) → r ≡ repAfter (now (list .entry)) end rep (slot .0)) ⌝ }
+{
+    if is_next(list, end, rep, slot) {
+        return next_at(list, rep + 1);
+    }
+    rep
+}
+
+// The slots that a cell of an output width takes.
+fn slots_of(width: u32) -> u32
+    ensures { λ r. ⌜ r ≡ max 1 width ⌝ }
+{
+    if width < 1 { 1 } else { width }
 }
 
 // ---- the net replacements
@@ -64,13 +119,12 @@ fn replace_void_net(
     calls: &mut [u32],
     names: &mut [u32],
     marks: &mut [u8],
-    eqs: &mut [u32],
     s: Walked,
     from_net: Net,
     to_net: Net,
 ) -> Walked
-    ensures { λ r. ⌜ («from_net» .0 < 2 ^ 29 → «to_net» .0 < 2 ^ 29 → Does (asserted (replaceVoidNet (pastIn (now (table .entry))) (netOf («from_net» .0)) (netOf («to_net» .0))) ∷ [])
-        (now (calls .entry)) (now (names .entry)) (now (marks .entry)) (now (eqs .entry)) s (now (calls .exit)) (now (names .exit)) (now (marks .exit)) (now (eqs .exit)) r) ⌝ }
+    ensures { λ r. ⌜ ((eqs : List ℕ) → «from_net» .0 < 2 ^ 29 → «to_net» .0 < 2 ^ 29 → Does (asserted (replaceVoidNet (pastIn (now (table .entry))) (netOf («from_net» .0)) (netOf («to_net» .0))) ∷ [])
+        (now (calls .entry)) (now (names .entry)) (now (marks .entry)) eqs s (now (calls .exit)) (now (names .exit)) (now (marks .exit)) eqs r) ⌝ }
 {
     let counts = steps::replace_void_net(table, calls, names, marks, s.counts, from_net, to_net);
     Walked {
@@ -112,7 +166,7 @@ fn replace_pair(
 {
     match slots::pair_of(table, from_net, to_net) {
         Pair::Equal => s,
-        Pair::OfVoid => replace_void_net(table, calls, names, marks, eqs, s, from_net, to_net),
+        Pair::OfVoid => replace_void_net(table, calls, names, marks, s, from_net, to_net),
         Pair::OfDffs => {
             let joined = replace_dff_net(calls, names, marks, eqs, s, from_net, to_net);
             replace_net(table, calls, names, marks, eqs, joined, from_net, to_net)

@@ -16,10 +16,10 @@ returns c =
 
 returns-2 : tie.Need-returns-2
 returns-2 c =
-    let at-replace-void-net = c .before .before .before .before .before .before .before .before in
-    let at-told = at-replace-void-net .before .before .before .before .before in
+    let at-replace-void-net = c .before .before .before .before .before .before in
+    let at-told = at-replace-void-net .before .before .before .before in
     let same = sym (at-told .before .before .pair-of .ensures .same) ∙ ap pairKind (at-told .enum-told2 .given .1) in
-    λ low high. rw same (at-replace-void-net .replace-void-net .ensures low high)
+    λ low high. rw same (at-replace-void-net .replace-void-net .ensures _ low high)
 
 returns-3 : tie.Need-returns-3
 returns-3 c =
@@ -44,5 +44,5 @@ replace-pair-spec =
     tie.close
     (tie.spec (λ c κs. search needs) (λ c. search needs) (λ c. search needs) (λ c κs. search needs) (λ c. search needs) (λ c κs. search needs)
     (λ c κs. search needs) (λ c. search needs) (λ c κs. search needs) returns (λ c. search needs) (λ c. search needs) (λ c. search needs)
-    (λ c. search needs) returns-2 (λ c. search needs) (λ c. search needs) (λ c. search needs) (λ c. search needs) returns-3
+    returns-2 (λ c. search needs) (λ c. search needs) (λ c. search needs) (λ c. search needs) returns-3
     (λ c. search needs) (λ c. search needs) (λ c. search needs) (λ c. search needs) returns-4)

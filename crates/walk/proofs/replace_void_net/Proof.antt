@@ -9,7 +9,7 @@ use Rattle.walk.proofs.replace_void_net.Tie as tie
 returns : tie.Need-returns
 unfolding obligedIn
 returns c =
-    λ low high.
+    λ eqs low high.
     let at-replace-void-net = c .before .before .before .before .before .before in
     does-did refl refl (at-replace-void-net .replace-void-net .ensures low high)
 
