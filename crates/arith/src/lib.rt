@@ -8,9 +8,8 @@ use engine::Compare;
 use logic::Term;
 use operators::Binary;
 ghost use mathlib.Core.Path.{_≡_};
-ghost use Prim.Native.Nat.{ℕ, _-_, _<_, _≤_};
+ghost use Prim.Native.Nat.{ℕ, suc, _-_, _≤_};
 ghost use Rattle.engine.specs.Emit.{binaryOf, compareOf};
-ghost use Rattle.cell.specs.Cell.{binaryWidth};
 ghost use Rattle.smt.specs.Builder.{bvNoX, tvEquals, tvLess, tvShift, tvMul, tvBinary};
 ghost use Rattle.builder.specs.Ran.{trits, MakesBool, MakesVector, MakesTrits};
 ghost use Rattle.arith.specs.Shifts.{preparedOf};
@@ -124,7 +123,7 @@ pub fn tv_shift(
     n: u32,
     p: Prepared,
 ) -> BuiltTrits
-    ensures { λ r. ⌜ (0 < n → p .width ≤ 64 → MakesTrits (tvShift (binaryOf «on_x») (binaryOf «on_y») n (preparedOf p)) n (now (calls .entry)) c (now (calls .exit)) r) ⌝ }
+    ensures { λ r. ⌜ (p .width ≤ 64 → MakesTrits (tvShift (binaryOf «on_x») (binaryOf «on_y») n (preparedOf p)) (suc (n - 1)) (now (calls .entry)) c (now (calls .exit)) r) ⌝ }
 {
     let value = p.value;
     let amount = p.amount;
@@ -169,7 +168,7 @@ pub fn tv_binary(
     n: u32,
     width: u32,
 ) -> BuiltTrits
-    ensures { λ r. ⌜ (n ≤ 64 → width ≡ binaryWidth op n → MakesTrits (tvBinary op (trits n a) (trits n b) n width) width (now (calls .entry)) c (now (calls .exit)) r) ⌝ }
+    ensures { λ r. ⌜ (n ≤ 64 → (i : ℕ) × MakesTrits (tvBinary op (trits n a) (trits n b) n width) i (now (calls .entry)) c (now (calls .exit)) r) ⌝ }
 {
     match op {
         Binary::And => trits::tv_and(calls, c, a, b, width),

@@ -16,3 +16,4 @@ pub mod WellFormed
 pub mod Required
 pub mod Marks
 pub mod Answered
+pub mod Passes

@@ -3,57 +3,12 @@
 // `evaluated FALSE` or `refused FAULT at PLACE`, then what the values are after, which were all 7777; of more than 64 a digest.
 use checker::CallList;
 use eval::Evaluation;
-use libc::STDIN_FILENO;
 use libc::STDOUT_FILENO;
-
-// The next word of the input, if there is one.
-pub enum Next {
-    Word(u32),
-    End,
-}
+use word_input::Next;
 
 // Room for the longest list that is read.
 fn room() -> [u32; 16400] {
     [0u32; 16400]
-}
-
-fn wide(byte: u8) -> u32 {
-    byte as u32
-}
-
-// The next word of the input.
-fn next_word() -> Next {
-    let mut bytes = [0u8; 4];
-    if io::read_full(STDIN_FILENO, &mut bytes) < 4 {
-        return Next::End;
-    }
-    let low = wide(bytes[0]) % 256 + wide(bytes[1]) % 256 * 256;
-    let high = wide(bytes[2]) % 256 + wide(bytes[3]) % 256 * 256;
-    Next::Word(low + high * 65536)
-}
-
-// The next n words of the input, stored from the start on.
-fn load(words: &mut [u32], n: usize) {
-    let mut at: usize = 0;
-    while at < n {
-        match next_word() {
-            Next::Word(word) => {
-                logic::put(words, at, word);
-                at += 1;
-            }
-            Next::End => {
-                return;
-            }
-        }
-    }
-}
-
-// The next word, or 0 at the end.
-fn word_or_zero() -> u32 {
-    match next_word() {
-        Next::Word(word) => word,
-        Next::End => 0,
-    }
 }
 
 // The number of two words, stored at a place, if there is such a place.
@@ -67,8 +22,8 @@ fn store(numbers: &mut [u64], at: usize, low: u32, high: u32) {
 fn load_numbers(numbers: &mut [u64], n: usize) {
     let mut at: usize = 0;
     while at < n {
-        let low = word_or_zero();
-        let high = word_or_zero();
+        let low = word_input::word_or_zero();
+        let high = word_input::word_or_zero();
         store(numbers, at, low, high);
         at += 1;
     }
@@ -148,10 +103,10 @@ fn read_list(n: usize) {
     let mut words = room();
     let mut bits = [0u64; 16400];
     let mut values = [7777u64; 16400];
-    load(&mut words, n);
-    let m = word_or_zero() as usize;
+    word_input::load(&mut words, n);
+    let m = word_input::word_or_zero() as usize;
     load_numbers(&mut bits, m);
-    let v = word_or_zero() as usize;
+    let v = word_input::word_or_zero() as usize;
     if n <= 16400 {
         if m <= 16400 {
             if v <= 16400 {
@@ -163,7 +118,7 @@ fn read_list(n: usize) {
 
 // One list, if the input has one.
 fn turn() -> bool {
-    match next_word() {
+    match word_input::next_word() {
         Next::End => false,
         Next::Word(length) => {
             read_list(length as usize);

@@ -1,7 +1,6 @@
--- `arith::tv_binary` meets its contract: each arm is its function of the model, at the output width of the operation.
--- Assumes nothing.
+-- `arith::tv_binary` meets its contract: each arm is its function of the model, at the width of its result. Assumes nothing.
 use borrow.Author.Needs.{needs}
-use Rattle.builder.proofs.Laws.{ran-as, ran-bind}
+use Rattle.builder.proofs.Laws.{ran-bind}
 use Rattle.arith.proofs.tv_binary.Statement.{statement}
 use Rattle.arith.proofs.tv_binary.Tie as tie
 
@@ -9,17 +8,19 @@ returns : tie.Need-returns
 returns c =
     let made = c .before .before in
     let told = made .before .before in
-    let n = told .before .before .before .args .n in
+    let args = told .before .before .before .args in
+    let n = args .n in
     let op = told .enum-told .given .1 in
-    λ low width names marks. rw op (made .tv-and .ensures n n names marks)
+    λ low. (args .width, λ names marks. rw op (made .tv-and .ensures n n names marks))
 
 returns-2 : tie.Need-returns-2
 returns-2 c =
     let made = c .before .before in
     let told = made .before .before in
-    let n = told .before .before .before .args .n in
+    let args = told .before .before .before .args in
+    let n = args .n in
     let op = told .enum-told2 .given .1 in
-    λ low width names marks. rw op (made .tv-or .ensures n n names marks)
+    λ low. (args .width, λ names marks. rw op (made .tv-or .ensures n n names marks))
 
 returns-3 : tie.Need-returns-3
 returns-3 c =
@@ -27,7 +28,7 @@ returns-3 c =
     let told = made .before .before in
     let n = told .before .before .before .args .n in
     let op = told .enum-told3 .given .1 in
-    λ low width names marks. rw op (ran-as (made .tv-xor .ensures n n names marks) (rw (rw op at width)))
+    λ low. (n, λ names marks. rw op (made .tv-xor .ensures n n names marks))
 
 returns-4 : tie.Need-returns-4
 returns-4 c =
@@ -35,7 +36,7 @@ returns-4 c =
     let told = made .before .before in
     let n = told .before .before .before .args .n in
     let op = told .enum-told4 .given .1 in
-    λ low width names marks. rw op (ran-as (made .tv-equals .ensures low n n names marks) (rw (rw op at width)))
+    λ low. (1, λ names marks. rw op (made .tv-equals .ensures low n n names marks))
 
 returns-5 : tie.Need-returns-5
 returns-5 c =
@@ -43,7 +44,7 @@ returns-5 c =
     let told = made .before .before in
     let n = told .before .before .before .args .n in
     let op = told .enum-told5 .given .1 in
-    λ low width names marks. rw op (ran-as (made .tv-less .ensures low n n names marks) (rw (rw op at width)))
+    λ low. (1, λ names marks. rw op (made .tv-less .ensures low n n names marks))
 
 returns-6 : tie.Need-returns-6
 returns-6 c =
@@ -51,7 +52,7 @@ returns-6 c =
     let told = made .before .before in
     let n = told .before .before .before .args .n in
     let op = told .enum-told6 .given .1 in
-    λ low width names marks. rw op (ran-as (made .tv-less2 .ensures low n n names marks) (rw (rw op at width)))
+    λ low. (1, λ names marks. rw op (made .tv-less2 .ensures low n n names marks))
 
 returns-7 : tie.Need-returns-7
 returns-7 c =
@@ -60,9 +61,7 @@ returns-7 c =
     let told = known .before .before in
     let n = told .before .before .before .args .n in
     let op = told .enum-told7 .given .1 in
-    λ low width names marks.
-    rw op (ran-as (ran-bind _ (known .bv-no-x .ensures low n n names marks)
-    (made .tv-mul .ensures low n names marks)) (rw (rw op at width)))
+    λ low. (n, λ names marks. rw op (ran-bind _ (known .bv-no-x .ensures low n n names marks) (made .tv-mul .ensures low n names marks)))
 
 pub tv-binary-spec : {M : Type 1} → statement M
 tv-binary-spec =

@@ -26,7 +26,7 @@ same-length c =
 returns : tie.Need-returns
 unfolding tvShift tvExtract
 returns c =
-    λ some low names marks.
+    λ low names marks.
     let at-tv-extract = c .before .before in
     let at-highest = at-tv-extract .before in
     let at-trits = at-highest .before .before in
@@ -38,7 +38,7 @@ returns c =
     let args = at-bv-is-zero .before .before .before .before .before .args in
     let n = args .n in
     let w = args .p .width in
-    let width : suc (n - 1) - 0 ≡ n = omega (arith, some) in
+    let width : suc (n - 1) - 0 ≡ suc (n - 1) = omega arith in
     ran-as (ran-bind _ (at-bv-is-zero .bv-is-zero .ensures low w names marks)
     (ran-bind _ (at-build-binary .build-binary .ensures w w names marks)
     (ran-bind _ (at-build-bitvec-lit .build-bitvec-lit .ensures _ (rw (narrow _ low) (ones-lit _ low)) names marks)

@@ -6,7 +6,7 @@ use Rattle.read_lists.proofs.read_list.Statement.{statement}
 use Rattle.read_lists.proofs.read_list.Tie as tie
 use Rattle.read_lists.proofs.read_list.Reads as reads
 use Rattle.read_lists.proofs.read_list.Lts as lts
-use Rattle.read_lists.proofs.load.Reads as load-reads
+use Rattle.word_input.proofs.load.Reads as load-reads
 use Rattle.read_lists.proofs.show.Reads as show-reads
 
 -- src/main.rt:70:5

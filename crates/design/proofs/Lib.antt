@@ -1,0 +1,2 @@
+-- Laws of the code of the order of work.
+pub mod Passed
