@@ -50,24 +50,22 @@ module _ (w : List ℕ) {table : List ℕ} {d : Design} {replacements pairs : �
             (rw (turn .step) at (along .left)) does;
       }
 
-  -- A turn in the code's terms: the slot's number is the index, the width the table's, and what each call answers.
-  pub along-step : {index number width k at at₁ rep rep₁ : ℕ} {calls₀ names₀ marks₀ eqs₀ calls names marks eqs calls₁ names₁ marks₁ eqs₁ : List ℕ} {s₀ s s₁ : Walked}
-      → Along d w table replacements pairs index at rep calls₀ names₀ marks₀ eqs₀ s₀ calls names marks eqs s → index < total d
-      → number ≡ index % 4294967296 → width ≡ widthIn table number
-      → (Readable w at → (isNext w pairs rep number ≡ true → Readable w (rep + 1)) → width ≤ 64 → number + width + 1 < 536870911
-      → Does (stepsAt (pastIn table) number width (cellAt w at) (newAt w pairs rep number)) calls names marks eqs s calls₁ names₁ marks₁ eqs₁ s₁)
+  -- A turn in the code's terms: the slot's number is the index, and what each call answers.
+  pub along-step : {index number k at at₁ rep rep₁ : ℕ} {calls₀ names₀ marks₀ eqs₀ calls names marks eqs calls₁ names₁ marks₁ eqs₁ : List ℕ} {s₀ s s₁ : Walked}
+      → Along d w table replacements pairs index at rep calls₀ names₀ marks₀ eqs₀ s₀ calls names marks eqs s → index < total d → number ≡ index % 4294967296
+      → (Readable w at → (isNext w pairs rep number ≡ true → Readable w (rep + 1)) → widthIn table number ≤ 64 → number + widthIn table number + 1 < 536870911
+      → Does (stepsAt (pastIn table) number (widthIn table number) (cellAt w at) (newAt w pairs rep number)) calls names marks eqs s calls₁ names₁ marks₁ eqs₁ s₁)
       → (at < length w → at₁ ≡ endAt w at)
-      → ((isNext w pairs rep number ≡ true → Readable w (rep + 1)) → rep₁ ≡ repAfter w pairs rep number) → k ≡ max 1 width
+      → ((isNext w pairs rep number ≡ true → Readable w (rep + 1)) → rep₁ ≡ repAfter w pairs rep number) → k ≡ max 1 (widthIn table number)
       → Along d w table replacements pairs (index + k) at₁ rep₁ calls₀ names₀ marks₀ eqs₀ s₀ calls₁ names₁ marks₁ eqs₁ s₁
-  along-step {index} {number} {width} {k} {at} {at₁} {rep} {rep₁} along inside same wide does next after size =
+  along-step {index} {number} {k} {at} {at₁} {rep} {rep₁} along inside same does next after size =
       let here = here-cell w accepts tells (along .place) inside in
       let last = here .after in
       let is : number ≡ index = omega arith in
-      let wide′ : width ≡ widthIn table index = rw is at wide in
       let new = here-new w accepts tells (along .place) in
       let low = here .narrow in
-      let step = rw (is, wide′) at (does (here .readable) (rw is new) (omega arith) (omega arith)) in
-      rw (size, wide′, next (here .readable .inside), rw is at (after (rw is new))) (along-turn along inside step)
+      let step = rw is at (does (here .readable) (rw is new) (rw is low) (rw is (omega arith))) in
+      rw (rw is at size, next (here .readable .inside), rw is at (after (rw is new))) (along-turn along inside step)
 
   pub along-end : {slot at rep : ℕ} {calls₀ names₀ marks₀ eqs₀ calls names marks eqs : List ℕ} {s₀ s : Walked}
       → Along d w table replacements pairs slot at rep calls₀ names₀ marks₀ eqs₀ s₀ calls names marks eqs s → total d ≤ slot
