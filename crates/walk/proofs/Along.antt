@@ -1,30 +1,24 @@
--- The two loops: where each stands, and that the steps that are left complete the whole order of work.
+-- The loop over the cells: where it stands, and that the steps that are left complete those of all cells; and both loops together.
 use mathlib.Core.Path.{_≡_, refl, sym, subst, _∙_}
 use mathlib.Core.Bool.{true}
 use mathlib.Core.List.{List, [], _∷_, _++_}
 use Prim.Native.Nat.{ℕ, _+_, _%_, _≤_, _<_, _^_, max}
 use native.Mathlib.Omega.{arith}
 use lib.ListN.{length}
-use Rattle.logic.specs.Net.{netOf}
 use Rattle.cell.specs.Design.{Design, total}
-use Rattle.cell_reader.specs.Parse.{numberIn, cellAt, endAt}
-use Rattle.design_list.specs.Items.{netPair}
+use Rattle.cell_reader.specs.Parse.{cellAt, endAt}
 use Rattle.design_list.specs.Read.{read, accepted}
-use Rattle.working_out.specs.Reading.{readsPast, pairOf}
 use Rattle.builder.specs.declared.Counts.{Counts}
 use Rattle.nets.specs.Reads.{pastIn}
-use Rattle.order.specs.Verify.{Step, pairSteps, eachCell, eachPair, steps}
+use Rattle.order.specs.Verify.{eachCell, eachPair, steps}
 use Rattle.slots.specs.Tells.{widthIn, Tells}
-use Rattle.slots.specs.Pairs.{pairIn}
-use Rattle.slots.proofs.Laws.{tells-past}
-use Rattle.slots.proofs.Pairs.{tells-pair}
-use Rattle.walk.specs.declared.Walked.{Walked}
-use Rattle.walk.specs.Does.{obligedIn, Does, Works}
+use Rattle.net_pairs.specs.declared.Walked.{Walked}
+use Rattle.net_pairs.specs.Does.{obligedIn, Does}
+use Rattle.walk.specs.Works.{Works}
 use Rattle.walk.specs.Cursor.{isNext, newAt, repAfter, stepsAt, Readable}
-use Rattle.walk.proofs.Does.{does-append, Left, left-start, left-turn, left-end}
+use Rattle.net_pairs.proofs.Does.{does-append, Left, left-start, left-turn, left-end}
 use Rattle.walk.proofs.Cells.{Place, place-start, here-cell, here-new, cell-turn, cells-end}
 use Rattle.walk.proofs.Room.{obligations-low, kept-first}
-use Rattle.walk.proofs.Pairs.{AtPair, pairs-start, here-pair, pair-turn, pairs-end}
 
 -- Along the cells.
 pub record Along (d : Design) (w table : List ℕ) (replacements pairs slot at rep : ℕ) (calls₀ names₀ marks₀ eqs₀ : List ℕ) (s₀ : Walked) (calls names marks eqs : List ℕ) (s : Walked) : Type 0 where
@@ -71,42 +65,6 @@ module _ (w : List ℕ) {table : List ℕ} {d : Design} {replacements pairs : �
       → Along d w table replacements pairs slot at rep calls₀ names₀ marks₀ eqs₀ s₀ calls names marks eqs s → total d ≤ slot
       → Does (eachCell d (d .cells)) calls₀ names₀ marks₀ eqs₀ s₀ calls names marks eqs s
   along-end along past = left-end (rw (cells-end w accepts tells (along .place) past) at (along .left))
-
--- Along the net replacements.
-pub record AlongPairs (d : Design) (w : List ℕ) (at : ℕ) (calls₀ names₀ marks₀ eqs₀ : List ℕ) (s₀ : Walked) (calls names marks eqs : List ℕ) (s : Walked) : Type 0 where
-  pub place : AtPair d w at
-  pub left : Left (eachPair d (d .netReps)) (eachPair d (place .pairs)) calls₀ names₀ marks₀ eqs₀ s₀ calls names marks eqs s
-
-pub pairs-along : (w : List ℕ) {d : Design} {replacements pairs : ℕ} → read w ≡ accepted d replacements pairs
-    → (calls names marks eqs : List ℕ) (s : Walked) → AlongPairs d w pairs calls names marks eqs s calls names marks eqs s
-unfolding pairs-start
-pairs-along w accepts calls names marks eqs s = record { place = pairs-start w accepts; left = left-start _ calls names marks eqs s }
-
-module _ {w table : List ℕ} {d : Design} where
-  -- The nets are those of the two words, and the table tells what the pair is.
-  pub pairs-turn : {at : ℕ} {calls₀ names₀ marks₀ eqs₀ calls names marks eqs calls₁ names₁ marks₁ eqs₁ : List ℕ} {s₀ s s₁ : Walked} {from to : ℕ}
-      → Tells d table → AlongPairs d w at calls₀ names₀ marks₀ eqs₀ s₀ calls names marks eqs s → at < length w → from ≡ numberIn w at → to ≡ numberIn w (at + 1)
-      → (from < 2 ^ 29 → to < 2 ^ 29 → Does (pairSteps (pastIn table) (pairIn table from to) (record { from = netOf from; to = netOf to }))
-      calls names marks eqs s calls₁ names₁ marks₁ eqs₁ s₁)
-      → AlongPairs d w (at + 2) calls₀ names₀ marks₀ eqs₀ s₀ calls₁ names₁ marks₁ eqs₁ s₁
-  pairs-turn {at} tells along inside from-is to-is does =
-      let here = here-pair d w (along .place) inside in
-      let turn = pair-turn d w (along .place) inside in
-      let low : numberIn w at < 2 ^ 29 = omega arith in
-      let high : numberIn w (at + 1) < 2 ^ 29 = omega arith in
-      let told = tells-pair tells (numberIn w at) (numberIn w (at + 1)) low high (here .from) (here .to) in
-      let step = rw (tells-past tells, from-is, to-is, told) at (does (omega arith) (omega arith)) in
-      record {
-        place = turn .next;
-        left = left-turn (pairSteps (readsPast d) (pairOf d (netPair w at)) (netPair w at)) (eachPair d (turn .next .pairs))
-            (rw (turn .step) at (along .left)) step;
-      }
-
-module _ {w : List ℕ} {d : Design} where
-  pub pairs-done : {at : ℕ} {calls₀ names₀ marks₀ eqs₀ calls names marks eqs : List ℕ} {s₀ s : Walked}
-      → AlongPairs d w at calls₀ names₀ marks₀ eqs₀ s₀ calls names marks eqs s → length w ≤ at
-      → Does (eachPair d (d .netReps)) calls₀ names₀ marks₀ eqs₀ s₀ calls names marks eqs s
-  pairs-done along past = left-end (rw (pairs-end d w (along .place) past) at (along .left))
 
 -- The cells and then the net replacements are the whole order of work, and the obligations' terms stand first in the table.
 pub works : (w : List ℕ) {d : Design} {replacements pairs : ℕ} → read w ≡ accepted d replacements pairs

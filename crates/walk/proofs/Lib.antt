@@ -1,6 +1,5 @@
 -- Laws of the walk, for the proofs of this crate and of those that use it.
-pub mod Does
+pub mod Steps
 pub mod Cells
-pub mod Pairs
-pub mod Along
 pub mod Room
+pub mod Along

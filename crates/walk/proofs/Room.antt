@@ -25,9 +25,10 @@ use Rattle.working_out.specs.Laid.{Run}
 use Rattle.accepted.specs.Replacements.{climb-read, IsPair, pair-read}
 use Rattle.accepted.specs.Laid.{accepted-laid}
 use Rattle.order.specs.Verify.{Step, addCell, withNew, cellSteps, pairSteps, eachCell, eachPair, steps, newCellIn}
-use Rattle.walk.specs.Does.{obligedIn, Kept}
+use Rattle.net_pairs.specs.Does.{obligedIn, Kept}
 use Rattle.walk.specs.Cursor.{stepsAt}
-use Rattle.walk.proofs.Does.{obliged-append, added-none}
+use Rattle.net_pairs.proofs.Does.{obliged-append}
+use Rattle.walk.proofs.Steps.{added-none}
 
 -- ---- how many obligations
 

@@ -1,2 +1,2 @@
-pub mod Does
 pub mod Cursor
+pub mod Works

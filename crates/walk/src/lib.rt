@@ -1,52 +1,23 @@
-// `Design::verify` of design.rs: its two loops, over the cells and over the net replacements, as one walk over the words of an accepted list.
-use builder::Built;
+// `Design::verify` of design.rs: the order of work of an accepted list, as one walk over its words, cells first and then net replacements.
 use builder::Counts;
 use cell::Decoded;
 use cell::Operation;
-use logic::Net;
 use logic::Slot;
-use slots::Pair;
+use net_pairs::Walked;
 ghost use mathlib.Core.Path.{_≡_};
 ghost use mathlib.Core.Bool.{true};
 ghost use mathlib.Core.List.{List, [], _∷_};
-ghost use Prim.Native.Nat.{ℕ, _+_, _≤_, _<_, _^_, max};
+ghost use Prim.Native.Nat.{ℕ, _+_, _≤_, _<_, max};
 ghost use lib.ListN.{length};
-ghost use Rattle.logic.specs.Net.{netOf};
 ghost use Rattle.cell.specs.Design.{Design, total};
-ghost use Rattle.cell_reader.specs.Parse.{numberIn, opAt, endAt, cellAt};
+ghost use Rattle.cell_reader.specs.Parse.{opAt, endAt, cellAt};
 ghost use Rattle.design_list.specs.Read.{read, accepted};
-ghost use Rattle.order.specs.Verify.{asserted, obliged, addCell, newCell, replaceNet, replaceVoidNet, replaceDffNet, pairSteps, eachCell, eachPair};
+ghost use Rattle.order.specs.Verify.{obliged, addCell, newCell, eachCell};
 ghost use Rattle.nets.specs.Reads.{pastIn};
 ghost use Rattle.slots.specs.Tells.{widthIn, Tells};
-ghost use Rattle.slots.specs.Pairs.{pairIn};
-ghost use Rattle.walk.specs.Does.{Pushed, Does, Works};
+ghost use Rattle.net_pairs.specs.Does.{Does};
+ghost use Rattle.walk.specs.Works.{Works};
 ghost use Rattle.walk.specs.Cursor.{isNext, newAt, repAfter, stepsAt, Readable};
-
-// What a part of the walk has done: the counts, and how many obligations there are.
-pub struct Walked {
-    pub counts: Counts,
-    pub obligations: usize,
-}
-
-// `self.eqs.borrow_mut().push`: the term of an obligation, stored after the others; past the table's end nothing is stored.
-fn push(eqs: &mut [u32], obligations: usize, eq: Built) -> Walked
-    ensures { λ r. ⌜ Pushed (now (eqs .entry)) obligations eq (now (eqs .exit)) r ⌝ }
-{
-    let counts = eq.counts;
-    if obligations < eqs.len() {
-        eqs[obligations] = eq.term.0;
-        return Walked {
-            counts,
-            obligations: obligations + 1,
-        };
-    }
-    Walked {
-        counts,
-        obligations,
-    }
-}
-
-// ---- the cells
 
 // The operation of the record at a place; a Note's where its head names none.
 fn op_at(list: &[u32], at: usize) -> Operation
@@ -159,7 +130,7 @@ fn new_at(
             slot,
             width,
         );
-        return push(eqs, s.obligations, eq);
+        return net_pairs::push(eqs, s.obligations, eq);
     }
     s
 }
@@ -232,118 +203,6 @@ fn verify_cells(
     s
 }
 
-// ---- the net replacements
-
-fn replace_net(
-    table: &[u32],
-    calls: &mut [u32],
-    names: &mut [u32],
-    marks: &mut [u8],
-    eqs: &mut [u32],
-    s: Walked,
-    from_net: Net,
-    to_net: Net,
-) -> Walked
-    ensures { λ r. ⌜ («from_net» .0 < 2 ^ 29 → «to_net» .0 < 2 ^ 29 → Does (obliged (replaceNet (pastIn (now (table .entry))) (netOf («from_net» .0)) (netOf («to_net» .0))) ∷ [])
-        (now (calls .entry)) (now (names .entry)) (now (marks .entry)) (now (eqs .entry)) s (now (calls .exit)) (now (names .exit)) (now (marks .exit)) (now (eqs .exit)) r) ⌝ }
-{
-    let eq = steps::replace_net(table, calls, names, marks, s.counts, from_net, to_net);
-    push(eqs, s.obligations, eq)
-}
-
-fn replace_void_net(
-    table: &[u32],
-    calls: &mut [u32],
-    names: &mut [u32],
-    marks: &mut [u8],
-    s: Walked,
-    from_net: Net,
-    to_net: Net,
-) -> Walked
-    ensures { λ r. ⌜ ((eqs : List ℕ) → «from_net» .0 < 2 ^ 29 → «to_net» .0 < 2 ^ 29 → Does (asserted (replaceVoidNet (pastIn (now (table .entry))) (netOf («from_net» .0)) (netOf («to_net» .0))) ∷ [])
-        (now (calls .entry)) (now (names .entry)) (now (marks .entry)) eqs s (now (calls .exit)) (now (names .exit)) (now (marks .exit)) eqs r) ⌝ }
-{
-    let counts = steps::replace_void_net(table, calls, names, marks, s.counts, from_net, to_net);
-    Walked {
-        counts,
-        obligations: s.obligations,
-    }
-}
-
-fn replace_dff_net(
-    calls: &mut [u32],
-    names: &mut [u32],
-    marks: &mut [u8],
-    eqs: &mut [u32],
-    s: Walked,
-    from_net: Net,
-    to_net: Net,
-) -> Walked
-    ensures { λ r. ⌜ («from_net» .0 < 2 ^ 29 → «to_net» .0 < 2 ^ 29 → Does (replaceDffNet (netOf («from_net» .0)) (netOf («to_net» .0)))
-        (now (calls .entry)) (now (names .entry)) (now (marks .entry)) (now (eqs .entry)) s (now (calls .exit)) (now (names .exit)) (now (marks .exit)) (now (eqs .exit)) r) ⌝ }
-{
-    let eq = steps::replace_dff_net(calls, names, marks, s.counts, from_net, to_net);
-    push(eqs, s.obligations, eq)
-}
-
-// A net replacement: of equal nets none, of a Void's net an assertion, of a Dff's by a Dff's an induction step before it.
-fn replace_pair(
-    table: &[u32],
-    calls: &mut [u32],
-    names: &mut [u32],
-    marks: &mut [u8],
-    eqs: &mut [u32],
-    s: Walked,
-    from_net: Net,
-    to_net: Net,
-) -> Walked
-    ensures { λ r. ⌜ («from_net» .0 < 2 ^ 29 → «to_net» .0 < 2 ^ 29
-        → Does (pairSteps (pastIn (now (table .entry))) (pairIn (now (table .entry)) («from_net» .0) («to_net» .0)) (record { from = netOf («from_net» .0); to = netOf («to_net» .0) }))
-        (now (calls .entry)) (now (names .entry)) (now (marks .entry)) (now (eqs .entry)) s (now (calls .exit)) (now (names .exit)) (now (marks .exit)) (now (eqs .exit)) r) ⌝ }
-{
-    match slots::pair_of(table, from_net, to_net) {
-        Pair::Equal => s,
-        Pair::OfVoid => replace_void_net(table, calls, names, marks, s, from_net, to_net),
-        Pair::OfDffs => {
-            let joined = replace_dff_net(calls, names, marks, eqs, s, from_net, to_net);
-            replace_net(table, calls, names, marks, eqs, joined, from_net, to_net)
-        }
-        Pair::Ordinary => replace_net(table, calls, names, marks, eqs, s, from_net, to_net),
-    }
-}
-
-// The net of the word at a place.
-fn net_at(list: &[u32], at: usize) -> Net
-    ensures { λ r. ⌜ r .0 ≡ numberIn (now (list .entry)) at ⌝ }
-{
-    Net(logic::payload(logic::word_at(list, at)))
-}
-
-// The net replacements in order, two words each, up to the last word.
-fn replace_pairs(
-    list: &[u32],
-    pairs: usize,
-    table: &[u32],
-    calls: &mut [u32],
-    names: &mut [u32],
-    marks: &mut [u8],
-    eqs: &mut [u32],
-    start: Walked,
-) -> Walked
-    ensures { λ r. ⌜ ((d : Design) (replacements : ℕ) → read (now (list .entry)) ≡ accepted d replacements pairs → Tells d (now (table .entry)) → Does (eachPair d (d .netReps))
-        (now (calls .entry)) (now (names .entry)) (now (marks .entry)) (now (eqs .entry)) start (now (calls .exit)) (now (names .exit)) (now (marks .exit)) (now (eqs .exit)) r) ⌝ }
-{
-    let mut s = start;
-    let mut at = pairs;
-    while at < list.len() {
-        let from_net = net_at(list, at);
-        let to_net = net_at(list, at + 1);
-        s = replace_pair(table, calls, names, marks, eqs, s, from_net, to_net);
-        at += 2;
-    }
-    s
-}
-
 // The loops of `Design::verify`: the calls of every cell in slot order, then of the net replacements; the terms of the obligations stand in a lent table.
 pub fn work(
     list: &[u32],
@@ -374,5 +233,5 @@ pub fn work(
         eqs,
         start,
     );
-    replace_pairs(list, pairs, table, calls, names, marks, eqs, cells)
+    net_pairs::replace_pairs(list, pairs, table, calls, names, marks, eqs, cells)
 }

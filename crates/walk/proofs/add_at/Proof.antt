@@ -4,7 +4,8 @@ use mathlib.Core.Path.{refl}
 use native.Mathlib.Omega.{arith}
 use Rattle.cell_reader.specs.Parse.{cellAt}
 use Rattle.nets.specs.Reads.{pastIn}
-use Rattle.walk.proofs.Does.{does-did, added-none}
+use Rattle.net_pairs.proofs.Does.{does-did}
+use Rattle.walk.proofs.Steps.{added-none}
 use Rattle.walk.proofs.Cells.{fields-in}
 use Rattle.walk.proofs.add_at.Statement.{statement}
 use Rattle.walk.proofs.add_at.Tie as tie

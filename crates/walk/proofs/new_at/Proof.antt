@@ -2,8 +2,8 @@
 use borrow.Author.Needs.{needs}
 use mathlib.Core.Path.{refl}
 use native.Mathlib.Omega.{arith}
-use Rattle.walk.specs.Does.{obligedIn}
-use Rattle.walk.proofs.Does.{does-pushed}
+use Rattle.net_pairs.specs.Does.{obligedIn}
+use Rattle.net_pairs.proofs.Does.{does-pushed}
 use Rattle.walk.proofs.Cells.{fields-in}
 use Rattle.walk.proofs.new_at.Statement.{statement}
 use Rattle.walk.proofs.new_at.Tie as tie

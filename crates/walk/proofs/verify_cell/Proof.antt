@@ -8,7 +8,7 @@ use Rattle.cell_reader.specs.Parse.{cellAt}
 use Rattle.nets.specs.Reads.{pastIn}
 use Rattle.slots.specs.Tells.{widthIn}
 use Rattle.walk.specs.Cursor.{newAt}
-use Rattle.walk.proofs.Does.{does-skip, does-old, does-both}
+use Rattle.walk.proofs.Steps.{does-skip, does-old, does-both}
 use Rattle.walk.proofs.Cells.{next-inside}
 use Rattle.walk.proofs.verify_cell.Statement.{statement}
 use Rattle.walk.proofs.verify_cell.Tie as tie

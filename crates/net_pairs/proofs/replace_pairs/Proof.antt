@@ -1,4 +1,4 @@
--- `walk::replace_pairs` meets its contract: along the net replacements (`AlongPairs`), each turn does the steps of one pair, and at the last word none is
+-- `net_pairs::replace_pairs` meets its contract: along the net replacements (`AlongPairs`), each turn does the steps of one pair, and at the last word none is
 -- left. Assumes nothing.
 use borrow.Author.Needs.{needs}
 use mathlib.Core.Path.{_≡_, refl, _∙_}
@@ -8,9 +8,9 @@ use lib.ListN.{length}
 use Rattle.cell.specs.Design.{Design}
 use Rattle.design_list.specs.Read.{read, accepted}
 use Rattle.slots.specs.Tells.{Tells}
-use Rattle.walk.proofs.Along.{AlongPairs, pairs-along, pairs-turn, pairs-done}
-use Rattle.walk.proofs.replace_pairs.Statement.{statement}
-use Rattle.walk.proofs.replace_pairs.Tie as tie
+use Rattle.net_pairs.proofs.Pairs.{AlongPairs, pairs-along, pairs-turn, pairs-done}
+use Rattle.net_pairs.proofs.replace_pairs.Statement.{statement}
+use Rattle.net_pairs.proofs.replace_pairs.Tie as tie
 
 abbrev Inv-loop : tie.InvT-loop
 Inv-loop list pairs table calls₀ names₀ marks₀ eqs₀ s₀ at₀ calls names marks eqs s at =

@@ -1,10 +1,10 @@
--- `walk::push` meets its contract: past the table's end `set` leaves it as it is. Assumes nothing.
+-- `net_pairs::push` meets its contract: past the table's end `set` leaves it as it is. Assumes nothing.
 use borrow.Author.Needs.{needs}
 use mathlib.Core.Path.{refl, sym}
 use native.Mathlib.Omega.{arith}
 use lib.Seq.{set-out}
-use Rattle.walk.proofs.push.Statement.{statement}
-use Rattle.walk.proofs.push.Tie as tie
+use Rattle.net_pairs.proofs.push.Statement.{statement}
+use Rattle.net_pairs.proofs.push.Tie as tie
 
 returns-2 : tie.Need-returns-2
 returns-2 c =

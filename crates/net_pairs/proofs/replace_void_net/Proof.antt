@@ -1,10 +1,10 @@
--- `walk::replace_void_net` meets its contract: an assertion, and no obligation more. Assumes nothing.
+-- `net_pairs::replace_void_net` meets its contract: an assertion, and no obligation more. Assumes nothing.
 use borrow.Author.Needs.{needs}
 use mathlib.Core.Path.{refl}
-use Rattle.walk.specs.Does.{obligedIn}
-use Rattle.walk.proofs.Does.{does-did}
-use Rattle.walk.proofs.replace_void_net.Statement.{statement}
-use Rattle.walk.proofs.replace_void_net.Tie as tie
+use Rattle.net_pairs.specs.Does.{obligedIn}
+use Rattle.net_pairs.proofs.Does.{does-did}
+use Rattle.net_pairs.proofs.replace_void_net.Statement.{statement}
+use Rattle.net_pairs.proofs.replace_void_net.Tie as tie
 
 returns : tie.Need-returns
 unfolding obligedIn

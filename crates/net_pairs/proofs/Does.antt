@@ -1,25 +1,17 @@
 -- One law for each kind of step, for steps one after another (`does-append`), and for a loop over steps (`Left`). Assumes nothing.
 use mathlib.Core.Path.{_≡_, refl, sym, ap, _∙_}
-use mathlib.Core.Bool.{Bool, true, false, cond}
-use mathlib.Core.Option.{Option, none, some}
 use mathlib.Core.List.{List, [], _∷_, _++_}
 use Prim.Native.Nat.{ℕ, zero, suc, _+_, _≤_, _<_}
 use native.Mathlib.Nat.{add-zero}
 use native.Mathlib.Omega.{arith}
-use borrow.Author.Tests.{eq-eqb, ne-eqb}
-use lib.Dec.{eqb}
 use lib.ListN.{length, set, length-append}
 use lib.Seq.{sets, length-sets}
-use Rattle.cell.specs.Cell.{Cell}
-use Rattle.smt.specs.Prog.{Prog, TritVec}
-use Rattle.builder.specs.declared.Counts.{Counts}
 use Rattle.builder.specs.declared.Built.{Built}
-use Rattle.order.specs.Verify.{Step, declared, asserted, obliged, isInput, addCell, newCell}
+use Rattle.order.specs.Verify.{Step, declared, asserted, obliged}
 use Rattle.steps.specs.Did.{Did}
 use Rattle.steps.proofs.Laws.{did-none, did-append}
-use Rattle.walk.specs.declared.Walked.{Walked}
-use Rattle.walk.specs.Does.{obligedIn, Kept, Pushed, Does}
-use Rattle.walk.specs.Cursor.{stepsAt}
+use Rattle.net_pairs.specs.declared.Walked.{Walked}
+use Rattle.net_pairs.specs.Does.{obligedIn, Kept, Pushed, Does}
 
 sets-append : (t : List ℕ) (i : ℕ) (a b : List ℕ) → sets t i (a ++ b) ≡ sets (sets t i a) (i + length a) b
 sets-append t i [] b = rw add-zero
@@ -106,32 +98,3 @@ left-turn step left p q = record { rest = λ r. p .rest (does-append step left q
 pub left-end : {whole : List Step} {calls₀ names₀ marks₀ eqs₀ calls names marks eqs : List ℕ} {s₀ s : Walked}
     → Left whole [] calls₀ names₀ marks₀ eqs₀ s₀ calls names marks eqs s → Does whole calls₀ names₀ marks₀ eqs₀ s₀ calls names marks eqs s
 left-end {calls = calls} {names = names} {marks = marks} {eqs = eqs} {s = s} p = p .rest (does-none calls names marks eqs s)
-
--- ---- the steps of a cell
-
-module _ (past : ℕ → Bool) (slot : ℕ) (a : Cell) where
-  -- A cell that is added obliges nothing.
-  pub added-none : (width : ℕ) → obligedIn (addCell past slot width a ∷ []) ≡ 0
-  unfolding obligedIn
-  added-none width = go (isInput a) _ _
-    where
-      go : (b : Bool) (m : Prog TritVec) (n : Prog ℕ) → obligedIn (cond b (declared m) (asserted n) ∷ []) ≡ 0
-      go true m n = refl
-      go false m n = refl
-
-  pub does-skip : (width : ℕ) (new : Option Cell) (calls names marks eqs : List ℕ) (s : Walked) → width ≡ 0
-      → Does (stepsAt past slot width a new) calls names marks eqs s calls names marks eqs s
-  does-skip width new calls names marks eqs s empty = rw (eq-eqb width 0 empty) (does-none calls names marks eqs s)
-
-  -- A cell without a new one, and one with.
-  pub does-old : (width : ℕ) {calls names marks eqs calls′ names′ marks′ : List ℕ} {s s′ : Walked} → (width ≡ 0 → ⊥)
-      → Does (addCell past slot width a ∷ []) calls names marks eqs s calls′ names′ marks′ eqs s′
-      → Does (stepsAt past slot width a none) calls names marks eqs s calls′ names′ marks′ eqs s′
-  does-old width wide old = rw (ne-eqb width 0 wide) old
-
-  pub does-both : (width : ℕ) (b : Cell) {calls names marks eqs calls₁ names₁ marks₁ calls₂ names₂ marks₂ eqs₂ : List ℕ} {s s₁ s₂ : Walked} → (width ≡ 0 → ⊥)
-      → Does (addCell past slot width a ∷ []) calls names marks eqs s calls₁ names₁ marks₁ eqs s₁
-      → Does (obliged (newCell past slot width b) ∷ []) calls₁ names₁ marks₁ eqs s₁ calls₂ names₂ marks₂ eqs₂ s₂
-      → Does (stepsAt past slot width a (some b)) calls names marks eqs s calls₂ names₂ marks₂ eqs₂ s₂
-  does-both width b wide old new =
-      rw (ne-eqb width 0 wide) (does-append (addCell past slot width a ∷ []) (obliged (newCell past slot width b) ∷ []) old new)

@@ -1,10 +1,10 @@
--- `walk::replace_net` meets its contract: one obligation, its term pushed. Assumes nothing.
+-- `net_pairs::replace_net` meets its contract: one obligation, its term pushed. Assumes nothing.
 use borrow.Author.Needs.{needs}
 use mathlib.Core.Path.{refl}
-use Rattle.walk.specs.Does.{obligedIn}
-use Rattle.walk.proofs.Does.{does-pushed}
-use Rattle.walk.proofs.replace_net.Statement.{statement}
-use Rattle.walk.proofs.replace_net.Tie as tie
+use Rattle.net_pairs.specs.Does.{obligedIn}
+use Rattle.net_pairs.proofs.Does.{does-pushed}
+use Rattle.net_pairs.proofs.replace_net.Statement.{statement}
+use Rattle.net_pairs.proofs.replace_net.Tie as tie
 
 returns : tie.Need-returns
 unfolding obligedIn

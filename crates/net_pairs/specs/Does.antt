@@ -3,14 +3,12 @@
 use mathlib.Core.Path.{_≡_}
 use mathlib.Core.List.{List, [], _∷_}
 use Prim.Native.Nat.{ℕ, _+_, _≤_, _<_}
-use lib.ListN.{length, set, take}
+use lib.ListN.{length, set}
 use lib.Seq.{sets}
-use Rattle.cell.specs.Design.{Design}
-use Rattle.builder.specs.declared.Counts.{Counts}
 use Rattle.builder.specs.declared.Built.{Built}
-use Rattle.order.specs.Verify.{Step, declared, asserted, obliged, steps}
+use Rattle.order.specs.Verify.{Step, declared, asserted, obliged}
 use Rattle.steps.specs.Did.{Did}
-use Rattle.walk.specs.declared.Walked.{Walked}
+use Rattle.net_pairs.specs.declared.Walked.{Walked}
 
 -- How many of some steps are obligations.
 unfoldable pub obligedIn : List Step → ℕ
@@ -36,10 +34,3 @@ pub record Does (steps : List Step) (calls names marks eqs : List ℕ) (s : Walk
   pub many : length terms ≡ obligedIn steps
   pub did : Did steps calls names marks (s .counts) calls′ names′ marks′ (s′ .counts) terms
   pub kept : s .obligations + obligedIn steps ≤ length eqs → Kept eqs (s .obligations) terms eqs′ (s′ .obligations)
-
--- The whole order of work of a design: with room for 12,288 obligations, which are all that an accepted list has, their terms are the first words of the
--- table.
-pub record Works (d : Design) (calls names marks eqs : List ℕ) (c : Counts) (calls′ names′ marks′ eqs′ : List ℕ) (s′ : Walked) : Type 0 where
-  pub terms : List ℕ
-  pub did : Did (steps d) calls names marks c calls′ names′ marks′ (s′ .counts) terms
-  pub first : 12288 ≤ length eqs → take (s′ .obligations) eqs′ ≡ terms

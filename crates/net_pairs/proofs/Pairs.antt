@@ -1,9 +1,10 @@
 -- The net replacements of an accepted list stand one after another, two words each, from the place after the cell replacements up to the last word.
-use mathlib.Core.Path.{_≡_, refl, ap₂, _∙_}
+use mathlib.Core.Path.{_≡_, refl}
 use mathlib.Core.List.{List, [], _∷_, _++_}
 use Prim.Native.Nat.{ℕ, _+_, _*_, _≤_, _<_, _^_}
 use native.Mathlib.Omega.{arith}
 use lib.ListN.{length}
+use Rattle.logic.specs.Net.{netOf}
 use Rattle.cell.specs.Design.{Design, NetPair, total}
 use Rattle.cell_reader.specs.Parse.{numberIn, netIn}
 use Rattle.design_list.specs.Items.{netPair}
@@ -15,7 +16,15 @@ use Rattle.accepted.specs.Fields.{known-within}
 use Rattle.accepted.specs.Replacements.{Climb, IsPair}
 use Rattle.accepted.specs.Replacements as R
 use Rattle.accepted.specs.Laid.{stages}
-use Rattle.order.specs.Verify.{Step, pairSteps, eachPair}
+use Rattle.nets.specs.Reads.{pastIn}
+use Rattle.order.specs.Verify.{pairSteps, eachPair}
+use Rattle.slots.specs.Tells.{Tells}
+use Rattle.slots.specs.Pairs.{pairIn}
+use Rattle.slots.proofs.Laws.{tells-past}
+use Rattle.slots.proofs.Pairs.{tells-pair}
+use Rattle.net_pairs.specs.declared.Walked.{Walked}
+use Rattle.net_pairs.specs.Does.{Does}
+use Rattle.net_pairs.proofs.Does.{Left, left-start, left-turn, left-end}
 
 -- The net replacements that are left from a place on.
 pub record AtPair (d : Design) (w : List ℕ) (at : ℕ) : Type 0 where
@@ -67,3 +76,39 @@ module _ (d : Design) (w : List ℕ) where
 
   pub pairs-end : {at : ℕ} (place : AtPair d w at) → length w ≤ at → eachPair d (place .pairs) ≡ []
   pairs-end place past = end-in (place .climb) past
+
+-- Along the net replacements.
+pub record AlongPairs (d : Design) (w : List ℕ) (at : ℕ) (calls₀ names₀ marks₀ eqs₀ : List ℕ) (s₀ : Walked) (calls names marks eqs : List ℕ) (s : Walked) : Type 0 where
+  pub place : AtPair d w at
+  pub left : Left (eachPair d (d .netReps)) (eachPair d (place .pairs)) calls₀ names₀ marks₀ eqs₀ s₀ calls names marks eqs s
+
+pub pairs-along : (w : List ℕ) {d : Design} {replacements pairs : ℕ} → read w ≡ accepted d replacements pairs
+    → (calls names marks eqs : List ℕ) (s : Walked) → AlongPairs d w pairs calls names marks eqs s calls names marks eqs s
+unfolding pairs-start
+pairs-along w accepts calls names marks eqs s = record { place = pairs-start w accepts; left = left-start _ calls names marks eqs s }
+
+module _ {w table : List ℕ} {d : Design} where
+  -- The nets are those of the two words, and the table tells what the pair is.
+  pub pairs-turn : {at : ℕ} {calls₀ names₀ marks₀ eqs₀ calls names marks eqs calls₁ names₁ marks₁ eqs₁ : List ℕ} {s₀ s s₁ : Walked} {from to : ℕ}
+      → Tells d table → AlongPairs d w at calls₀ names₀ marks₀ eqs₀ s₀ calls names marks eqs s → at < length w → from ≡ numberIn w at → to ≡ numberIn w (at + 1)
+      → (from < 2 ^ 29 → to < 2 ^ 29 → Does (pairSteps (pastIn table) (pairIn table from to) (record { from = netOf from; to = netOf to }))
+      calls names marks eqs s calls₁ names₁ marks₁ eqs₁ s₁)
+      → AlongPairs d w (at + 2) calls₀ names₀ marks₀ eqs₀ s₀ calls₁ names₁ marks₁ eqs₁ s₁
+  pairs-turn {at} tells along inside from-is to-is does =
+      let here = here-pair d w (along .place) inside in
+      let turn = pair-turn d w (along .place) inside in
+      let low : numberIn w at < 2 ^ 29 = omega arith in
+      let high : numberIn w (at + 1) < 2 ^ 29 = omega arith in
+      let told = tells-pair tells (numberIn w at) (numberIn w (at + 1)) low high (here .from) (here .to) in
+      let step = rw (tells-past tells, from-is, to-is, told) at (does (omega arith) (omega arith)) in
+      record {
+        place = turn .next;
+        left = left-turn (pairSteps (readsPast d) (pairOf d (netPair w at)) (netPair w at)) (eachPair d (turn .next .pairs))
+            (rw (turn .step) at (along .left)) step;
+      }
+
+module _ {w : List ℕ} {d : Design} where
+  pub pairs-done : {at : ℕ} {calls₀ names₀ marks₀ eqs₀ calls names marks eqs : List ℕ} {s₀ s : Walked}
+      → AlongPairs d w at calls₀ names₀ marks₀ eqs₀ s₀ calls names marks eqs s → length w ≤ at
+      → Does (eachPair d (d .netReps)) calls₀ names₀ marks₀ eqs₀ s₀ calls names marks eqs s
+  pairs-done along past = left-end (rw (pairs-end d w (along .place) past) at (along .left))

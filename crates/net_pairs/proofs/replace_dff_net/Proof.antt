@@ -1,10 +1,10 @@
--- `walk::replace_dff_net` meets its contract: the join is asserted, and the term of the one obligation pushed. Assumes nothing.
+-- `net_pairs::replace_dff_net` meets its contract: the join is asserted, and the term of the one obligation pushed. Assumes nothing.
 use borrow.Author.Needs.{needs}
 use mathlib.Core.Path.{refl}
-use Rattle.walk.specs.Does.{obligedIn}
-use Rattle.walk.proofs.Does.{does-pushed}
-use Rattle.walk.proofs.replace_dff_net.Statement.{statement}
-use Rattle.walk.proofs.replace_dff_net.Tie as tie
+use Rattle.net_pairs.specs.Does.{obligedIn}
+use Rattle.net_pairs.proofs.Does.{does-pushed}
+use Rattle.net_pairs.proofs.replace_dff_net.Statement.{statement}
+use Rattle.net_pairs.proofs.replace_dff_net.Tie as tie
 
 returns : tie.Need-returns
 unfolding obligedIn

@@ -1,12 +1,12 @@
--- `walk::replace_pair` meets its contract: what each kind of net replacement makes, the kind being that of the words. Assumes nothing.
+-- `net_pairs::replace_pair` meets its contract: what each kind of net replacement makes, the kind being that of the words. Assumes nothing.
 use borrow.Author.Needs.{needs}
 use mathlib.Core.Path.{_≡_, sym, ap, _∙_}
 use mathlib.Core.List.{[], _∷_}
 use Rattle.order.specs.Verify.{replaceDffNet}
 use Rattle.slots.specs.Pairs.{pairKind}
-use Rattle.walk.proofs.Does.{does-none, does-append}
-use Rattle.walk.proofs.replace_pair.Statement.{statement}
-use Rattle.walk.proofs.replace_pair.Tie as tie
+use Rattle.net_pairs.proofs.Does.{does-none, does-append}
+use Rattle.net_pairs.proofs.replace_pair.Statement.{statement}
+use Rattle.net_pairs.proofs.replace_pair.Tie as tie
 
 returns : tie.Need-returns
 returns c =
