@@ -1,13 +1,12 @@
 -- Where the walk stands among the cells of an accepted list: the cells that are left and the cell replacements that are left, which are those at or
 -- above the slot (they ascend, and each heads a base cell). A turn takes one cell, and with it the next replacement if that is the cell's.
-use mathlib.Core.Path.{_≡_, refl, sym, ap, ap₂, fun-ext, _∙_}
+use mathlib.Core.Path.{_≡_, refl, sym, _∙_}
 use mathlib.Core.Bool.{Bool, true, false, cond, false≢true}
-use mathlib.Core.Option.{Option, none, some}
 use mathlib.Core.List.{List, [], _∷_, _++_}
 use Prim.Native.Nat.{ℕ, _+_, _-_, _≤_, _<_, max}
 use native.Mathlib.Omega.{arith}
 use native.Mathlib.Decide.{ℕ-discrete}
-use borrow.Author.Tests.{eq-eqb, ne-eqb, lt-ltb, le-ltb, ltb-true, eqb-true}
+use borrow.Author.Tests.{eq-eqb, ne-eqb, lt-ltb, le-ltb, ltb-true}
 use lib.Dec.{eqb, ltb}
 use lib.ListN.{length, take, drop}
 use Rattle.cell.specs.Cell.{Cell, outputLen, slotsOf}
@@ -21,7 +20,7 @@ use Rattle.design_list.specs.Laws.{limit-low}
 use Rattle.design_list.specs.Cover.{Walk, done, placed}
 use Rattle.design_list.specs.Read.{read, accepted}
 use Rattle.design_list.specs.Accepted.{accepted-read}
-use Rattle.working_out.specs.Reading.{Each, each-map, readsPast}
+use Rattle.working_out.specs.Reading.{Each, each-map}
 use Rattle.working_out.specs.Laid.{Ascending}
 use Rattle.accepted.specs.Cells.{cell-read}
 use Rattle.accepted.specs.Replacements.{Climb, climb-ascends, IsReplacement}
@@ -29,8 +28,8 @@ use Rattle.accepted.specs.Replacements as R
 use Rattle.accepted.specs.Laid.{stages, accepted-laid}
 use Rattle.operands.proofs.Part.{part-all, cell-in}
 use Rattle.nets.specs.Reads.{pastIn}
-use Rattle.order.specs.Verify.{Step, cellSteps, eachCell, newCellIn}
-use Rattle.order.proofs.Replacements.{Heads, none-below, above, at-first, later}
+use Rattle.order.specs.Verify.{eachCell, newCellIn}
+use Rattle.order.proofs.Replacements.{Heads, none-below, above, later}
 use Rattle.slots.specs.Tells.{widthIn, Tells}
 use Rattle.slots.proofs.Laws.{tells-past}
 use Rattle.walk.specs.Cursor.{isNext, newAt, repAfter, stepsAt, Readable}

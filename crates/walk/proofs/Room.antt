@@ -1,14 +1,14 @@
 -- An accepted list has at most 12,288 obligations: at most one for each of at most 4,096 cells, and at most two for each of at most 4,096 net
 -- replacements.
-use mathlib.Core.Path.{_≡_, refl, sym, ap, _∙_}
+use mathlib.Core.Path.{_≡_, refl, ap, _∙_}
 use mathlib.Core.Bool.{Bool, true, false, cond}
 use mathlib.Core.Option.{Option, none, some}
-use mathlib.Core.List.{List, [], _∷_, _++_}
-use Prim.Native.Nat.{ℕ, zero, suc, _+_, _*_, _-_, _≤_}
+use mathlib.Core.List.{List, [], _∷_}
+use Prim.Native.Nat.{ℕ, _+_, _*_, _-_, _≤_}
 use native.Mathlib.Omega.{arith}
 use lib.Dec.{eqb}
 use lib.ListN.{length, take}
-use lib.Seq.{sets, sets-eq, take-at}
+use lib.Seq.{sets-eq, take-at}
 use Rattle.cell.specs.Cell.{Cell, outputLen, slotsOf}
 use Rattle.cell.specs.Design.{Design, Placed, NetPair, total}
 use Rattle.fields.specs.declared.Number.{Number}
@@ -19,7 +19,7 @@ use Rattle.design_list.specs.declared.Header.{Header}
 use Rattle.design_list.specs.declared.Opening.the-variants as O
 use Rattle.design_list.specs.Items.{onHeaderNumber, countsAt, headerAt, netPair, pairAt}
 use Rattle.design_list.specs.Read.{read, accepted}
-use Rattle.design_list.specs.Accepted.{IsAccepted, accepted-read}
+use Rattle.design_list.specs.Accepted.{accepted-read}
 use Rattle.working_out.specs.Reading.{Pair, equal, ofVoid, ofDffs, ordinary, readsPast, pairOf}
 use Rattle.working_out.specs.Laid.{Run}
 use Rattle.accepted.specs.Replacements.{climb-read, IsPair, pair-read}

@@ -7,7 +7,7 @@ use Prim.Native.Nat.{ℕ}
 use borrow.Author.Tests.{eq-eqb, ne-eqb}
 use Rattle.cell.specs.Cell.{Cell}
 use Rattle.smt.specs.Prog.{Prog, TritVec}
-use Rattle.order.specs.Verify.{Step, declared, asserted, obliged, isInput, addCell, newCell}
+use Rattle.order.specs.Verify.{declared, asserted, obliged, isInput, addCell, newCell}
 use Rattle.net_pairs.specs.declared.Walked.{Walked}
 use Rattle.net_pairs.specs.Does.{obligedIn, Does}
 use Rattle.net_pairs.proofs.Does.{does-none, does-append}

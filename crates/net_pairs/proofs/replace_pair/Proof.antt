@@ -1,6 +1,6 @@
 -- `net_pairs::replace_pair` meets its contract: what each kind of net replacement makes, the kind being that of the words. Assumes nothing.
 use borrow.Author.Needs.{needs}
-use mathlib.Core.Path.{_≡_, sym, ap, _∙_}
+use mathlib.Core.Path.{sym, ap, _∙_}
 use mathlib.Core.List.{[], _∷_}
 use Rattle.order.specs.Verify.{replaceDffNet}
 use Rattle.slots.specs.Pairs.{pairKind}
