@@ -24,7 +24,9 @@ fn compared(
     marks: &mut [u8],
     prd: BuiltTrits,
 ) -> BuiltTrits
-    ensures { λ r. ⌜ RanTrits (compared (pastIn (now (table .entry))) (netIn (now (fields .entry)) (3 + index)) mask (trits 1 (prd .value))) 1 (now (calls .entry)) (now (names .entry)) (now (marks .entry)) (prd .counts) (now (calls .exit)) (now (names .exit)) (now (marks .exit)) r ⌝ }
+    ensures { λ r. ⌜ RanTrits (compared (pastIn (now (table .entry))) (netIn (now (fields .entry)) (3 + index)) mask (trits 1 (prd .value))) 1
+        (now (calls .entry)) (now (names .entry)) (now (marks .entry)) (prd .counts)
+        (now (calls .exit)) (now (names .exit)) (now (marks .exit)) r ⌝ }
 {
     let net = Net(logic::payload(logic::word_at(fields, 3 + index as usize)));
     let a = nets::net(table, calls, names, marks, prd.counts, net);
@@ -45,7 +47,9 @@ fn position(
     marks: &mut [u8],
     prd: BuiltTrits,
 ) -> BuiltTrits
-    ensures { λ r. ⌜ RanTrits (position (pastIn (now (table .entry))) (netIn (now (fields .entry)) (3 + index)) mask (trits 1 (prd .value))) 1 (now (calls .entry)) (now (names .entry)) (now (marks .entry)) (prd .counts) (now (calls .exit)) (now (names .exit)) (now (marks .exit)) r ⌝ }
+    ensures { λ r. ⌜ RanTrits (position (pastIn (now (table .entry))) (netIn (now (fields .entry)) (3 + index)) mask (trits 1 (prd .value))) 1
+        (now (calls .entry)) (now (names .entry)) (now (marks .entry)) (prd .counts)
+        (now (calls .exit)) (now (names .exit)) (now (marks .exit)) r ⌝ }
 {
     match mask {
         Trit::Undef => prd,
@@ -65,7 +69,9 @@ fn product(
     marks: &mut [u8],
     prd: BuiltTrits,
 ) -> BuiltTrits
-    ensures { λ r. ⌜ RanTrits (product (pastIn (now (table .entry))) (netsIn (now (fields .entry)) n 3) (tritsIn (now (fields .entry)) n at) (trits 1 (prd .value))) 1 (now (calls .entry)) (now (names .entry)) (now (marks .entry)) (prd .counts) (now (calls .exit)) (now (names .exit)) (now (marks .exit)) r ⌝ }
+    ensures { λ r. ⌜ RanTrits (product (pastIn (now (table .entry))) (netsIn (now (fields .entry)) n 3) (tritsIn (now (fields .entry)) n at) (trits 1 (prd .value))) 1
+        (now (calls .entry)) (now (names .entry)) (now (marks .entry)) (prd .counts)
+        (now (calls .exit)) (now (names .exit)) (now (marks .exit)) r ⌝ }
 {
     let mut result = prd;
     let mut index: u32 = 0;
@@ -99,7 +105,10 @@ pub fn sum(
     marks: &mut [u8],
     c: Counts,
 ) -> BuiltTrits
-    ensures { λ r. ⌜ (at + 1 + numberIn (now (fields .entry)) at * n < 2 ^ 32 → RanTrits (matchOf (pastIn (now (table .entry))) (netsIn (now (fields .entry)) n 3) (alternatesIn (now (fields .entry)) n at)) 1 (now (calls .entry)) (now (names .entry)) (now (marks .entry)) c (now (calls .exit)) (now (names .exit)) (now (marks .exit)) r) ⌝ }
+    ensures { λ r. ⌜ (at + 1 + numberIn (now (fields .entry)) at * n < 2 ^ 32
+        → RanTrits (matchOf (pastIn (now (table .entry))) (netsIn (now (fields .entry)) n 3) (alternatesIn (now (fields .entry)) n at)) 1
+        (now (calls .entry)) (now (names .entry)) (now (marks .entry)) c
+        (now (calls .exit)) (now (names .exit)) (now (marks .exit)) r) ⌝ }
 {
     let alternates = logic::payload(logic::word_at(fields, at as usize));
     let mut sum = nets::trit_lit(calls, c, Trit::Zero);

@@ -25,7 +25,8 @@ pub struct Prepared {
 
 // Is no bit of either operand's x set?
 pub fn bv_no_x(calls: &mut [u32], c: Counts, a: TritVec, b: TritVec, n: u32) -> Built
-    ensures { λ r. ⌜ (n ≤ 64 → (i j : ℕ) → MakesBool (bvNoX (trits i a) (trits j b) n) (now (calls .entry)) c (now (calls .exit)) r) ⌝ }
+    ensures { λ r. ⌜ (n ≤ 64 → (i j : ℕ) → MakesBool (bvNoX (trits i a) (trits j b) n) (now (calls .entry)) c
+        (now (calls .exit)) r) ⌝ }
 {
     let a_def = bits::bv_is_zero(calls, c, a.x, n);
     let b_def = bits::bv_is_zero(calls, a_def.counts, b.x, n);
@@ -42,7 +43,9 @@ fn equals_unless(
     b: TritVec,
     n: u32,
 ) -> BuiltTrits
-    ensures { λ r. ⌜ (n ≤ 64 → (i j : ℕ) → MakesTrits (equalsUnless («any_unequal» .term .0) (trits i a) (trits j b) n) 1 (now (calls .entry)) («any_unequal» .counts) (now (calls .exit)) r) ⌝ }
+    ensures { λ r. ⌜ (n ≤ 64 → (i j : ℕ)
+        → MakesTrits (equalsUnless («any_unequal» .term .0) (trits i a) (trits j b) n) 1
+        (now (calls .entry)) («any_unequal» .counts) (now (calls .exit)) r) ⌝ }
 {
     let never = builder::build_bool_lit(calls, any_unequal.counts, false);
     let no_x = bv_no_x(calls, never.counts, a, b, n);
@@ -60,7 +63,8 @@ fn equals_unless(
 }
 
 pub fn tv_equals(calls: &mut [u32], c: Counts, a: TritVec, b: TritVec, n: u32) -> BuiltTrits
-    ensures { λ r. ⌜ (n ≤ 64 → (i j : ℕ) → MakesTrits (tvEquals (trits i a) (trits j b) n) 1 (now (calls .entry)) c (now (calls .exit)) r) ⌝ }
+    ensures { λ r. ⌜ (n ≤ 64 → (i j : ℕ) → MakesTrits (tvEquals (trits i a) (trits j b) n) 1 (now (calls .entry)) c
+        (now (calls .exit)) r) ⌝ }
 {
     let differ = builder::build_binary(calls, c, BinaryOp::Xor, a.y, b.y);
     let some_x = builder::build_binary(calls, differ.counts, BinaryOp::Or, a.x, b.x);
@@ -81,7 +85,8 @@ pub fn tv_less(
     b: TritVec,
     n: u32,
 ) -> BuiltTrits
-    ensures { λ r. ⌜ (n ≤ 64 → (i j : ℕ) → MakesTrits (tvLess (compareOf op) (trits i a) (trits j b) n) 1 (now (calls .entry)) c (now (calls .exit)) r) ⌝ }
+    ensures { λ r. ⌜ (n ≤ 64 → (i j : ℕ) → MakesTrits (tvLess (compareOf op) (trits i a) (trits j b) n) 1
+        (now (calls .entry)) c (now (calls .exit)) r) ⌝ }
 {
     let no_x = bv_no_x(calls, c, a, b, n);
     let any_x = builder::build_not(calls, no_x.counts, no_x.term);
@@ -95,7 +100,8 @@ pub fn tv_less(
 
 // `bv_amount_mul`: the amount times the stride.
 pub fn amount_times(calls: &mut [u32], c: Counts, width: u32, amount: TritVec, stride: u32) -> Built
-    ensures { λ r. ⌜ (width ≤ 64 → (i : ℕ) → MakesVector (amountTimes width (trits i amount) stride) i (now (calls .entry)) c (now (calls .exit)) r) ⌝ }
+    ensures { λ r. ⌜ (width ≤ 64 → (i : ℕ) → MakesVector (amountTimes width (trits i amount) stride) i
+        (now (calls .entry)) c (now (calls .exit)) r) ⌝ }
 {
     let bv_stride = builder::build_bitvec_lit(calls, c, width, stride as u64);
     builder::build_binary(
@@ -123,7 +129,9 @@ pub fn tv_shift(
     n: u32,
     p: Prepared,
 ) -> BuiltTrits
-    ensures { λ r. ⌜ (p .width ≤ 64 → MakesTrits (tvShift (binaryOf «on_x») (binaryOf «on_y») n (preparedOf p)) (suc (n - 1)) (now (calls .entry)) c (now (calls .exit)) r) ⌝ }
+    ensures { λ r. ⌜ (p .width ≤ 64
+        → MakesTrits (tvShift (binaryOf «on_x») (binaryOf «on_y») n (preparedOf p)) (suc (n - 1)) (now (calls .entry)) c
+        (now (calls .exit)) r) ⌝ }
 {
     let value = p.value;
     let amount = p.amount;
@@ -147,7 +155,8 @@ pub fn tv_mul(
     b: TritVec,
     n: u32,
 ) -> BuiltTrits
-    ensures { λ r. ⌜ (n ≤ 64 → (j : ℕ) → MakesTrits (tvMul (defined .0) (trits n a) (trits j b) n) n (now (calls .entry)) c (now (calls .exit)) r) ⌝ }
+    ensures { λ r. ⌜ (n ≤ 64 → (j : ℕ) → MakesTrits (tvMul (defined .0) (trits n a) (trits j b) n) n
+        (now (calls .entry)) c (now (calls .exit)) r) ⌝ }
 {
     let none = builder::build_bitvec_lit(calls, c, n, 0);
     let all = builder::build_bitvec_lit(calls, none.counts, n, 18446744073709551615);
@@ -168,7 +177,8 @@ pub fn tv_binary(
     n: u32,
     width: u32,
 ) -> BuiltTrits
-    ensures { λ r. ⌜ (n ≤ 64 → (i : ℕ) × MakesTrits (tvBinary op (trits n a) (trits n b) n width) i (now (calls .entry)) c (now (calls .exit)) r) ⌝ }
+    ensures { λ r. ⌜ (n ≤ 64 → (i : ℕ) × MakesTrits (tvBinary op (trits n a) (trits n b) n width) i
+        (now (calls .entry)) c (now (calls .exit)) r) ⌝ }
 {
     match op {
         Binary::And => trits::tv_and(calls, c, a, b, width),

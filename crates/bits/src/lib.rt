@@ -19,14 +19,16 @@ ghost use Rattle.bits.specs.Called.{Called, nextTemporary};
 
 // A literal of at most 64 bits, by its number.
 pub fn bv_lit(calls: &mut [u32], c: Counts, width: u32, value: u64) -> Built
-    ensures { λ r. ⌜ ((s : Bits) → nat2bv (min width 64) value ≡ s → MakesVector (bvLit s) (length s) (now (calls .entry)) c (now (calls .exit)) r) ⌝ }
+    ensures { λ r. ⌜ ((s : Bits) → nat2bv (min width 64) value ≡ s → MakesVector (bvLit s) (length s)
+        (now (calls .entry)) c (now (calls .exit)) r) ⌝ }
 {
     builder::build_bitvec_lit(calls, c, width, value)
 }
 
 // A name of the next temporary.
 pub fn declare_temporary(calls: &mut [u32], c: Counts, suffix: Suffix, width: u32) -> Built
-    ensures { λ r. ⌜ Called (k.declare (tempName (c .temporaries) (suffixOf suffix)) width ∷ []) (r .term .0) (now (calls .entry)) c (now (calls .exit)) (r .counts) ⌝ }
+    ensures { λ r. ⌜ Called (k.declare (tempName (c .temporaries) (suffixOf suffix)) width ∷ []) (r .term .0)
+        (now (calls .entry)) c (now (calls .exit)) (r .counts) ⌝ }
 {
     builder::made(
         c,
@@ -47,14 +49,16 @@ pub fn next_temporary(c: Counts) -> Counts
 
 // A term asserted equal to another.
 pub fn assert_eq(calls: &mut [u32], c: Counts, arg1: Term, arg2: Term) -> Built
-    ensures { λ r. ⌜ Called (k.term (k.equal (arg1 .0) (arg2 .0)) ∷ k.assert (c .terms) ∷ []) (r .term .0) (now (calls .entry)) c (now (calls .exit)) (r .counts) ⌝ }
+    ensures { λ r. ⌜ Called (k.term (k.equal (arg1 .0) (arg2 .0)) ∷ k.assert (c .terms) ∷ []) (r .term .0)
+        (now (calls .entry)) c (now (calls .exit)) (r .counts) ⌝ }
 {
     let words = engine::build_eq(calls, c.words, arg1, arg2);
     builder::made(c, engine::assert_term(calls, words, Term(c.terms)))
 }
 
 pub fn bv_bind(calls: &mut [u32], c: Counts, value: Term, width: u32) -> Built
-    ensures { λ r. ⌜ ((i : ℕ) → MakesVector (bvBind (bv (value .0) i) width) width (now (calls .entry)) c (now (calls .exit)) r) ⌝ }
+    ensures { λ r. ⌜ ((i : ℕ) → MakesVector (bvBind (bv (value .0) i) width) width (now (calls .entry)) c
+        (now (calls .exit)) r) ⌝ }
 {
     let temp = declare_temporary(calls, c, Suffix::None, width);
     let next = next_temporary(temp.counts);
@@ -65,7 +69,8 @@ pub fn bv_bind(calls: &mut [u32], c: Counts, value: Term, width: u32) -> Built
 }
 
 pub fn bv_is_zero(calls: &mut [u32], c: Counts, value: Term, width: u32) -> Built
-    ensures { λ r. ⌜ (width ≤ 64 → (i : ℕ) → MakesBool (bvIsZero (bv (value .0) i) width) (now (calls .entry)) c (now (calls .exit)) r) ⌝ }
+    ensures { λ r. ⌜ (width ≤ 64 → (i : ℕ) → MakesBool (bvIsZero (bv (value .0) i) width) (now (calls .entry)) c
+        (now (calls .exit)) r) ⌝ }
 {
     let zero = bv_lit(calls, c, width, 0);
     builder::build_bitvec_eq(calls, zero.counts, value, zero.term)

@@ -85,7 +85,8 @@ pub fn build_bool_ite(
     if_true: Term,
     if_false: Term,
 ) -> Built
-    ensures { λ r. ⌜ MakesBool (buildBoolIte (cond .0) («if_true» .0) («if_false» .0)) (now (calls .entry)) c (now (calls .exit)) r ⌝ }
+    ensures { λ r. ⌜ MakesBool (buildBoolIte (cond .0) («if_true» .0) («if_false» .0)) (now (calls .entry)) c
+        (now (calls .exit)) r ⌝ }
 {
     made(
         c,
@@ -114,13 +115,15 @@ pub fn build_and_all(calls: &mut [u32], c: Counts, args: &[u32]) -> Built
 }
 
 pub fn build_bitvec_eq(calls: &mut [u32], c: Counts, arg1: Term, arg2: Term) -> Built
-    ensures { λ r. ⌜ ((i j : ℕ) → MakesBool (buildBitvecEq (bv (arg1 .0) i) (bv (arg2 .0) j)) (now (calls .entry)) c (now (calls .exit)) r) ⌝ }
+    ensures { λ r. ⌜ ((i j : ℕ) → MakesBool (buildBitvecEq (bv (arg1 .0) i) (bv (arg2 .0) j)) (now (calls .entry)) c
+        (now (calls .exit)) r) ⌝ }
 {
     made(c, engine::build_eq(calls, c.words, arg1, arg2))
 }
 
 pub fn build_compare(calls: &mut [u32], c: Counts, op: Compare, arg1: Term, arg2: Term) -> Built
-    ensures { λ r. ⌜ ((i j : ℕ) → MakesBool (buildCompare (compareOf op) (bv (arg1 .0) i) (bv (arg2 .0) j)) (now (calls .entry)) c (now (calls .exit)) r) ⌝ }
+    ensures { λ r. ⌜ ((i j : ℕ) → MakesBool (buildCompare (compareOf op) (bv (arg1 .0) i) (bv (arg2 .0) j))
+        (now (calls .entry)) c (now (calls .exit)) r) ⌝ }
 {
     made(c, engine::build_compare(calls, c.words, op, arg1, arg2))
 }
@@ -129,7 +132,8 @@ pub fn build_compare(calls: &mut [u32], c: Counts, op: Compare, arg1: Term, arg2
 
 // The literal of a width, by its number.
 pub fn build_bitvec_lit(calls: &mut [u32], c: Counts, width: u32, value: u64) -> Built
-    ensures { λ r. ⌜ ((s : Bits) → nat2bv (min width 64) value ≡ s → MakesVector (buildBitvecLit s) (length s) (now (calls .entry)) c (now (calls .exit)) r) ⌝ }
+    ensures { λ r. ⌜ ((s : Bits) → nat2bv (min width 64) value ≡ s → MakesVector (buildBitvecLit s) (length s)
+        (now (calls .entry)) c (now (calls .exit)) r) ⌝ }
 {
     made(c, engine::build_bitvec_lit(calls, c.words, width, value))
 }
@@ -141,7 +145,8 @@ pub fn build_bitvec_ite(
     if_true: Term,
     if_false: Term,
 ) -> Built
-    ensures { λ r. ⌜ ((i j : ℕ) → MakesVector (buildBitvecIte (cond .0) (bv («if_true» .0) i) (bv («if_false» .0) j)) i (now (calls .entry)) c (now (calls .exit)) r) ⌝ }
+    ensures { λ r. ⌜ ((i j : ℕ) → MakesVector (buildBitvecIte (cond .0) (bv («if_true» .0) i) (bv («if_false» .0) j)) i
+        (now (calls .entry)) c (now (calls .exit)) r) ⌝ }
 {
     made(
         c,
@@ -150,7 +155,8 @@ pub fn build_bitvec_ite(
 }
 
 pub fn build_concat(calls: &mut [u32], c: Counts, arg_msb: Term, arg_lsb: Term) -> Built
-    ensures { λ r. ⌜ ((i j : ℕ) → MakesVector (buildConcat (bv («arg_msb» .0) i) (bv («arg_lsb» .0) j)) (i + j) (now (calls .entry)) c (now (calls .exit)) r) ⌝ }
+    ensures { λ r. ⌜ ((i j : ℕ) → MakesVector (buildConcat (bv («arg_msb» .0) i) (bv («arg_lsb» .0) j)) (i + j)
+        (now (calls .entry)) c (now (calls .exit)) r) ⌝ }
 {
     made(c, engine::build_concat(calls, c.words, arg_msb, arg_lsb))
 }
@@ -162,7 +168,9 @@ pub fn build_extract(
     index_lsb: u32,
     arg: Term,
 ) -> Built
-    ensures { λ r. ⌜ ((i : ℕ) → MakesVector (buildExtract «index_msb» «index_lsb» (bv (arg .0) i)) (suc «index_msb» - «index_lsb») (now (calls .entry)) c (now (calls .exit)) r) ⌝ }
+    ensures { λ r. ⌜ ((i : ℕ)
+        → MakesVector (buildExtract «index_msb» «index_lsb» (bv (arg .0) i)) (suc «index_msb» - «index_lsb»)
+        (now (calls .entry)) c (now (calls .exit)) r) ⌝ }
 {
     made(
         c,
@@ -171,13 +179,16 @@ pub fn build_extract(
 }
 
 pub fn build_bvnot(calls: &mut [u32], c: Counts, arg: Term) -> Built
-    ensures { λ r. ⌜ ((i : ℕ) → MakesVector (buildBvnot (bv (arg .0) i)) i (now (calls .entry)) c (now (calls .exit)) r) ⌝ }
+    ensures { λ r. ⌜ ((i : ℕ) → MakesVector (buildBvnot (bv (arg .0) i)) i (now (calls .entry)) c
+        (now (calls .exit)) r) ⌝ }
 {
     made(c, engine::build_bvnot(calls, c.words, arg))
 }
 
 pub fn build_binary(calls: &mut [u32], c: Counts, op: BinaryOp, arg1: Term, arg2: Term) -> Built
-    ensures { λ r. ⌜ ((i j : ℕ) → MakesVector (buildOp2 (binaryOf op) (bv (arg1 .0) i) (bv (arg2 .0) j)) (resultWidth (binaryOf op) i) (now (calls .entry)) c (now (calls .exit)) r) ⌝ }
+    ensures { λ r. ⌜ ((i j : ℕ)
+        → MakesVector (buildOp2 (binaryOf op) (bv (arg1 .0) i) (bv (arg2 .0) j)) (resultWidth (binaryOf op) i)
+        (now (calls .entry)) c (now (calls .exit)) r) ⌝ }
 {
     made(c, engine::build_binary(calls, c.words, op, arg1, arg2))
 }

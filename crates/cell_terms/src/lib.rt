@@ -37,7 +37,11 @@ pub fn cell(
     slot: Slot,
     width: u32,
 ) -> BuiltTrits
-    ensures { λ r. ⌜ (Bounded (cellIn (now (fields .entry)) op 0) → Shaped (cellIn (now (fields .entry)) op 0) → width ≤ 64 → slot .0 + width + 1 < 536870911 → RanCell (cell (pastIn (now (table .entry))) (slot .0) width (cellIn (now (fields .entry)) op 0)) (now (calls .entry)) (now (names .entry)) (now (marks .entry)) c (now (calls .exit)) (now (names .exit)) (now (marks .exit)) r) ⌝ }
+    ensures { λ r. ⌜ (Bounded (cellIn (now (fields .entry)) op 0) → Shaped (cellIn (now (fields .entry)) op 0)
+        → width ≤ 64 → slot .0 + width + 1 < 536870911
+        → RanCell (cell (pastIn (now (table .entry))) (slot .0) width (cellIn (now (fields .entry)) op 0))
+        (now (calls .entry)) (now (names .entry)) (now (marks .entry)) c
+        (now (calls .exit)) (now (names .exit)) (now (marks .exit)) r) ⌝ }
 {
     match op {
         Operation::Void => no_terms(c),

@@ -36,7 +36,9 @@ pub fn net_at(
     marks: &mut [u8],
     c: Counts,
 ) -> BuiltTrits
-    ensures { λ r. ⌜ RanTrits (model.net (pastIn (now (table .entry))) (netIn (now (fields .entry)) at)) 1 (now (calls .entry)) (now (names .entry)) (now (marks .entry)) c (now (calls .exit)) (now (names .exit)) (now (marks .exit)) r ⌝ }
+    ensures { λ r. ⌜ RanTrits (model.net (pastIn (now (table .entry))) (netIn (now (fields .entry)) at)) 1
+        (now (calls .entry)) (now (names .entry)) (now (marks .entry)) c
+        (now (calls .exit)) (now (names .exit)) (now (marks .exit)) r ⌝ }
 {
     let net = Net(number_at(fields, at));
     nets::net(table, calls, names, marks, c, net)
@@ -52,7 +54,9 @@ pub fn control_at(
     marks: &mut [u8],
     c: Counts,
 ) -> BuiltTrits
-    ensures { λ r. ⌜ RanTrits (controlNet (pastIn (now (table .entry))) (controlIn (now (fields .entry)) at)) 1 (now (calls .entry)) (now (names .entry)) (now (marks .entry)) c (now (calls .exit)) (now (names .exit)) (now (marks .exit)) r ⌝ }
+    ensures { λ r. ⌜ RanTrits (controlNet (pastIn (now (table .entry))) (controlIn (now (fields .entry)) at)) 1
+        (now (calls .entry)) (now (names .entry)) (now (marks .entry)) c
+        (now (calls .exit)) (now (names .exit)) (now (marks .exit)) r ⌝ }
 {
     let control = nets::control_of(logic::word_at(fields, at as usize));
     nets::control_net(table, calls, names, marks, c, control)
@@ -70,7 +74,10 @@ pub fn unary_cell(
     marks: &mut [u8],
     c: Counts,
 ) -> BuiltTrits
-    ensures { λ r. ⌜ ((slot width : ℕ) → numberIn (now (fields .entry)) 0 ≤ 63 → RanCell (cell (pastIn (now (table .entry))) slot width (cellIn (now (fields .entry)) (O.Unary operator) 0)) (now (calls .entry)) (now (names .entry)) (now (marks .entry)) c (now (calls .exit)) (now (names .exit)) (now (marks .exit)) r) ⌝ }
+    ensures { λ r. ⌜ ((slot width : ℕ) → numberIn (now (fields .entry)) 0 ≤ 63
+        → RanCell (cell (pastIn (now (table .entry))) slot width (cellIn (now (fields .entry)) (O.Unary operator) 0))
+        (now (calls .entry)) (now (names .entry)) (now (marks .entry)) c
+        (now (calls .exit)) (now (names .exit)) (now (marks .exit)) r) ⌝ }
 {
     let n = number_at(fields, 0);
     let a = values::value(fields, 1, n, table, calls, names, marks, c);
@@ -91,7 +98,10 @@ pub fn binary_cell(
     c: Counts,
     width: u32,
 ) -> BuiltTrits
-    ensures { λ r. ⌜ ((slot : ℕ) → numberIn (now (fields .entry)) 0 ≤ 63 → RanCell (cell (pastIn (now (table .entry))) slot width (cellIn (now (fields .entry)) (O.Binary operator) 0)) (now (calls .entry)) (now (names .entry)) (now (marks .entry)) c (now (calls .exit)) (now (names .exit)) (now (marks .exit)) r) ⌝ }
+    ensures { λ r. ⌜ ((slot : ℕ) → numberIn (now (fields .entry)) 0 ≤ 63
+        → RanCell (cell (pastIn (now (table .entry))) slot width (cellIn (now (fields .entry)) (O.Binary operator) 0))
+        (now (calls .entry)) (now (names .entry)) (now (marks .entry)) c
+        (now (calls .exit)) (now (names .exit)) (now (marks .exit)) r) ⌝ }
 {
     let n = number_at(fields, 0);
     let a = values::value(fields, 1, n, table, calls, names, marks, c);
@@ -108,7 +118,10 @@ pub fn aig_cell(
     marks: &mut [u8],
     c: Counts,
 ) -> BuiltTrits
-    ensures { λ r. ⌜ ((slot width : ℕ) → RanCell (cell (pastIn (now (table .entry))) slot width (cellIn (now (fields .entry)) O.Aig 0)) (now (calls .entry)) (now (names .entry)) (now (marks .entry)) c (now (calls .exit)) (now (names .exit)) (now (marks .exit)) r) ⌝ }
+    ensures { λ r. ⌜ ((slot width : ℕ)
+        → RanCell (cell (pastIn (now (table .entry))) slot width (cellIn (now (fields .entry)) O.Aig 0))
+        (now (calls .entry)) (now (names .entry)) (now (marks .entry)) c
+        (now (calls .exit)) (now (names .exit)) (now (marks .exit)) r) ⌝ }
 {
     let a = control_at(fields, 0, table, calls, names, marks, c);
     let b = control_at(fields, 1, table, calls, names, marks, a.counts);
@@ -125,7 +138,10 @@ pub fn io_buf_cell(
     slot: Slot,
     width: u32,
 ) -> BuiltTrits
-    ensures { λ r. ⌜ ((n : ℕ) → width ≤ 64 → slot .0 + width + 1 < 536870911 → RanCell (cell (pastIn (now (table .entry))) (slot .0) width (ioBuf n)) (now (calls .entry)) (now (names .entry)) (now (marks .entry)) c (now (calls .exit)) (now (names .exit)) (now (marks .exit)) r) ⌝ }
+    ensures { λ r. ⌜ ((n : ℕ) → width ≤ 64 → slot .0 + width + 1 < 536870911
+        → RanCell (cell (pastIn (now (table .entry))) (slot .0) width (ioBuf n))
+        (now (calls .entry)) (now (names .entry)) (now (marks .entry)) c
+        (now (calls .exit)) (now (names .exit)) (now (marks .exit)) r) ⌝ }
 {
     values::output_value(slot, width, Reading::Either, table, calls, names, marks, c)
 }

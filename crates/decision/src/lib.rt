@@ -33,7 +33,9 @@ fn matches(
 ) -> Counts
     ensures { λ r. ⌜ (2 * k ≤ length (now (terms .entry)) → at ≤ 66 → n ≤ 63 → k ≤ 63
         → Each (λ (alternates : List (List Trit)). length alternates ≤ 64) (patternsIn (now (fields .entry)) n k at)
-        → Ran (collect (matchOf (pastIn (now (table .entry))) (netsIn (now (fields .entry)) n 3)) (patternsIn (now (fields .entry)) n k at)) (now (calls .entry)) (now (names .entry)) (now (marks .entry)) c (now (calls .exit)) (now (names .exit)) (now (marks .exit)) r (elements (now (terms .exit)) k)) ⌝ }
+        → Ran (collect (matchOf (pastIn (now (table .entry))) (netsIn (now (fields .entry)) n 3)) (patternsIn (now (fields .entry)) n k at))
+        (now (calls .entry)) (now (names .entry)) (now (marks .entry)) c
+        (now (calls .exit)) (now (names .exit)) (now (marks .exit)) r (elements (now (terms .exit)) k)) ⌝ }
 {
     let mut counts = c;
     let mut place = at;
@@ -60,7 +62,10 @@ fn chosen(
     c: Counts,
     matches: TritVec,
 ) -> BuiltTrits
-    ensures { λ r. ⌜ (k ≤ 64 → (i : ℕ) → RanTrits (chosen (pastIn (now (table .entry))) (netIn (now (fields .entry)) 2) k (trits i matches)) k (now (calls .entry)) (now (names .entry)) (now (marks .entry)) c (now (calls .exit)) (now (names .exit)) (now (marks .exit)) r) ⌝ }
+    ensures { λ r. ⌜ (k ≤ 64 → (i : ℕ)
+        → RanTrits (chosen (pastIn (now (table .entry))) (netIn (now (fields .entry)) 2) k (trits i matches)) k
+        (now (calls .entry)) (now (names .entry)) (now (marks .entry)) c
+        (now (calls .exit)) (now (names .exit)) (now (marks .exit)) r) ⌝ }
 {
     let net = Net(logic::payload(logic::word_at(fields, 2)));
     let enable = nets::net(table, calls, names, marks, c, net);
@@ -85,7 +90,10 @@ pub fn match_cell(
     marks: &mut [u8],
     c: Counts,
 ) -> BuiltTrits
-    ensures { λ r. ⌜ (Bounded (cellIn (now (fields .entry)) O.Match 0) → (s w : ℕ) → RanCell (cell (pastIn (now (table .entry))) s w (cellIn (now (fields .entry)) O.Match 0)) (now (calls .entry)) (now (names .entry)) (now (marks .entry)) c (now (calls .exit)) (now (names .exit)) (now (marks .exit)) r) ⌝ }
+    ensures { λ r. ⌜ (Bounded (cellIn (now (fields .entry)) O.Match 0) → (s w : ℕ)
+        → RanCell (cell (pastIn (now (table .entry))) s w (cellIn (now (fields .entry)) O.Match 0))
+        (now (calls .entry)) (now (names .entry)) (now (marks .entry)) c
+        (now (calls .exit)) (now (names .exit)) (now (marks .exit)) r) ⌝ }
 {
     let n = logic::payload(logic::word_at(fields, 0));
     let k = logic::payload(logic::word_at(fields, 1));

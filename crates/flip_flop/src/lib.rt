@@ -15,7 +15,9 @@ ghost use Rattle.flip_flop.specs.Parts.{clocked};
 
 // `self.tv_lit(&flip_flop.clear_value)`
 fn clear_value(fields: &[u32], calls: &mut [u32], c: Counts) -> BuiltTrits
-    ensures { λ r. ⌜ (numberIn (now (fields .entry)) 0 ≤ 64 → MakesTrits (tvLit (flipFlopIn (now (fields .entry)) .clearValue)) (numberIn (now (fields .entry)) 0) (now (calls .entry)) c (now (calls .exit)) r) ⌝ }
+    ensures { λ r. ⌜ (numberIn (now (fields .entry)) 0 ≤ 64
+        → MakesTrits (tvLit (flipFlopIn (now (fields .entry)) .clearValue)) (numberIn (now (fields .entry)) 0)
+        (now (calls .entry)) c (now (calls .exit)) r) ⌝ }
 {
     let n = logic::payload(logic::word_at(fields, 0));
     let value = operands::constants(fields, 6 + n, n);
@@ -30,7 +32,9 @@ fn cleared(
     width: u32,
     clear: TritVec,
 ) -> BuiltTrits
-    ensures { λ r. ⌜ (numberIn (now (fields .entry)) 0 ≤ 64 → (readsPast : ℕ → Bool) → MakesTrits (cleared readsPast (hasClear (flipFlopIn (now (fields .entry)))) (flipFlopIn (now (fields .entry))) width (trits 1 clear) (trits width («data» .value))) width (now (calls .entry)) («data» .counts) (now (calls .exit)) r) ⌝ }
+    ensures { λ r. ⌜ (numberIn (now (fields .entry)) 0 ≤ 64 → (readsPast : ℕ → Bool)
+        → MakesTrits (cleared readsPast (hasClear (flipFlopIn (now (fields .entry)))) (flipFlopIn (now (fields .entry))) width (trits 1 clear) (trits width («data» .value))) width
+        (now (calls .entry)) («data» .counts) (now (calls .exit)) r) ⌝ }
 {
     let control = nets::control_of(logic::word_at(fields, 3));
     if nets::has_clear(control) {
@@ -53,7 +57,10 @@ fn clocked(
     clear: TritVec,
     data: TritVec,
 ) -> BuiltTrits
-    ensures { λ r. ⌜ (numberIn (now (fields .entry)) 0 ≤ 64 → width ≤ 64 → slot .0 + width + 1 < 536870911 → (i : ℕ) → RanTrits (clocked (pastIn (now (table .entry))) (flipFlopIn (now (fields .entry))) (slot .0) width (trits 1 clear) (trits i «data»)) width (now (calls .entry)) (now (names .entry)) (now (marks .entry)) c (now (calls .exit)) (now (names .exit)) (now (marks .exit)) r) ⌝ }
+    ensures { λ r. ⌜ (numberIn (now (fields .entry)) 0 ≤ 64 → width ≤ 64 → slot .0 + width + 1 < 536870911 → (i : ℕ)
+        → RanTrits (clocked (pastIn (now (table .entry))) (flipFlopIn (now (fields .entry))) (slot .0) width (trits 1 clear) (trits i «data»)) width
+        (now (calls .entry)) (now (names .entry)) (now (marks .entry)) c
+        (now (calls .exit)) (now (names .exit)) (now (marks .exit)) r) ⌝ }
 {
     let clock = nets::control_of(logic::word_at(fields, 2));
     let active_edge = nets::clock_net(calls, names, marks, c, clock);
@@ -73,7 +80,10 @@ pub fn dff_cell(
     slot: Slot,
     width: u32,
 ) -> BuiltTrits
-    ensures { λ r. ⌜ (numberIn (now (fields .entry)) 0 ≤ 64 → width ≤ 64 → slot .0 + width + 1 < 536870911 → RanCell (cell (pastIn (now (table .entry))) (slot .0) width (cellIn (now (fields .entry)) O.Dff 0)) (now (calls .entry)) (now (names .entry)) (now (marks .entry)) c (now (calls .exit)) (now (names .exit)) (now (marks .exit)) r) ⌝ }
+    ensures { λ r. ⌜ (numberIn (now (fields .entry)) 0 ≤ 64 → width ≤ 64 → slot .0 + width + 1 < 536870911
+        → RanCell (cell (pastIn (now (table .entry))) (slot .0) width (cellIn (now (fields .entry)) O.Dff 0))
+        (now (calls .entry)) (now (names .entry)) (now (marks .entry)) c
+        (now (calls .exit)) (now (names .exit)) (now (marks .exit)) r) ⌝ }
 {
     let n = logic::payload(logic::word_at(fields, 0));
     let data = values::value(fields, 6, n, table, calls, names, marks, c);

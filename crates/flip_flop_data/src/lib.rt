@@ -15,7 +15,9 @@ ghost use Rattle.flip_flop_data.specs.Fields.{flipFlopIn};
 
 // `self.tv_lit(&flip_flop.reset_value)`
 fn reset_value(fields: &[u32], calls: &mut [u32], c: Counts) -> BuiltTrits
-    ensures { λ r. ⌜ (numberIn (now (fields .entry)) 0 ≤ 64 → MakesTrits (tvLit (flipFlopIn (now (fields .entry)) .resetValue)) (numberIn (now (fields .entry)) 0) (now (calls .entry)) c (now (calls .exit)) r) ⌝ }
+    ensures { λ r. ⌜ (numberIn (now (fields .entry)) 0 ≤ 64
+        → MakesTrits (tvLit (flipFlopIn (now (fields .entry)) .resetValue)) (numberIn (now (fields .entry)) 0)
+        (now (calls .entry)) c (now (calls .exit)) r) ⌝ }
 {
     let n = logic::payload(logic::word_at(fields, 0));
     let value = operands::constants(fields, 6 + n + n, n);
@@ -34,7 +36,10 @@ fn enabled(
     enable: TritVec,
     data: TritVec,
 ) -> BuiltTrits
-    ensures { λ r. ⌜ (width ≤ 64 → slot .0 + width + 1 < 536870911 → (fields : List ℕ) (i : ℕ) → RanTrits (enabled (pastIn (now (table .entry))) (flipFlopIn fields) (slot .0) width (trits 1 enable) (trits i «data»)) width (now (calls .entry)) (now (names .entry)) (now (marks .entry)) c (now (calls .exit)) (now (names .exit)) (now (marks .exit)) r) ⌝ }
+    ensures { λ r. ⌜ (width ≤ 64 → slot .0 + width + 1 < 536870911 → (fields : List ℕ) (i : ℕ)
+        → RanTrits (enabled (pastIn (now (table .entry))) (flipFlopIn fields) (slot .0) width (trits 1 enable) (trits i «data»)) width
+        (now (calls .entry)) (now (names .entry)) (now (marks .entry)) c
+        (now (calls .exit)) (now (names .exit)) (now (marks .exit)) r) ⌝ }
 {
     let old = values::past_value(slot, width, table, calls, names, marks, c);
     trits::tv_mux(calls, old.counts, enable, data, old.value, width)
@@ -49,7 +54,9 @@ fn reset_to(
     reset: TritVec,
     data: TritVec,
 ) -> BuiltTrits
-    ensures { λ r. ⌜ (numberIn (now (fields .entry)) 0 ≤ 64 → (readsPast : ℕ → Bool) (i : ℕ) → MakesTrits (resetTo readsPast (flipFlopIn (now (fields .entry))) width (trits 1 reset) (trits i «data»)) width (now (calls .entry)) c (now (calls .exit)) r) ⌝ }
+    ensures { λ r. ⌜ (numberIn (now (fields .entry)) 0 ≤ 64 → (readsPast : ℕ → Bool) (i : ℕ)
+        → MakesTrits (resetTo readsPast (flipFlopIn (now (fields .entry))) width (trits 1 reset) (trits i «data»)) width
+        (now (calls .entry)) c (now (calls .exit)) r) ⌝ }
 {
     let to = reset_value(fields, calls, c);
     trits::tv_mux(calls, to.counts, reset, to.value, data, width)
@@ -69,7 +76,10 @@ fn reset_over_enable(
     enable: TritVec,
     data: TritVec,
 ) -> BuiltTrits
-    ensures { λ r. ⌜ (numberIn (now (fields .entry)) 0 ≤ 64 → width ≤ 64 → slot .0 + width + 1 < 536870911 → (i : ℕ) → RanTrits (loaded (pastIn (now (table .entry))) true (flipFlopIn (now (fields .entry))) (slot .0) width (trits 1 reset) (trits 1 enable) (trits i «data»)) width (now (calls .entry)) (now (names .entry)) (now (marks .entry)) c (now (calls .exit)) (now (names .exit)) (now (marks .exit)) r) ⌝ }
+    ensures { λ r. ⌜ (numberIn (now (fields .entry)) 0 ≤ 64 → width ≤ 64 → slot .0 + width + 1 < 536870911 → (i : ℕ)
+        → RanTrits (loaded (pastIn (now (table .entry))) true (flipFlopIn (now (fields .entry))) (slot .0) width (trits 1 reset) (trits 1 enable) (trits i «data»)) width
+        (now (calls .entry)) (now (names .entry)) (now (marks .entry)) c
+        (now (calls .exit)) (now (names .exit)) (now (marks .exit)) r) ⌝ }
 {
     let data = enabled(table, calls, names, marks, c, slot, width, enable, data);
     reset_to(fields, calls, data.counts, width, reset, data.value)
@@ -89,7 +99,10 @@ fn enable_over_reset(
     enable: TritVec,
     data: TritVec,
 ) -> BuiltTrits
-    ensures { λ r. ⌜ (numberIn (now (fields .entry)) 0 ≤ 64 → width ≤ 64 → slot .0 + width + 1 < 536870911 → (i : ℕ) → RanTrits (loaded (pastIn (now (table .entry))) false (flipFlopIn (now (fields .entry))) (slot .0) width (trits 1 reset) (trits 1 enable) (trits i «data»)) width (now (calls .entry)) (now (names .entry)) (now (marks .entry)) c (now (calls .exit)) (now (names .exit)) (now (marks .exit)) r) ⌝ }
+    ensures { λ r. ⌜ (numberIn (now (fields .entry)) 0 ≤ 64 → width ≤ 64 → slot .0 + width + 1 < 536870911 → (i : ℕ)
+        → RanTrits (loaded (pastIn (now (table .entry))) false (flipFlopIn (now (fields .entry))) (slot .0) width (trits 1 reset) (trits 1 enable) (trits i «data»)) width
+        (now (calls .entry)) (now (names .entry)) (now (marks .entry)) c
+        (now (calls .exit)) (now (names .exit)) (now (marks .exit)) r) ⌝ }
 {
     let data = reset_to(fields, calls, c, width, reset, data);
     enabled(
@@ -119,7 +132,10 @@ pub fn loaded(
     enable: TritVec,
     data: TritVec,
 ) -> BuiltTrits
-    ensures { λ r. ⌜ (numberIn (now (fields .entry)) 0 ≤ 64 → width ≤ 64 → slot .0 + width + 1 < 536870911 → (i : ℕ) → RanTrits (loaded (pastIn (now (table .entry))) (flipFlopIn (now (fields .entry)) .resetOverEnable) (flipFlopIn (now (fields .entry))) (slot .0) width (trits 1 reset) (trits 1 enable) (trits i «data»)) width (now (calls .entry)) (now (names .entry)) (now (marks .entry)) c (now (calls .exit)) (now (names .exit)) (now (marks .exit)) r) ⌝ }
+    ensures { λ r. ⌜ (numberIn (now (fields .entry)) 0 ≤ 64 → width ≤ 64 → slot .0 + width + 1 < 536870911 → (i : ℕ)
+        → RanTrits (loaded (pastIn (now (table .entry))) (flipFlopIn (now (fields .entry)) .resetOverEnable) (flipFlopIn (now (fields .entry))) (slot .0) width (trits 1 reset) (trits 1 enable) (trits i «data»)) width
+        (now (calls .entry)) (now (names .entry)) (now (marks .entry)) c
+        (now (calls .exit)) (now (names .exit)) (now (marks .exit)) r) ⌝ }
 {
     if logic::payload(logic::word_at(fields, 1)) == 1 {
         return reset_over_enable(

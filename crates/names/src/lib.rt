@@ -97,7 +97,8 @@ fn declare_new(
     half: Half,
     at: usize,
 ) -> Built
-    ensures { λ r. ⌜ Declared (ageOf age) (slot .0) (halfOf half) (now (calls .entry)) (now (names .entry)) c at (now (calls .exit)) (now (names .exit)) r ⌝ }
+    ensures { λ r. ⌜ Declared (ageOf age) (slot .0) (halfOf half) (now (calls .entry)) (now (names .entry)) c at
+        (now (calls .exit)) (now (names .exit)) r ⌝ }
 {
     let letter = letter_of(age);
     let suffix = suffix_of(half);
@@ -117,7 +118,9 @@ pub fn bv_const(
     slot: Slot,
     half: Half,
 ) -> Built
-    ensures { λ r. ⌜ Ran (bvConst (ageOf age) (slot .0) (halfOf half)) (now (calls .entry)) (now (names .entry)) (now (marks .entry)) c (now (calls .exit)) (now (names .exit)) (now (marks .exit)) (r .counts) (bv (r .term .0) 1) ⌝ }
+    ensures { λ r. ⌜ Ran (bvConst (ageOf age) (slot .0) (halfOf half))
+        (now (calls .entry)) (now (names .entry)) (now (marks .entry)) c
+        (now (calls .exit)) (now (names .exit)) (now (marks .exit)) (r .counts) (bv (r .term .0) 1) ⌝ }
 {
     put_mark(marks, slot, mark_of(age));
     let at = place_of(age, slot, half);
@@ -139,7 +142,9 @@ pub fn tv_const(
     age: Age,
     slot: Slot,
 ) -> BuiltTrits
-    ensures { λ r. ⌜ RanTrits (tvConst (ageOf age) (slot .0)) 1 (now (calls .entry)) (now (names .entry)) (now (marks .entry)) c (now (calls .exit)) (now (names .exit)) (now (marks .exit)) r ⌝ }
+    ensures { λ r. ⌜ RanTrits (tvConst (ageOf age) (slot .0)) 1
+        (now (calls .entry)) (now (names .entry)) (now (marks .entry)) c
+        (now (calls .exit)) (now (names .exit)) (now (marks .exit)) r ⌝ }
 {
     let x = bv_const(calls, names, marks, c, age, slot, Half::IsUndef);
     let y = bv_const(calls, names, marks, x.counts, age, slot, Half::IsOne);

@@ -50,8 +50,10 @@ fn replace_net(
     from_net: Net,
     to_net: Net,
 ) -> Walked
-    ensures { λ r. ⌜ («from_net» .0 < 2 ^ 29 → «to_net» .0 < 2 ^ 29 → Does (obliged (replaceNet (pastIn (now (table .entry))) (netOf («from_net» .0)) (netOf («to_net» .0))) ∷ [])
-        (now (calls .entry)) (now (names .entry)) (now (marks .entry)) (now (eqs .entry)) s (now (calls .exit)) (now (names .exit)) (now (marks .exit)) (now (eqs .exit)) r) ⌝ }
+    ensures { λ r. ⌜ («from_net» .0 < 2 ^ 29 → «to_net» .0 < 2 ^ 29
+        → Does (obliged (replaceNet (pastIn (now (table .entry))) (netOf («from_net» .0)) (netOf («to_net» .0))) ∷ [])
+        (now (calls .entry)) (now (names .entry)) (now (marks .entry)) (now (eqs .entry)) s
+        (now (calls .exit)) (now (names .exit)) (now (marks .exit)) (now (eqs .exit)) r) ⌝ }
 {
     let eq = steps::replace_net(table, calls, names, marks, s.counts, from_net, to_net);
     push(eqs, s.obligations, eq)
@@ -66,8 +68,10 @@ fn replace_void_net(
     from_net: Net,
     to_net: Net,
 ) -> Walked
-    ensures { λ r. ⌜ ((eqs : List ℕ) → «from_net» .0 < 2 ^ 29 → «to_net» .0 < 2 ^ 29 → Does (asserted (replaceVoidNet (pastIn (now (table .entry))) (netOf («from_net» .0)) (netOf («to_net» .0))) ∷ [])
-        (now (calls .entry)) (now (names .entry)) (now (marks .entry)) eqs s (now (calls .exit)) (now (names .exit)) (now (marks .exit)) eqs r) ⌝ }
+    ensures { λ r. ⌜ ((eqs : List ℕ) → «from_net» .0 < 2 ^ 29 → «to_net» .0 < 2 ^ 29
+        → Does (asserted (replaceVoidNet (pastIn (now (table .entry))) (netOf («from_net» .0)) (netOf («to_net» .0))) ∷ [])
+        (now (calls .entry)) (now (names .entry)) (now (marks .entry)) eqs s
+        (now (calls .exit)) (now (names .exit)) (now (marks .exit)) eqs r) ⌝ }
 {
     let counts = steps::replace_void_net(table, calls, names, marks, s.counts, from_net, to_net);
     Walked {
@@ -85,8 +89,10 @@ fn replace_dff_net(
     from_net: Net,
     to_net: Net,
 ) -> Walked
-    ensures { λ r. ⌜ («from_net» .0 < 2 ^ 29 → «to_net» .0 < 2 ^ 29 → Does (replaceDffNet (netOf («from_net» .0)) (netOf («to_net» .0)))
-        (now (calls .entry)) (now (names .entry)) (now (marks .entry)) (now (eqs .entry)) s (now (calls .exit)) (now (names .exit)) (now (marks .exit)) (now (eqs .exit)) r) ⌝ }
+    ensures { λ r. ⌜ («from_net» .0 < 2 ^ 29 → «to_net» .0 < 2 ^ 29
+        → Does (replaceDffNet (netOf («from_net» .0)) (netOf («to_net» .0)))
+        (now (calls .entry)) (now (names .entry)) (now (marks .entry)) (now (eqs .entry)) s
+        (now (calls .exit)) (now (names .exit)) (now (marks .exit)) (now (eqs .exit)) r) ⌝ }
 {
     let eq = steps::replace_dff_net(calls, names, marks, s.counts, from_net, to_net);
     push(eqs, s.obligations, eq)
@@ -105,7 +111,8 @@ fn replace_pair(
 ) -> Walked
     ensures { λ r. ⌜ («from_net» .0 < 2 ^ 29 → «to_net» .0 < 2 ^ 29
         → Does (pairSteps (pastIn (now (table .entry))) (pairIn (now (table .entry)) («from_net» .0) («to_net» .0)) (record { from = netOf («from_net» .0); to = netOf («to_net» .0) }))
-        (now (calls .entry)) (now (names .entry)) (now (marks .entry)) (now (eqs .entry)) s (now (calls .exit)) (now (names .exit)) (now (marks .exit)) (now (eqs .exit)) r) ⌝ }
+        (now (calls .entry)) (now (names .entry)) (now (marks .entry)) (now (eqs .entry)) s
+        (now (calls .exit)) (now (names .exit)) (now (marks .exit)) (now (eqs .exit)) r) ⌝ }
 {
     match slots::pair_of(table, from_net, to_net) {
         Pair::Equal => s,
@@ -136,8 +143,10 @@ pub fn replace_pairs(
     eqs: &mut [u32],
     start: Walked,
 ) -> Walked
-    ensures { λ r. ⌜ ((d : Design) (replacements : ℕ) → read (now (list .entry)) ≡ accepted d replacements pairs → Tells d (now (table .entry)) → Does (eachPair d (d .netReps))
-        (now (calls .entry)) (now (names .entry)) (now (marks .entry)) (now (eqs .entry)) start (now (calls .exit)) (now (names .exit)) (now (marks .exit)) (now (eqs .exit)) r) ⌝ }
+    ensures { λ r. ⌜ ((d : Design) (replacements : ℕ) → read (now (list .entry)) ≡ accepted d replacements pairs
+        → Tells d (now (table .entry)) → Does (eachPair d (d .netReps))
+        (now (calls .entry)) (now (names .entry)) (now (marks .entry)) (now (eqs .entry)) start
+        (now (calls .exit)) (now (names .exit)) (now (marks .exit)) (now (eqs .exit)) r) ⌝ }
 {
     let mut s = start;
     let mut at = pairs;

@@ -48,7 +48,9 @@ fn net_of(
     age: Age,
     net: Net,
 ) -> BuiltTrits
-    ensures { λ r. ⌜ (net .0 < 2 ^ 29 → RanTrits (model.netOf (ageOf age) (netOf (net .0))) 1 (now (calls .entry)) (now (names .entry)) (now (marks .entry)) c (now (calls .exit)) (now (names .exit)) (now (marks .exit)) r) ⌝ }
+    ensures { λ r. ⌜ (net .0 < 2 ^ 29 → RanTrits (model.netOf (ageOf age) (netOf (net .0))) 1
+        (now (calls .entry)) (now (names .entry)) (now (marks .entry)) c
+        (now (calls .exit)) (now (names .exit)) (now (marks .exit)) r) ⌝ }
 {
     match logic::driver_of(net) {
         Driver::Constant(trit) => trit_lit(calls, c, trit),
@@ -64,7 +66,9 @@ pub fn curr_net(
     c: Counts,
     net: Net,
 ) -> BuiltTrits
-    ensures { λ r. ⌜ (net .0 < 2 ^ 29 → RanTrits (currNet (netOf (net .0))) 1 (now (calls .entry)) (now (names .entry)) (now (marks .entry)) c (now (calls .exit)) (now (names .exit)) (now (marks .exit)) r) ⌝ }
+    ensures { λ r. ⌜ (net .0 < 2 ^ 29 → RanTrits (currNet (netOf (net .0))) 1
+        (now (calls .entry)) (now (names .entry)) (now (marks .entry)) c
+        (now (calls .exit)) (now (names .exit)) (now (marks .exit)) r) ⌝ }
 {
     net_of(calls, names, marks, c, Age::Curr, net)
 }
@@ -76,7 +80,9 @@ pub fn past_net(
     c: Counts,
     net: Net,
 ) -> BuiltTrits
-    ensures { λ r. ⌜ (net .0 < 2 ^ 29 → RanTrits (pastNet (netOf (net .0))) 1 (now (calls .entry)) (now (names .entry)) (now (marks .entry)) c (now (calls .exit)) (now (names .exit)) (now (marks .exit)) r) ⌝ }
+    ensures { λ r. ⌜ (net .0 < 2 ^ 29 → RanTrits (pastNet (netOf (net .0))) 1
+        (now (calls .entry)) (now (names .entry)) (now (marks .entry)) c
+        (now (calls .exit)) (now (names .exit)) (now (marks .exit)) r) ⌝ }
 {
     net_of(calls, names, marks, c, Age::Past, net)
 }
@@ -105,7 +111,9 @@ pub fn net(
     c: Counts,
     net: Net,
 ) -> BuiltTrits
-    ensures { λ r. ⌜ (net .0 < 2 ^ 29 → RanTrits (model.net (pastIn (now (table .entry))) (netOf (net .0))) 1 (now (calls .entry)) (now (names .entry)) (now (marks .entry)) c (now (calls .exit)) (now (names .exit)) (now (marks .exit)) r) ⌝ }
+    ensures { λ r. ⌜ (net .0 < 2 ^ 29 → RanTrits (model.net (pastIn (now (table .entry))) (netOf (net .0))) 1
+        (now (calls .entry)) (now (names .entry)) (now (marks .entry)) c
+        (now (calls .exit)) (now (names .exit)) (now (marks .exit)) r) ⌝ }
 {
     net_of(calls, names, marks, c, age_in(table, net), net)
 }
@@ -131,7 +139,9 @@ pub fn read_net(
     c: Counts,
     net: Net,
 ) -> BuiltTrits
-    ensures { λ r. ⌜ (net .0 < 2 ^ 29 → RanTrits (reader reading (now (table .entry)) (netOf (net .0))) 1 (now (calls .entry)) (now (names .entry)) (now (marks .entry)) c (now (calls .exit)) (now (names .exit)) (now (marks .exit)) r) ⌝ }
+    ensures { λ r. ⌜ (net .0 < 2 ^ 29 → RanTrits (reader reading (now (table .entry)) (netOf (net .0))) 1
+        (now (calls .entry)) (now (names .entry)) (now (marks .entry)) c
+        (now (calls .exit)) (now (names .exit)) (now (marks .exit)) r) ⌝ }
 {
     net_of(calls, names, marks, c, age_by(reading, table, net), net)
 }
@@ -155,7 +165,8 @@ fn active(control: ControlNet) -> u64
 }
 
 pub fn invert_net(calls: &mut [u32], c: Counts, control: ControlNet, net: TritVec) -> BuiltTrits
-    ensures { λ r. ⌜ MakesTrits (invertNet (controlOf control) (trits 1 net)) 1 (now (calls .entry)) c (now (calls .exit)) r ⌝ }
+    ensures { λ r. ⌜ MakesTrits (invertNet (controlOf control) (trits 1 net)) 1 (now (calls .entry)) c
+        (now (calls .exit)) r ⌝ }
 {
     let active = builder::build_bitvec_lit(calls, c, 1, active(control));
     let y = builder::build_binary(calls, active.counts, BinaryOp::Comp, net.y, active.term);
@@ -170,7 +181,10 @@ pub fn control_net(
     c: Counts,
     control: ControlNet,
 ) -> BuiltTrits
-    ensures { λ r. ⌜ (control .net .0 < 2 ^ 29 → RanTrits (controlNet (pastIn (now (table .entry))) (controlOf control)) 1 (now (calls .entry)) (now (names .entry)) (now (marks .entry)) c (now (calls .exit)) (now (names .exit)) (now (marks .exit)) r) ⌝ }
+    ensures { λ r. ⌜ (control .net .0 < 2 ^ 29
+        → RanTrits (controlNet (pastIn (now (table .entry))) (controlOf control)) 1
+        (now (calls .entry)) (now (names .entry)) (now (marks .entry)) c
+        (now (calls .exit)) (now (names .exit)) (now (marks .exit)) r) ⌝ }
 {
     let a = net(table, calls, names, marks, c, control.net);
     invert_net(calls, a.counts, control, a.value)
@@ -183,7 +197,9 @@ pub fn clock_net(
     c: Counts,
     control: ControlNet,
 ) -> BuiltTrits
-    ensures { λ r. ⌜ (control .net .0 < 2 ^ 29 → RanTrits (clockNet (controlOf control)) 1 (now (calls .entry)) (now (names .entry)) (now (marks .entry)) c (now (calls .exit)) (now (names .exit)) (now (marks .exit)) r) ⌝ }
+    ensures { λ r. ⌜ (control .net .0 < 2 ^ 29 → RanTrits (clockNet (controlOf control)) 1
+        (now (calls .entry)) (now (names .entry)) (now (marks .entry)) c
+        (now (calls .exit)) (now (names .exit)) (now (marks .exit)) r) ⌝ }
 {
     let now = curr_net(calls, names, marks, c, control.net);
     let now = invert_net(calls, now.counts, control, now.value);

@@ -114,7 +114,10 @@ fn shifted(
     marks: &mut [u8],
     c: Counts,
 ) -> BuiltTrits
-    ensures { λ r. ⌜ (numberIn (now (fields .entry)) 0 ≤ 63 → numberIn (now (fields .entry)) 1 ≤ 32 → RanTrits (shiftedBy (pastIn (now (table .entry))) (now (fields .entry)) (valueIn (now (fields .entry))) signed (binaryOf op) (binaryOf op)) (suc (numberIn (now (fields .entry)) 0 - 1)) (now (calls .entry)) (now (names .entry)) (now (marks .entry)) c (now (calls .exit)) (now (names .exit)) (now (marks .exit)) r) ⌝ }
+    ensures { λ r. ⌜ (numberIn (now (fields .entry)) 0 ≤ 63 → numberIn (now (fields .entry)) 1 ≤ 32
+        → RanTrits (shiftedBy (pastIn (now (table .entry))) (now (fields .entry)) (valueIn (now (fields .entry))) signed (binaryOf op) (binaryOf op)) (suc (numberIn (now (fields .entry)) 0 - 1))
+        (now (calls .entry)) (now (names .entry)) (now (marks .entry)) c
+        (now (calls .exit)) (now (names .exit)) (now (marks .exit)) r) ⌝ }
 {
     let n = cells::number_at(fields, 0);
     let p = prepare_shift(fields, 3, n, signed, fields, table, calls, names, marks, c);
@@ -130,7 +133,10 @@ fn shifted_undef(
     marks: &mut [u8],
     c: Counts,
 ) -> BuiltTrits
-    ensures { λ r. ⌜ (numberIn (now (fields .entry)) 0 ≤ 63 → numberIn (now (fields .entry)) 1 ≤ 32 → RanTrits (shiftedBy (pastIn (now (table .entry))) (now (fields .entry)) (valueIn (now (fields .entry)) ++ (constant t.Undef ∷ [])) true k.bvashr k.bvlshr) (suc (numberIn (now (fields .entry)) 0 - 1)) (now (calls .entry)) (now (names .entry)) (now (marks .entry)) c (now (calls .exit)) (now (names .exit)) (now (marks .exit)) r) ⌝ }
+    ensures { λ r. ⌜ (numberIn (now (fields .entry)) 0 ≤ 63 → numberIn (now (fields .entry)) 1 ≤ 32
+        → RanTrits (shiftedBy (pastIn (now (table .entry))) (now (fields .entry)) (valueIn (now (fields .entry)) ++ (constant t.Undef ∷ [])) true k.bvashr k.bvlshr) (suc (numberIn (now (fields .entry)) 0 - 1))
+        (now (calls .entry)) (now (names .entry)) (now (marks .entry)) c
+        (now (calls .exit)) (now (names .exit)) (now (marks .exit)) r) ⌝ }
 {
     let n = cells::number_at(fields, 0);
     let mut value = [0u32; 64];
@@ -167,7 +173,10 @@ pub fn shift_cell(
     marks: &mut [u8],
     c: Counts,
 ) -> BuiltTrits
-    ensures { λ r. ⌜ ((slot width : ℕ) → numberIn (now (fields .entry)) 0 ≤ 63 → numberIn (now (fields .entry)) 1 ≤ 32 → RanCell (cell (pastIn (now (table .entry))) slot width (cellIn (now (fields .entry)) (O.Shift operator) 0)) (now (calls .entry)) (now (names .entry)) (now (marks .entry)) c (now (calls .exit)) (now (names .exit)) (now (marks .exit)) r) ⌝ }
+    ensures { λ r. ⌜ ((slot width : ℕ) → numberIn (now (fields .entry)) 0 ≤ 63 → numberIn (now (fields .entry)) 1 ≤ 32
+        → RanCell (cell (pastIn (now (table .entry))) slot width (cellIn (now (fields .entry)) (O.Shift operator) 0))
+        (now (calls .entry)) (now (names .entry)) (now (marks .entry)) c
+        (now (calls .exit)) (now (names .exit)) (now (marks .exit)) r) ⌝ }
 {
     match operator {
         Shift::Shl => shifted(fields, false, BinaryOp::Shl, table, calls, names, marks, c),

@@ -42,9 +42,11 @@ fn claim(
     slot: Slot,
     width: u32,
 ) -> Built
-    ensures { λ r. ⌜ (Bounded (cellIn (now (fields .entry)) op 0) → Shaped (cellIn (now (fields .entry)) op 0) → width ≤ 64 → slot .0 + width + 1 < 536870911
+    ensures { λ r. ⌜ (Bounded (cellIn (now (fields .entry)) op 0) → Shaped (cellIn (now (fields .entry)) op 0)
+        → width ≤ 64 → slot .0 + width + 1 < 536870911
         → Ran (claim (pastIn (now (table .entry))) (slot .0) width (cellIn (now (fields .entry)) op 0))
-        (now (calls .entry)) (now (names .entry)) (now (marks .entry)) c (now (calls .exit)) (now (names .exit)) (now (marks .exit)) (r .counts) (r .term .0)) ⌝ }
+        (now (calls .entry)) (now (names .entry)) (now (marks .entry)) c
+        (now (calls .exit)) (now (names .exit)) (now (marks .exit)) (r .counts) (r .term .0)) ⌝ }
 {
     let terms = cell_terms::cell(op, fields, table, calls, names, marks, c, slot, width);
     let output = values::curr_value(slot, width, table, calls, names, marks, terms.counts);
@@ -84,9 +86,11 @@ pub fn add_cell(
     slot: Slot,
     width: u32,
 ) -> Counts
-    ensures { λ r. ⌜ (Bounded (cellIn (now (fields .entry)) op 0) → Shaped (cellIn (now (fields .entry)) op 0) → width ≤ 64 → slot .0 + width + 1 < 536870911
+    ensures { λ r. ⌜ (Bounded (cellIn (now (fields .entry)) op 0) → Shaped (cellIn (now (fields .entry)) op 0)
+        → width ≤ 64 → slot .0 + width + 1 < 536870911
         → Did (addCell (pastIn (now (table .entry))) (slot .0) width (cellIn (now (fields .entry)) op 0) ∷ [])
-        (now (calls .entry)) (now (names .entry)) (now (marks .entry)) c (now (calls .exit)) (now (names .exit)) (now (marks .exit)) r []) ⌝ }
+        (now (calls .entry)) (now (names .entry)) (now (marks .entry)) c
+        (now (calls .exit)) (now (names .exit)) (now (marks .exit)) r []) ⌝ }
 {
     if is_input(op) {
         let output = values::curr_value(slot, width, table, calls, names, marks, c);
@@ -108,9 +112,11 @@ pub fn new_cell(
     slot: Slot,
     width: u32,
 ) -> Built
-    ensures { λ r. ⌜ (Bounded (cellIn (now (fields .entry)) op 0) → Shaped (cellIn (now (fields .entry)) op 0) → width ≤ 64 → slot .0 + width + 1 < 536870911
+    ensures { λ r. ⌜ (Bounded (cellIn (now (fields .entry)) op 0) → Shaped (cellIn (now (fields .entry)) op 0)
+        → width ≤ 64 → slot .0 + width + 1 < 536870911
         → Did (obliged (newCell (pastIn (now (table .entry))) (slot .0) width (cellIn (now (fields .entry)) op 0)) ∷ [])
-        (now (calls .entry)) (now (names .entry)) (now (marks .entry)) c (now (calls .exit)) (now (names .exit)) (now (marks .exit)) (r .counts) (r .term .0 ∷ [])) ⌝ }
+        (now (calls .entry)) (now (names .entry)) (now (marks .entry)) c
+        (now (calls .exit)) (now (names .exit)) (now (marks .exit)) (r .counts) (r .term .0 ∷ [])) ⌝ }
 {
     let terms = cell_terms::cell(op, fields, table, calls, names, marks, c, slot, width);
     let output = values::curr_value(slot, width, table, calls, names, marks, terms.counts);
@@ -129,8 +135,10 @@ pub fn replace_net(
     from_net: Net,
     to_net: Net,
 ) -> Built
-    ensures { λ r. ⌜ («from_net» .0 < 2 ^ 29 → «to_net» .0 < 2 ^ 29 → Did (obliged (replaceNet (pastIn (now (table .entry))) (netOf («from_net» .0)) (netOf («to_net» .0))) ∷ [])
-        (now (calls .entry)) (now (names .entry)) (now (marks .entry)) c (now (calls .exit)) (now (names .exit)) (now (marks .exit)) (r .counts) (r .term .0 ∷ [])) ⌝ }
+    ensures { λ r. ⌜ («from_net» .0 < 2 ^ 29 → «to_net» .0 < 2 ^ 29
+        → Did (obliged (replaceNet (pastIn (now (table .entry))) (netOf («from_net» .0)) (netOf («to_net» .0))) ∷ [])
+        (now (calls .entry)) (now (names .entry)) (now (marks .entry)) c
+        (now (calls .exit)) (now (names .exit)) (now (marks .exit)) (r .counts) (r .term .0 ∷ [])) ⌝ }
 {
     let from = nets::curr_net(calls, names, marks, c, from_net);
     let to = nets::net(table, calls, names, marks, from.counts, to_net);
@@ -147,8 +155,10 @@ pub fn replace_void_net(
     from_net: Net,
     to_net: Net,
 ) -> Counts
-    ensures { λ r. ⌜ («from_net» .0 < 2 ^ 29 → «to_net» .0 < 2 ^ 29 → Did (asserted (replaceVoidNet (pastIn (now (table .entry))) (netOf («from_net» .0)) (netOf («to_net» .0))) ∷ [])
-        (now (calls .entry)) (now (names .entry)) (now (marks .entry)) c (now (calls .exit)) (now (names .exit)) (now (marks .exit)) r []) ⌝ }
+    ensures { λ r. ⌜ («from_net» .0 < 2 ^ 29 → «to_net» .0 < 2 ^ 29
+        → Did (asserted (replaceVoidNet (pastIn (now (table .entry))) (netOf («from_net» .0)) (netOf («to_net» .0))) ∷ [])
+        (now (calls .entry)) (now (names .entry)) (now (marks .entry)) c
+        (now (calls .exit)) (now (names .exit)) (now (marks .exit)) r []) ⌝ }
 {
     let from = nets::curr_net(calls, names, marks, c, from_net);
     let to = nets::net(table, calls, names, marks, from.counts, to_net);
@@ -165,8 +175,10 @@ fn join_pasts(
     from_net: Net,
     to_net: Net,
 ) -> Counts
-    ensures { λ r. ⌜ («from_net» .0 < 2 ^ 29 → «to_net» .0 < 2 ^ 29 → Did (asserted (joinPasts (netOf («from_net» .0)) (netOf («to_net» .0))) ∷ [])
-        (now (calls .entry)) (now (names .entry)) (now (marks .entry)) c (now (calls .exit)) (now (names .exit)) (now (marks .exit)) r []) ⌝ }
+    ensures { λ r. ⌜ («from_net» .0 < 2 ^ 29 → «to_net» .0 < 2 ^ 29
+        → Did (asserted (joinPasts (netOf («from_net» .0)) (netOf («to_net» .0))) ∷ [])
+        (now (calls .entry)) (now (names .entry)) (now (marks .entry)) c
+        (now (calls .exit)) (now (names .exit)) (now (marks .exit)) r []) ⌝ }
 {
     let from = nets::past_net(calls, names, marks, c, from_net);
     let to = nets::past_net(calls, names, marks, from.counts, to_net);
@@ -183,8 +195,10 @@ fn currents(
     from_net: Net,
     to_net: Net,
 ) -> Built
-    ensures { λ r. ⌜ («from_net» .0 < 2 ^ 29 → «to_net» .0 < 2 ^ 29 → Did (obliged (currents (netOf («from_net» .0)) (netOf («to_net» .0))) ∷ [])
-        (now (calls .entry)) (now (names .entry)) (now (marks .entry)) c (now (calls .exit)) (now (names .exit)) (now (marks .exit)) (r .counts) (r .term .0 ∷ [])) ⌝ }
+    ensures { λ r. ⌜ («from_net» .0 < 2 ^ 29 → «to_net» .0 < 2 ^ 29
+        → Did (obliged (currents (netOf («from_net» .0)) (netOf («to_net» .0))) ∷ [])
+        (now (calls .entry)) (now (names .entry)) (now (marks .entry)) c
+        (now (calls .exit)) (now (names .exit)) (now (marks .exit)) (r .counts) (r .term .0 ∷ [])) ⌝ }
 {
     let from = nets::curr_net(calls, names, marks, c, from_net);
     let to = nets::curr_net(calls, names, marks, from.counts, to_net);
@@ -200,8 +214,10 @@ pub fn replace_dff_net(
     from_net: Net,
     to_net: Net,
 ) -> Built
-    ensures { λ r. ⌜ («from_net» .0 < 2 ^ 29 → «to_net» .0 < 2 ^ 29 → Did (replaceDffNet (netOf («from_net» .0)) (netOf («to_net» .0)))
-        (now (calls .entry)) (now (names .entry)) (now (marks .entry)) c (now (calls .exit)) (now (names .exit)) (now (marks .exit)) (r .counts) (r .term .0 ∷ [])) ⌝ }
+    ensures { λ r. ⌜ («from_net» .0 < 2 ^ 29 → «to_net» .0 < 2 ^ 29
+        → Did (replaceDffNet (netOf («from_net» .0)) (netOf («to_net» .0)))
+        (now (calls .entry)) (now (names .entry)) (now (marks .entry)) c
+        (now (calls .exit)) (now (names .exit)) (now (marks .exit)) (r .counts) (r .term .0 ∷ [])) ⌝ }
 {
     let joined = join_pasts(calls, names, marks, c, from_net, to_net);
     currents(calls, names, marks, joined, from_net, to_net)

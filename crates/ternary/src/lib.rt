@@ -19,7 +19,10 @@ pub fn mux_cell(
     c: Counts,
     width: u32,
 ) -> BuiltTrits
-    ensures { λ r. ⌜ ((slot : ℕ) → numberIn (now (fields .entry)) 0 ≤ 63 → RanCell (cell (pastIn (now (table .entry))) slot width (cellIn (now (fields .entry)) O.Mux 0)) (now (calls .entry)) (now (names .entry)) (now (marks .entry)) c (now (calls .exit)) (now (names .exit)) (now (marks .exit)) r) ⌝ }
+    ensures { λ r. ⌜ ((slot : ℕ) → numberIn (now (fields .entry)) 0 ≤ 63
+        → RanCell (cell (pastIn (now (table .entry))) slot width (cellIn (now (fields .entry)) O.Mux 0))
+        (now (calls .entry)) (now (names .entry)) (now (marks .entry)) c
+        (now (calls .exit)) (now (names .exit)) (now (marks .exit)) r) ⌝ }
 {
     let n = cells::number_at(fields, 0);
     let s = cells::net_at(fields, 1, table, calls, names, marks, c);
@@ -37,7 +40,10 @@ pub fn adc_cell(
     marks: &mut [u8],
     c: Counts,
 ) -> BuiltTrits
-    ensures { λ r. ⌜ ((slot width : ℕ) → numberIn (now (fields .entry)) 0 ≤ 63 → RanCell (cell (pastIn (now (table .entry))) slot width (cellIn (now (fields .entry)) O.Adc 0)) (now (calls .entry)) (now (names .entry)) (now (marks .entry)) c (now (calls .exit)) (now (names .exit)) (now (marks .exit)) r) ⌝ }
+    ensures { λ r. ⌜ ((slot width : ℕ) → numberIn (now (fields .entry)) 0 ≤ 63
+        → RanCell (cell (pastIn (now (table .entry))) slot width (cellIn (now (fields .entry)) O.Adc 0))
+        (now (calls .entry)) (now (names .entry)) (now (marks .entry)) c
+        (now (calls .exit)) (now (names .exit)) (now (marks .exit)) r) ⌝ }
 {
     let n = cells::number_at(fields, 0);
     if n == 0 {
@@ -59,7 +65,11 @@ pub fn assign_cell(
     c: Counts,
     width: u32,
 ) -> BuiltTrits
-    ensures { λ r. ⌜ ((slot : ℕ) → numberIn (now (fields .entry)) 0 ≤ 63 → numberIn (now (fields .entry)) 2 + numberIn (now (fields .entry)) 1 ≤ numberIn (now (fields .entry)) 0 → RanCell (cell (pastIn (now (table .entry))) slot width (cellIn (now (fields .entry)) O.Assign 0)) (now (calls .entry)) (now (names .entry)) (now (marks .entry)) c (now (calls .exit)) (now (names .exit)) (now (marks .exit)) r) ⌝ }
+    ensures { λ r. ⌜ ((slot : ℕ) → numberIn (now (fields .entry)) 0 ≤ 63
+        → numberIn (now (fields .entry)) 2 + numberIn (now (fields .entry)) 1 ≤ numberIn (now (fields .entry)) 0
+        → RanCell (cell (pastIn (now (table .entry))) slot width (cellIn (now (fields .entry)) O.Assign 0))
+        (now (calls .entry)) (now (names .entry)) (now (marks .entry)) c
+        (now (calls .exit)) (now (names .exit)) (now (marks .exit)) r) ⌝ }
 {
     let n = cells::number_at(fields, 0);
     let u = cells::number_at(fields, 1);

@@ -29,7 +29,8 @@ pub fn tv_lit(calls: &mut [u32], c: Counts, width: u32, x: u64, y: u64) -> Built
 }
 
 pub fn tv_bind(calls: &mut [u32], c: Counts, value: TritVec, width: u32) -> BuiltTrits
-    ensures { λ r. ⌜ ((i : ℕ) → MakesTrits (tvBind (trits i value) width) width (now (calls .entry)) c (now (calls .exit)) r) ⌝ }
+    ensures { λ r. ⌜ ((i : ℕ) → MakesTrits (tvBind (trits i value) width) width (now (calls .entry)) c
+        (now (calls .exit)) r) ⌝ }
 {
     let x = bits::declare_temporary(calls, c, Suffix::X, width);
     let y = bits::declare_temporary(calls, x.counts, Suffix::Y, width);
@@ -52,7 +53,9 @@ pub fn tv_extract(
     index_lsb: u32,
     tv: TritVec,
 ) -> BuiltTrits
-    ensures { λ r. ⌜ ((i : ℕ) → MakesTrits (tvExtract «index_msb» «index_lsb» (trits i tv)) (suc «index_msb» - «index_lsb») (now (calls .entry)) c (now (calls .exit)) r) ⌝ }
+    ensures { λ r. ⌜ ((i : ℕ)
+        → MakesTrits (tvExtract «index_msb» «index_lsb» (trits i tv)) (suc «index_msb» - «index_lsb»)
+        (now (calls .entry)) c (now (calls .exit)) r) ⌝ }
 {
     let x = builder::build_extract(calls, c, index_msb, index_lsb, tv.x);
     let y = builder::build_extract(calls, x.counts, index_msb, index_lsb, tv.y);
@@ -75,7 +78,8 @@ pub fn tv_is1(calls: &mut [u32], c: Counts, tv: TritVec) -> Built
 }
 
 pub fn tv_eq(calls: &mut [u32], c: Counts, a: TritVec, b: TritVec) -> Built
-    ensures { λ r. ⌜ ((i j : ℕ) → MakesBool (tvEq (trits i a) (trits j b)) (now (calls .entry)) c (now (calls .exit)) r) ⌝ }
+    ensures { λ r. ⌜ ((i j : ℕ) → MakesBool (tvEq (trits i a) (trits j b)) (now (calls .entry)) c
+        (now (calls .exit)) r) ⌝ }
 {
     let x = builder::build_bitvec_eq(calls, c, a.x, b.x);
     let y = builder::build_bitvec_eq(calls, x.counts, a.y, b.y);
@@ -84,7 +88,8 @@ pub fn tv_eq(calls: &mut [u32], c: Counts, a: TritVec, b: TritVec) -> Built
 
 // If a bit is X in `to`, it should be X in `from`; if it was 0 or 1 in `from`, it should be that same value in `to`.
 pub fn tv_refines(calls: &mut [u32], c: Counts, from: TritVec, to: TritVec) -> Built
-    ensures { λ r. ⌜ ((i j : ℕ) → MakesBool (tvRefines (trits i from) (trits j to)) (now (calls .entry)) c (now (calls .exit)) r) ⌝ }
+    ensures { λ r. ⌜ ((i j : ℕ) → MakesBool (tvRefines (trits i from) (trits j to)) (now (calls .entry)) c
+        (now (calls .exit)) r) ⌝ }
 {
     let from_def = builder::build_bvnot(calls, c, from.x);
     let both_x = builder::build_binary(calls, from_def.counts, BinaryOp::And, to.x, from.x);
@@ -111,7 +116,9 @@ fn undecided(
     a_decides: Term,
     b_decides: Term,
 ) -> BuiltTrits
-    ensures { λ r. ⌜ ((i : ℕ) → MakesTrits (undecided (trits i a) (trits i b) (bv («a_decides» .0) i) (bv («b_decides» .0) i) (bv (y .term .0) i)) i (now (calls .entry)) (y .counts) (now (calls .exit)) r) ⌝ }
+    ensures { λ r. ⌜ ((i : ℕ)
+        → MakesTrits (undecided (trits i a) (trits i b) (bv («a_decides» .0) i) (bv («b_decides» .0) i) (bv (y .term .0) i)) i
+        (now (calls .entry)) (y .counts) (now (calls .exit)) r) ⌝ }
 {
     let some_x = builder::build_binary(calls, y.counts, BinaryOp::Or, a.x, b.x);
     let either = builder::build_binary(calls, some_x.counts, BinaryOp::Or, a_decides, b_decides);
@@ -134,7 +141,8 @@ fn undecided(
 
 // An and of bound operands.
 fn and_bound(calls: &mut [u32], c: Counts, a: TritVec, b: TritVec) -> BuiltTrits
-    ensures { λ r. ⌜ ((i : ℕ) → MakesTrits (andBound (trits i a) (trits i b)) i (now (calls .entry)) c (now (calls .exit)) r) ⌝ }
+    ensures { λ r. ⌜ ((i : ℕ) → MakesTrits (andBound (trits i a) (trits i b)) i (now (calls .entry)) c
+        (now (calls .exit)) r) ⌝ }
 {
     let a_is0 = tv_is0(calls, c, a);
     let b_is0 = tv_is0(calls, a_is0.counts, b);
@@ -147,7 +155,8 @@ fn and_bound(calls: &mut [u32], c: Counts, a: TritVec, b: TritVec) -> BuiltTrits
 // 1 0 1 X
 // X 0 X X
 pub fn tv_and(calls: &mut [u32], c: Counts, a: TritVec, b: TritVec, width: u32) -> BuiltTrits
-    ensures { λ r. ⌜ ((i j : ℕ) → MakesTrits (tvAnd (trits i a) (trits j b) width) width (now (calls .entry)) c (now (calls .exit)) r) ⌝ }
+    ensures { λ r. ⌜ ((i j : ℕ) → MakesTrits (tvAnd (trits i a) (trits j b) width) width (now (calls .entry)) c
+        (now (calls .exit)) r) ⌝ }
 {
     let a = tv_bind(calls, c, a, width);
     let b = tv_bind(calls, a.counts, b, width);
@@ -156,7 +165,8 @@ pub fn tv_and(calls: &mut [u32], c: Counts, a: TritVec, b: TritVec, width: u32) 
 
 // An or of bound operands.
 fn or_bound(calls: &mut [u32], c: Counts, a: TritVec, b: TritVec) -> BuiltTrits
-    ensures { λ r. ⌜ ((i : ℕ) → MakesTrits (orBound (trits i a) (trits i b)) i (now (calls .entry)) c (now (calls .exit)) r) ⌝ }
+    ensures { λ r. ⌜ ((i : ℕ) → MakesTrits (orBound (trits i a) (trits i b)) i (now (calls .entry)) c
+        (now (calls .exit)) r) ⌝ }
 {
     let a_is1 = tv_is1(calls, c, a);
     let b_is1 = tv_is1(calls, a_is1.counts, b);
@@ -169,7 +179,8 @@ fn or_bound(calls: &mut [u32], c: Counts, a: TritVec, b: TritVec) -> BuiltTrits
 // 1 1 1 1
 // X X 1 X
 pub fn tv_or(calls: &mut [u32], c: Counts, a: TritVec, b: TritVec, width: u32) -> BuiltTrits
-    ensures { λ r. ⌜ ((i j : ℕ) → MakesTrits (tvOr (trits i a) (trits j b) width) width (now (calls .entry)) c (now (calls .exit)) r) ⌝ }
+    ensures { λ r. ⌜ ((i j : ℕ) → MakesTrits (tvOr (trits i a) (trits j b) width) width (now (calls .entry)) c
+        (now (calls .exit)) r) ⌝ }
 {
     let a = tv_bind(calls, c, a, width);
     let b = tv_bind(calls, a.counts, b, width);
@@ -181,7 +192,8 @@ pub fn tv_or(calls: &mut [u32], c: Counts, a: TritVec, b: TritVec, width: u32) -
 // 1 1 0 X
 // X X X X
 pub fn tv_xor(calls: &mut [u32], c: Counts, a: TritVec, b: TritVec) -> BuiltTrits
-    ensures { λ r. ⌜ ((i j : ℕ) → MakesTrits (tvXor (trits i a) (trits j b)) i (now (calls .entry)) c (now (calls .exit)) r) ⌝ }
+    ensures { λ r. ⌜ ((i j : ℕ) → MakesTrits (tvXor (trits i a) (trits j b)) i (now (calls .entry)) c
+        (now (calls .exit)) r) ⌝ }
 {
     let y = builder::build_binary(calls, c, BinaryOp::Xor, a.y, b.y);
     let x = builder::build_binary(calls, y.counts, BinaryOp::Or, a.x, b.x);
@@ -203,7 +215,9 @@ fn mux_y(
     s_is0: Term,
     s_is1: Term,
 ) -> BuiltTrits
-    ensures { λ r. ⌜ ((i : ℕ) → MakesTrits (muxY (trits i a) (trits i b) («s_is0» .0) («s_is1» .0) (bv (x .term .0) i)) i (now (calls .entry)) (x .counts) (now (calls .exit)) r) ⌝ }
+    ensures { λ r. ⌜ ((i : ℕ)
+        → MakesTrits (muxY (trits i a) (trits i b) («s_is0» .0) («s_is1» .0) (bv (x .term .0) i)) i
+        (now (calls .entry)) (x .counts) (now (calls .exit)) r) ⌝ }
 {
     let y_sx = builder::build_binary(calls, x.counts, BinaryOp::And, a.y, b.y);
     let y_s1 = builder::build_bitvec_ite(calls, y_sx.counts, s_is1, a.y, y_sx.term);
@@ -220,7 +234,8 @@ fn mux_x(
     s_is0: Term,
     s_is1: Term,
 ) -> BuiltTrits
-    ensures { λ r. ⌜ ((i : ℕ) → MakesTrits (muxX (trits i a) (trits i b) («s_is0» .0) («s_is1» .0)) i (now (calls .entry)) c (now (calls .exit)) r) ⌝ }
+    ensures { λ r. ⌜ ((i : ℕ) → MakesTrits (muxX (trits i a) (trits i b) («s_is0» .0) («s_is1» .0)) i
+        (now (calls .entry)) c (now (calls .exit)) r) ⌝ }
 {
     let x_sx = builder::build_binary(calls, c, BinaryOp::Xor, a.y, b.y);
     let x_sx = builder::build_binary(calls, x_sx.counts, BinaryOp::Or, x_sx.term, a.x);
@@ -232,7 +247,8 @@ fn mux_x(
 
 // A mux of bound operands.
 fn mux_bound(calls: &mut [u32], c: Counts, s: TritVec, a: TritVec, b: TritVec) -> BuiltTrits
-    ensures { λ r. ⌜ ((i : ℕ) → MakesTrits (muxBound (trits 1 s) (trits i a) (trits i b)) i (now (calls .entry)) c (now (calls .exit)) r) ⌝ }
+    ensures { λ r. ⌜ ((i : ℕ) → MakesTrits (muxBound (trits 1 s) (trits i a) (trits i b)) i (now (calls .entry)) c
+        (now (calls .exit)) r) ⌝ }
 {
     let bv_is0 = tv_is0(calls, c, s);
     let bv_is1 = tv_is1(calls, bv_is0.counts, s);
@@ -253,7 +269,8 @@ pub fn tv_mux(
     b: TritVec,
     width: u32,
 ) -> BuiltTrits
-    ensures { λ r. ⌜ ((h i j : ℕ) → MakesTrits (tvMux (trits h s) (trits i a) (trits j b) width) width (now (calls .entry)) c (now (calls .exit)) r) ⌝ }
+    ensures { λ r. ⌜ ((h i j : ℕ) → MakesTrits (tvMux (trits h s) (trits i a) (trits j b) width) width
+        (now (calls .entry)) c (now (calls .exit)) r) ⌝ }
 {
     let s = tv_bind(calls, c, s, 1);
     let a = tv_bind(calls, s.counts, a, width);

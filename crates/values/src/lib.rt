@@ -27,7 +27,10 @@ fn net_terms(
     terms: &mut [u32],
     c: Counts,
 ) -> Counts
-    ensures { λ r. ⌜ (2 * n ≤ length (now (terms .entry)) → Ran (collect (reader reading (now (table .entry))) (netsIn (now (words .entry)) n at)) (now (calls .entry)) (now (names .entry)) (now (marks .entry)) c (now (calls .exit)) (now (names .exit)) (now (marks .exit)) r (elements (now (terms .exit)) n)) ⌝ }
+    ensures { λ r. ⌜ (2 * n ≤ length (now (terms .entry))
+        → Ran (collect (reader reading (now (table .entry))) (netsIn (now (words .entry)) n at))
+        (now (calls .entry)) (now (names .entry)) (now (marks .entry)) c
+        (now (calls .exit)) (now (names .exit)) (now (marks .exit)) r (elements (now (terms .exit)) n)) ⌝ }
 {
     let mut counts = c;
     let mut i: u32 = 0;
@@ -54,7 +57,9 @@ pub fn read_value(
     marks: &mut [u8],
     c: Counts,
 ) -> BuiltTrits
-    ensures { λ r. ⌜ (n ≤ 64 → RanTrits (valueOf (reader reading (now (table .entry))) (netsIn (now (words .entry)) n at)) n (now (calls .entry)) (now (names .entry)) (now (marks .entry)) c (now (calls .exit)) (now (names .exit)) (now (marks .exit)) r) ⌝ }
+    ensures { λ r. ⌜ (n ≤ 64 → RanTrits (valueOf (reader reading (now (table .entry))) (netsIn (now (words .entry)) n at)) n
+        (now (calls .entry)) (now (names .entry)) (now (marks .entry)) c
+        (now (calls .exit)) (now (names .exit)) (now (marks .exit)) r) ⌝ }
 {
     let mut terms = [0u32; 128];
     let counts = net_terms(
@@ -83,7 +88,9 @@ pub fn value(
     marks: &mut [u8],
     c: Counts,
 ) -> BuiltTrits
-    ensures { λ r. ⌜ (n ≤ 64 → RanTrits (model.value (pastIn (now (table .entry))) (netsIn (now (words .entry)) n at)) n (now (calls .entry)) (now (names .entry)) (now (marks .entry)) c (now (calls .exit)) (now (names .exit)) (now (marks .exit)) r) ⌝ }
+    ensures { λ r. ⌜ (n ≤ 64 → RanTrits (model.value (pastIn (now (table .entry))) (netsIn (now (words .entry)) n at)) n
+        (now (calls .entry)) (now (names .entry)) (now (marks .entry)) c
+        (now (calls .exit)) (now (names .exit)) (now (marks .exit)) r) ⌝ }
 {
     read_value(words, at, n, Reading::Either, table, calls, names, marks, c)
 }
@@ -101,7 +108,10 @@ pub fn output_value(
     marks: &mut [u8],
     c: Counts,
 ) -> BuiltTrits
-    ensures { λ r. ⌜ (width ≤ 64 → slot .0 + width + 1 < 536870911 → RanTrits (valueOf (reader reading (now (table .entry))) (outputNets (slot .0) width)) width (now (calls .entry)) (now (names .entry)) (now (marks .entry)) c (now (calls .exit)) (now (names .exit)) (now (marks .exit)) r) ⌝ }
+    ensures { λ r. ⌜ (width ≤ 64 → slot .0 + width + 1 < 536870911
+        → RanTrits (valueOf (reader reading (now (table .entry))) (outputNets (slot .0) width)) width
+        (now (calls .entry)) (now (names .entry)) (now (marks .entry)) c
+        (now (calls .exit)) (now (names .exit)) (now (marks .exit)) r) ⌝ }
 {
     let mut output = [0u32; 64];
     operands::output_nets(&mut output, slot, width);
@@ -118,7 +128,10 @@ pub fn curr_value(
     marks: &mut [u8],
     c: Counts,
 ) -> BuiltTrits
-    ensures { λ r. ⌜ (width ≤ 64 → slot .0 + width + 1 < 536870911 → RanTrits (currValue (outputNets (slot .0) width)) width (now (calls .entry)) (now (names .entry)) (now (marks .entry)) c (now (calls .exit)) (now (names .exit)) (now (marks .exit)) r) ⌝ }
+    ensures { λ r. ⌜ (width ≤ 64 → slot .0 + width + 1 < 536870911
+        → RanTrits (currValue (outputNets (slot .0) width)) width
+        (now (calls .entry)) (now (names .entry)) (now (marks .entry)) c
+        (now (calls .exit)) (now (names .exit)) (now (marks .exit)) r) ⌝ }
 {
     output_value(slot, width, Reading::Curr, table, calls, names, marks, c)
 }
@@ -133,7 +146,10 @@ pub fn past_value(
     marks: &mut [u8],
     c: Counts,
 ) -> BuiltTrits
-    ensures { λ r. ⌜ (width ≤ 64 → slot .0 + width + 1 < 536870911 → RanTrits (pastValue (outputNets (slot .0) width)) width (now (calls .entry)) (now (names .entry)) (now (marks .entry)) c (now (calls .exit)) (now (names .exit)) (now (marks .exit)) r) ⌝ }
+    ensures { λ r. ⌜ (width ≤ 64 → slot .0 + width + 1 < 536870911
+        → RanTrits (pastValue (outputNets (slot .0) width)) width
+        (now (calls .entry)) (now (names .entry)) (now (marks .entry)) c
+        (now (calls .exit)) (now (names .exit)) (now (marks .exit)) r) ⌝ }
 {
     output_value(slot, width, Reading::Past, table, calls, names, marks, c)
 }

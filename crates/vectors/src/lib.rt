@@ -18,7 +18,8 @@ ghost use Rattle.vectors.specs.Parts.{carryOne, adcSum, adcCarry};
 
 // The first n of some terms of one bit each, joined from the last down; the Rust has no vector of no elements.
 pub fn bv_concat(calls: &mut [u32], c: Counts, terms: &[u32], n: u32) -> Built
-    ensures { λ r. ⌜ MakesVector (bvConcat (bitElements (now (terms .entry)) n)) n (now (calls .entry)) c (now (calls .exit)) r ⌝ }
+    ensures { λ r. ⌜ MakesVector (bvConcat (bitElements (now (terms .entry)) n)) n (now (calls .entry)) c
+        (now (calls .exit)) r ⌝ }
 {
     if n == 0 {
         return Built {
@@ -61,7 +62,8 @@ pub fn put_element(terms: &mut [u32], i: u32, value: TritVec)
 
 // An element below what there is.
 fn tv_join(calls: &mut [u32], c: Counts, msb: TritVec, elem: TritVec) -> BuiltTrits
-    ensures { λ r. ⌜ ((i j : ℕ) → MakesTrits (tvJoin (trits i msb) (trits j elem)) (i + j) (now (calls .entry)) c (now (calls .exit)) r) ⌝ }
+    ensures { λ r. ⌜ ((i j : ℕ) → MakesTrits (tvJoin (trits i msb) (trits j elem)) (i + j) (now (calls .entry)) c
+        (now (calls .exit)) r) ⌝ }
 {
     let x = builder::build_concat(calls, c, msb.x, elem.x);
     let y = builder::build_concat(calls, x.counts, msb.y, elem.y);
@@ -70,7 +72,8 @@ fn tv_join(calls: &mut [u32], c: Counts, msb: TritVec, elem: TritVec) -> BuiltTr
 
 // The first n elements joined from the last down.
 pub fn tv_concat(calls: &mut [u32], c: Counts, terms: &[u32], n: u32) -> BuiltTrits
-    ensures { λ r. ⌜ MakesTrits (tvConcat (elements (now (terms .entry)) n)) n (now (calls .entry)) c (now (calls .exit)) r ⌝ }
+    ensures { λ r. ⌜ MakesTrits (tvConcat (elements (now (terms .entry)) n)) n (now (calls .entry)) c
+        (now (calls .exit)) r ⌝ }
 {
     if n == 0 {
         let none = TritVec {
@@ -100,7 +103,8 @@ pub fn tv_concat(calls: &mut [u32], c: Counts, terms: &[u32], n: u32) -> BuiltTr
 
 // The carry's x after position `index`: X where the carry into it or an operand is.
 fn carry_one(calls: &mut [u32], c: Counts, a: TritVec, b: TritVec, index: u32, carry: Term) -> Built
-    ensures { λ r. ⌜ ((i : ℕ) → MakesVector (carryOne (trits i a) (trits i b) index (bv (carry .0) 1)) 1 (now (calls .entry)) c (now (calls .exit)) r) ⌝ }
+    ensures { λ r. ⌜ ((i : ℕ) → MakesVector (carryOne (trits i a) (trits i b) index (bv (carry .0) 1)) 1
+        (now (calls .entry)) c (now (calls .exit)) r) ⌝ }
 {
     let a_x = builder::build_extract(calls, c, index, index, a.x);
     let b_x = builder::build_extract(calls, a_x.counts, index, index, b.x);
@@ -119,7 +123,9 @@ fn carry_x(
     n: u32,
     carry: Term,
 ) -> Counts
-    ensures { λ r. ⌜ (n < length (now (xs .entry)) → (i : ℕ) → Writes (carryX (trits i a) (trits i b) n 0 (bv (carry .0) 1)) (now (calls .entry)) c (now (calls .exit)) r (bitElements (now (xs .exit)) (n + 1))) ⌝ }
+    ensures { λ r. ⌜ (n < length (now (xs .entry)) → (i : ℕ)
+        → Writes (carryX (trits i a) (trits i b) n 0 (bv (carry .0) 1)) (now (calls .entry)) c
+        (now (calls .exit)) r (bitElements (now (xs .exit)) (n + 1))) ⌝ }
 {
     let mut last = Built {
         term: carry,
@@ -137,7 +143,8 @@ fn carry_x(
 
 // The carry added to the operands' sum, whose x is made.
 fn adc_carry(calls: &mut [u32], sum: Built, carry: TritVec, n: u32, x: Term) -> BuiltTrits
-    ensures { λ r. ⌜ (n ≤ 63 → (w : ℕ) → MakesTrits (adcCarry (trits 1 carry) n (bv (x .0) w) (bv (sum .term .0) w)) w (now (calls .entry)) (sum .counts) (now (calls .exit)) r) ⌝ }
+    ensures { λ r. ⌜ (n ≤ 63 → (w : ℕ) → MakesTrits (adcCarry (trits 1 carry) n (bv (x .0) w) (bv (sum .term .0) w)) w
+        (now (calls .entry)) (sum .counts) (now (calls .exit)) r) ⌝ }
 {
     let zero = bits::bv_lit(calls, sum.counts, n, 0);
     let carry_ext = builder::build_concat(calls, zero.counts, zero.term, carry.y);
@@ -160,7 +167,8 @@ fn adc_sum(
     carry: TritVec,
     n: u32,
 ) -> BuiltTrits
-    ensures { λ r. ⌜ (n ≤ 63 → MakesTrits (adcSum (trits n a) (trits n b) (trits 1 carry) n (bv (x .term .0) (1 + n))) (1 + n) (now (calls .entry)) (x .counts) (now (calls .exit)) r) ⌝ }
+    ensures { λ r. ⌜ (n ≤ 63 → MakesTrits (adcSum (trits n a) (trits n b) (trits 1 carry) n (bv (x .term .0) (1 + n))) (1 + n)
+        (now (calls .entry)) (x .counts) (now (calls .exit)) r) ⌝ }
 {
     let zero = bits::bv_lit(calls, x.counts, 1, 0);
     let a_ext = builder::build_concat(calls, zero.counts, zero.term, a.y);
@@ -179,7 +187,8 @@ pub fn tv_adc(
     carry: TritVec,
     n: u32,
 ) -> BuiltTrits
-    ensures { λ r. ⌜ (n ≤ 63 → (i j : ℕ) → MakesTrits (tvAdc (trits i a) (trits j b) (trits 1 carry) n) (n + 1) (now (calls .entry)) c (now (calls .exit)) r) ⌝ }
+    ensures { λ r. ⌜ (n ≤ 63 → (i j : ℕ) → MakesTrits (tvAdc (trits i a) (trits j b) (trits 1 carry) n) (n + 1)
+        (now (calls .entry)) c (now (calls .exit)) r) ⌝ }
 {
     let a = trits::tv_bind(calls, c, a, n);
     let b = trits::tv_bind(calls, a.counts, b, n);
@@ -193,7 +202,8 @@ pub fn tv_adc(
 
 // `Const::zero`
 pub fn tv_zero(calls: &mut [u32], c: Counts, width: u32) -> BuiltTrits
-    ensures { λ r. ⌜ (width ≤ 64 → MakesTrits (tvLit (replicate width t.Zero)) width (now (calls .entry)) c (now (calls .exit)) r) ⌝ }
+    ensures { λ r. ⌜ (width ≤ 64 → MakesTrits (tvLit (replicate width t.Zero)) width (now (calls .entry)) c
+        (now (calls .exit)) r) ⌝ }
 {
     trits::tv_lit(calls, c, width, 0, 0)
 }
@@ -206,7 +216,8 @@ fn power_of_two(index: u32) -> u64
 
 // `Const::one_hot`
 fn tv_one_hot(calls: &mut [u32], c: Counts, width: u32, index: u32) -> BuiltTrits
-    ensures { λ r. ⌜ (width ≤ 64 → index < width → MakesTrits (tvLit (oneHot width index)) width (now (calls .entry)) c (now (calls .exit)) r) ⌝ }
+    ensures { λ r. ⌜ (width ≤ 64 → index < width → MakesTrits (tvLit (oneHot width index)) width (now (calls .entry)) c
+        (now (calls .exit)) r) ⌝ }
 {
     trits::tv_lit(calls, c, width, 0, power_of_two(index))
 }
@@ -219,7 +230,8 @@ pub fn first_match(
     k: u32,
     all_cold: TritVec,
 ) -> BuiltTrits
-    ensures { λ r. ⌜ (k ≤ 64 → (i : ℕ) → MakesTrits (firstMatch (trits i matches) k k (trits k «all_cold»)) k (now (calls .entry)) c (now (calls .exit)) r) ⌝ }
+    ensures { λ r. ⌜ (k ≤ 64 → (i : ℕ) → MakesTrits (firstMatch (trits i matches) k k (trits k «all_cold»)) k
+        (now (calls .entry)) c (now (calls .exit)) r) ⌝ }
 {
     let mut result = BuiltTrits {
         value: all_cold,

@@ -51,7 +51,8 @@ fn is_next(list: &[u32], end: usize, rep: usize, slot: Slot) -> bool
 
 // The place of the next cell replacement, after the cell at a slot.
 fn rep_after(list: &[u32], end: usize, rep: usize, slot: Slot) -> usize
-    ensures { λ r. ⌜ ((isNext (now (list .entry)) end rep (slot .0) ≡ true → Readable (now (list .entry)) (rep + 1)) → r ≡ repAfter (now (list .entry)) end rep (slot .0)) ⌝ }
+    ensures { λ r. ⌜ ((isNext (now (list .entry)) end rep (slot .0) ≡ true → Readable (now (list .entry)) (rep + 1))
+        → r ≡ repAfter (now (list .entry)) end rep (slot .0)) ⌝ }
 {
     if is_next(list, end, rep, slot) {
         return next_at(list, rep + 1);
@@ -73,7 +74,8 @@ fn add_at(
 ) -> Walked
     ensures { λ r. ⌜ ((eqs : List ℕ) → Readable (now (list .entry)) at → width ≤ 64 → slot .0 + width + 1 < 536870911
         → Does (addCell (pastIn (now (table .entry))) (slot .0) width (cellAt (now (list .entry)) at) ∷ [])
-        (now (calls .entry)) (now (names .entry)) (now (marks .entry)) eqs s (now (calls .exit)) (now (names .exit)) (now (marks .exit)) eqs r) ⌝ }
+        (now (calls .entry)) (now (names .entry)) (now (marks .entry)) eqs s
+        (now (calls .exit)) (now (names .exit)) (now (marks .exit)) eqs r) ⌝ }
 {
     let op = op_at(list, at);
     if at < list.len() {
@@ -113,7 +115,8 @@ fn new_at(
 ) -> Walked
     ensures { λ r. ⌜ (Readable (now (list .entry)) at → width ≤ 64 → slot .0 + width + 1 < 536870911
         → Does (obliged (newCell (pastIn (now (table .entry))) (slot .0) width (cellAt (now (list .entry)) at)) ∷ [])
-        (now (calls .entry)) (now (names .entry)) (now (marks .entry)) (now (eqs .entry)) s (now (calls .exit)) (now (names .exit)) (now (marks .exit)) (now (eqs .exit)) r) ⌝ }
+        (now (calls .entry)) (now (names .entry)) (now (marks .entry)) (now (eqs .entry)) s
+        (now (calls .exit)) (now (names .exit)) (now (marks .exit)) (now (eqs .exit)) r) ⌝ }
 {
     let op = op_at(list, at);
     if at < list.len() {
@@ -149,10 +152,12 @@ fn verify_cell(
     s: Walked,
     slot: Slot,
 ) -> Walked
-    ensures { λ r. ⌜ (Readable (now (list .entry)) at → (isNext (now (list .entry)) end rep (slot .0) ≡ true → Readable (now (list .entry)) (rep + 1))
+    ensures { λ r. ⌜ (Readable (now (list .entry)) at → (isNext (now (list .entry)) end rep (slot .0) ≡ true
+        → Readable (now (list .entry)) (rep + 1))
         → widthIn (now (table .entry)) (slot .0) ≤ 64 → slot .0 + widthIn (now (table .entry)) (slot .0) + 1 < 536870911
         → Does (stepsAt (pastIn (now (table .entry))) (slot .0) (widthIn (now (table .entry)) (slot .0)) (cellAt (now (list .entry)) at) (newAt (now (list .entry)) end rep (slot .0)))
-        (now (calls .entry)) (now (names .entry)) (now (marks .entry)) (now (eqs .entry)) s (now (calls .exit)) (now (names .exit)) (now (marks .exit)) (now (eqs .exit)) r) ⌝ }
+        (now (calls .entry)) (now (names .entry)) (now (marks .entry)) (now (eqs .entry)) s
+        (now (calls .exit)) (now (names .exit)) (now (marks .exit)) (now (eqs .exit)) r) ⌝ }
 {
     let width = slots::width_at(table, slot);
     if width == 0 {
@@ -186,8 +191,10 @@ fn verify_cells(
     eqs: &mut [u32],
     start: Walked,
 ) -> Walked
-    ensures { λ r. ⌜ ((d : Design) → read (now (list .entry)) ≡ accepted d replacements end → Tells d (now (table .entry)) → length (now (table .entry)) ≡ total d → Does (eachCell d (d .cells))
-        (now (calls .entry)) (now (names .entry)) (now (marks .entry)) (now (eqs .entry)) start (now (calls .exit)) (now (names .exit)) (now (marks .exit)) (now (eqs .exit)) r) ⌝ }
+    ensures { λ r. ⌜ ((d : Design) → read (now (list .entry)) ≡ accepted d replacements end
+        → Tells d (now (table .entry)) → length (now (table .entry)) ≡ total d → Does (eachCell d (d .cells))
+        (now (calls .entry)) (now (names .entry)) (now (marks .entry)) (now (eqs .entry)) start
+        (now (calls .exit)) (now (names .exit)) (now (marks .exit)) (now (eqs .exit)) r) ⌝ }
 {
     let mut s = start;
     let mut at: usize = 4;
@@ -215,8 +222,10 @@ pub fn work(
     eqs: &mut [u32],
     c: Counts,
 ) -> Walked
-    ensures { λ r. ⌜ ((d : Design) → read (now (list .entry)) ≡ accepted d replacements pairs → Tells d (now (table .entry)) → length (now (table .entry)) ≡ total d → Works d
-        (now (calls .entry)) (now (names .entry)) (now (marks .entry)) (now (eqs .entry)) c (now (calls .exit)) (now (names .exit)) (now (marks .exit)) (now (eqs .exit)) r) ⌝ }
+    ensures { λ r. ⌜ ((d : Design) → read (now (list .entry)) ≡ accepted d replacements pairs
+        → Tells d (now (table .entry)) → length (now (table .entry)) ≡ total d → Works d
+        (now (calls .entry)) (now (names .entry)) (now (marks .entry)) (now (eqs .entry)) c
+        (now (calls .exit)) (now (names .exit)) (now (marks .exit)) (now (eqs .exit)) r) ⌝ }
 {
     let start = Walked {
         counts: c,
