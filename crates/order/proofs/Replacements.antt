@@ -37,7 +37,7 @@ pub record Heads (cells : List Placed) (s : ℕ) (r : Placed) : Type 0 where
   pub width : outputLen (r .cell) ≡ outputLen ((cellIn cells (r .slot)) .cell)
 
 -- No replacement is found below the first.
-none-below : (reps : List Placed) (s : ℕ) → Each (λ (r : Placed). s < r .slot) reps → newCellIn reps s ≡ none
+pub none-below : (reps : List Placed) (s : ℕ) → Each (λ (r : Placed). s < r .slot) reps → newCellIn reps s ≡ none
 unfolding newCellIn
 none-below [] s h = refl
 none-below (r ∷ reps) s h = rw (ne-eqb (r .slot) s (λ e. let l = h .0 in omega arith)) (none-below reps s (h .1))
@@ -80,18 +80,18 @@ first-width p cells r e h = rw (first e) at (h .width)
         rw (le-leb (p .slot) (r .slot) (omega arith), lt-ltb (r .slot) (p .slot + slotsOf (p .cell)) (omega arith))
 
 -- Replacements above a slot.
-above : (s : ℕ) (r : Placed) (reps : List Placed) → s ≤ r .slot → Each (λ (q : Placed). r .slot < q .slot) reps
+pub above : (s : ℕ) (r : Placed) (reps : List Placed) → s ≤ r .slot → Each (λ (q : Placed). r .slot < q .slot) reps
     → Each (λ (q : Placed). s < q .slot) reps
 above s r reps l h = each-map reps (λ q m. omega arith) h
 
 module _ (p : Placed) (cells : List Placed) where
-  later : (reps : List Placed) → Each (λ (r : Placed). p .slot < r .slot) reps → Each (Heads (p ∷ cells) (p .slot)) reps
+  pub later : (reps : List Placed) → Each (λ (r : Placed). p .slot < r .slot) reps → Each (Heads (p ∷ cells) (p .slot)) reps
       → Each (Heads cells (p .slot + slotsOf (p .cell))) reps
   later [] l h = tt
   later (r ∷ reps) l h = (beyond-first p cells r (l .0) (h .0), later reps (l .1) (h .1))
 
 -- What is taken at the first cell: its replacement, if the first of them is.
-at-first : (p : Placed) (r : Placed) (reps : List Placed) → r .slot ≡ p .slot → newCellIn (r ∷ reps) (p .slot) ≡ some (r .cell)
+pub at-first : (p : Placed) (r : Placed) (reps : List Placed) → r .slot ≡ p .slot → newCellIn (r ∷ reps) (p .slot) ≡ some (r .cell)
 unfolding newCellIn
 at-first p r reps e = rw (eq-eqb (r .slot) (p .slot) e)
 

@@ -1,0 +1,151 @@
+// The second loop of `Design::verify` of design.rs: the net replacements of an accepted list, from its words; and the terms of obligations in a lent table.
+use builder::Built;
+use builder::Counts;
+use logic::Net;
+use slots::Pair;
+ghost use mathlib.Core.Path.{_≡_};
+ghost use mathlib.Core.List.{List, [], _∷_};
+ghost use Prim.Native.Nat.{ℕ, _<_, _^_};
+ghost use Rattle.logic.specs.Net.{netOf};
+ghost use Rattle.cell.specs.Design.{Design};
+ghost use Rattle.cell_reader.specs.Parse.{numberIn};
+ghost use Rattle.design_list.specs.Read.{read, accepted};
+ghost use Rattle.order.specs.Verify.{asserted, obliged, replaceNet, replaceVoidNet, replaceDffNet, pairSteps, eachPair};
+ghost use Rattle.nets.specs.Reads.{pastIn};
+ghost use Rattle.slots.specs.Tells.{Tells};
+ghost use Rattle.slots.specs.Pairs.{pairIn};
+ghost use Rattle.net_pairs.specs.Does.{Pushed, Does};
+
+// What a part of the walk has done: the counts, and how many obligations there are.
+pub struct Walked {
+    pub counts: Counts,
+    pub obligations: usize,
+}
+
+// `self.eqs.borrow_mut().push`: the term of an obligation, stored after the others; past the table's end nothing is stored.
+pub fn push(eqs: &mut [u32], obligations: usize, eq: Built) -> Walked
+    ensures { λ r. ⌜ Pushed (now (eqs .entry)) obligations eq (now (eqs .exit)) r ⌝ }
+{
+    let counts = eq.counts;
+    if obligations < eqs.len() {
+        eqs[obligations] = eq.term.0;
+        return Walked {
+            counts,
+            obligations: obligations + 1,
+        };
+    }
+    Walked {
+        counts,
+        obligations,
+    }
+}
+
+fn replace_net(
+    table: &[u32],
+    calls: &mut [u32],
+    names: &mut [u32],
+    marks: &mut [u8],
+    eqs: &mut [u32],
+    s: Walked,
+    from_net: Net,
+    to_net: Net,
+) -> Walked
+    ensures { λ r. ⌜ («from_net» .0 < 2 ^ 29 → «to_net» .0 < 2 ^ 29 → Does (obliged (replaceNet (pastIn (now (table .entry))) (netOf («from_net» .0)) (netOf («to_net» .0))) ∷ [])
+        (now (calls .entry)) (now (names .entry)) (now (marks .entry)) (now (eqs .entry)) s (now (calls .exit)) (now (names .exit)) (now (marks .exit)) (now (eqs .exit)) r) ⌝ }
+{
+    let eq = steps::replace_net(table, calls, names, marks, s.counts, from_net, to_net);
+    push(eqs, s.obligations, eq)
+}
+
+fn replace_void_net(
+    table: &[u32],
+    calls: &mut [u32],
+    names: &mut [u32],
+    marks: &mut [u8],
+    s: Walked,
+    from_net: Net,
+    to_net: Net,
+) -> Walked
+    ensures { λ r. ⌜ ((eqs : List ℕ) → «from_net» .0 < 2 ^ 29 → «to_net» .0 < 2 ^ 29 → Does (asserted (replaceVoidNet (pastIn (now (table .entry))) (netOf («from_net» .0)) (netOf («to_net» .0))) ∷ [])
+        (now (calls .entry)) (now (names .entry)) (now (marks .entry)) eqs s (now (calls .exit)) (now (names .exit)) (now (marks .exit)) eqs r) ⌝ }
+{
+    let counts = steps::replace_void_net(table, calls, names, marks, s.counts, from_net, to_net);
+    Walked {
+        counts,
+        obligations: s.obligations,
+    }
+}
+
+fn replace_dff_net(
+    calls: &mut [u32],
+    names: &mut [u32],
+    marks: &mut [u8],
+    eqs: &mut [u32],
+    s: Walked,
+    from_net: Net,
+    to_net: Net,
+) -> Walked
+    ensures { λ r. ⌜ («from_net» .0 < 2 ^ 29 → «to_net» .0 < 2 ^ 29 → Does (replaceDffNet (netOf («from_net» .0)) (netOf («to_net» .0)))
+        (now (calls .entry)) (now (names .entry)) (now (marks .entry)) (now (eqs .entry)) s (now (calls .exit)) (now (names .exit)) (now (marks .exit)) (now (eqs .exit)) r) ⌝ }
+{
+    let eq = steps::replace_dff_net(calls, names, marks, s.counts, from_net, to_net);
+    push(eqs, s.obligations, eq)
+}
+
+// A net replacement: of equal nets none, of a Void's net an assertion, of a Dff's by a Dff's an induction step before it.
+fn replace_pair(
+    table: &[u32],
+    calls: &mut [u32],
+    names: &mut [u32],
+    marks: &mut [u8],
+    eqs: &mut [u32],
+    s: Walked,
+    from_net: Net,
+    to_net: Net,
+) -> Walked
+    ensures { λ r. ⌜ («from_net» .0 < 2 ^ 29 → «to_net» .0 < 2 ^ 29
+        → Does (pairSteps (pastIn (now (table .entry))) (pairIn (now (table .entry)) («from_net» .0) («to_net» .0)) (record { from = netOf («from_net» .0); to = netOf («to_net» .0) }))
+        (now (calls .entry)) (now (names .entry)) (now (marks .entry)) (now (eqs .entry)) s (now (calls .exit)) (now (names .exit)) (now (marks .exit)) (now (eqs .exit)) r) ⌝ }
+{
+    match slots::pair_of(table, from_net, to_net) {
+        Pair::Equal => s,
+        Pair::OfVoid => replace_void_net(table, calls, names, marks, s, from_net, to_net),
+        Pair::OfDffs => {
+            let joined = replace_dff_net(calls, names, marks, eqs, s, from_net, to_net);
+            replace_net(table, calls, names, marks, eqs, joined, from_net, to_net)
+        }
+        Pair::Ordinary => replace_net(table, calls, names, marks, eqs, s, from_net, to_net),
+    }
+}
+
+// The net of the word at a place.
+fn net_at(list: &[u32], at: usize) -> Net
+    ensures { λ r. ⌜ r .0 ≡ numberIn (now (list .entry)) at ⌝ }
+{
+    Net(logic::payload(logic::word_at(list, at)))
+}
+
+// The net replacements in order, two words each, up to the last word.
+pub fn replace_pairs(
+    list: &[u32],
+    pairs: usize,
+    table: &[u32],
+    calls: &mut [u32],
+    names: &mut [u32],
+    marks: &mut [u8],
+    eqs: &mut [u32],
+    start: Walked,
+) -> Walked
+    ensures { λ r. ⌜ ((d : Design) (replacements : ℕ) → read (now (list .entry)) ≡ accepted d replacements pairs → Tells d (now (table .entry)) → Does (eachPair d (d .netReps))
+        (now (calls .entry)) (now (names .entry)) (now (marks .entry)) (now (eqs .entry)) start (now (calls .exit)) (now (names .exit)) (now (marks .exit)) (now (eqs .exit)) r) ⌝ }
+{
+    let mut s = start;
+    let mut at = pairs;
+    while at < list.len() {
+        let from_net = net_at(list, at);
+        let to_net = net_at(list, at + 1);
+        s = replace_pair(table, calls, names, marks, eqs, s, from_net, to_net);
+        at += 2;
+    }
+    s
+}
