@@ -1,2 +1,3 @@
 -- Laws of the code of the order of work.
 pub mod Passed
+pub mod Verifies

@@ -17,3 +17,4 @@ pub mod Required
 pub mod Marks
 pub mod Answered
 pub mod Passes
+pub mod Verifies
