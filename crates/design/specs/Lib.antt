@@ -18,3 +18,4 @@ pub mod Marks
 pub mod Answered
 pub mod Passes
 pub mod Verifies
+pub mod Said
