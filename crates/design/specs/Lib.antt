@@ -17,3 +17,5 @@ pub mod Required
 pub mod Marks
 pub mod Answered
 pub mod Passes
+pub mod Verifies
+pub mod Said

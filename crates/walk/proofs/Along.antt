@@ -80,4 +80,5 @@ works w {d} accepts {eqs = eqs} cells pairs =
       terms = whole .terms;
       did = whole .did;
       first = λ room. kept-first (whole .kept (omega arith)) (omega arith);
+      few = λ room. let kept = whole .kept (omega arith) .many in omega arith;
     }

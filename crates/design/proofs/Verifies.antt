@@ -1,0 +1,233 @@
+-- What the functions of the order of work leave, from what they call: a pass from the walk and check; the answer from two passes; and an accepted
+-- list with its table from `slot_table`. Assumes nothing.
+use mathlib.Core.Path.{_≡_, refl, sym, ap, subst, _∙_}
+use mathlib.Core.List.{List, [], _∷_, _++_}
+use Prim.Native.Nat.{ℕ, zero, suc, _+_, _*_, _-_, _≤_, _<_, _^_}
+use native.Mathlib.Omega.{arith}
+use native.Mathlib.Nat.{zero-add, le-of-suc-le-suc}
+use lib.ListN.{length, take, drop, replicate, length-take}
+use lib.Seq.{sets, sets-eq}
+use borrow.Author.Tests.{le-ltb}
+use Rattle.logic.specs.declared.Fault.{Fault}
+use Rattle.cell.specs.Design.{Design, total}
+use Rattle.engine.specs.Encode.{encode}
+use Rattle.engine.specs.Emit.{overwrite}
+use Rattle.builder.specs.declared.Counts.{Counts}
+use Rattle.steps.specs.Did.{Asks}
+use Rattle.design_list.specs.declared.Extent.{Extent}
+use Rattle.design_list.specs.declared.SlotTable.{SlotTable}
+use Rattle.design_list.specs.declared.SlotTable.the-variants as T
+use Rattle.design_list.specs.Read.{Read, refused, accepted, read, answer}
+use Rattle.design_list.specs.Accepted.{accepted-read}
+use Rattle.design_list.specs.Table.{Tabled, tableAnswer, tableAfter}
+use Rattle.order.specs.Verify.{built, verify}
+use Rattle.slots.specs.Tells.{Tells}
+use Rattle.slots.proofs.Laws.{table-tells}
+use Rattle.net_pairs.specs.declared.Walked.{Walked}
+use Rattle.walk.specs.Works.{Works}
+use Rattle.design.specs.declared.Tally.{Tally}
+use Rattle.design.specs.declared.Verified.the-variants.{Refused, NothingAsked, Asked}
+use Rattle.design.specs.Verified.{told, verified, over, callWords, marks, writtenMarks}
+use Rattle.design.specs.Answered.{refused-as-read, answered, short-of-words, short-of-marks, untouched, slices-after}
+use Rattle.design.specs.Required.{words-are}
+use Rattle.design.specs.Passes.{nothing}
+use Rattle.design.specs.Verifies.{Ready, toldBy, Passes, Verifies}
+use Rattle.design.proofs.Passed.{passed}
+
+-- ---- lists of zeros
+
+take-replicate : (n m v : ℕ) → n ≤ m → take n (replicate m v) ≡ replicate n v
+take-replicate zero m v h = refl
+take-replicate (suc n) zero v h = absurd (omega arith)
+take-replicate (suc n) (suc m) v h = ap (λ (l : List ℕ). v ∷ l) (take-replicate n m v (le-of-suc-le-suc h))
+
+pub length-replicate : (n v : ℕ) → length (replicate n v) ≡ n
+length-replicate zero v = refl
+length-replicate (suc n) v = ap suc (length-replicate n v)
+
+pub part-count : (n m v : ℕ) → n ≤ m → n ≡ length (take n (replicate m v))
+part-count n m v h = sym (ap length (take-replicate n m v h) ∙ length-replicate n v)
+
+pub part-zeros : (n m : ℕ) → n ≤ m → take {A = ℕ} n (replicate m 0) ≡ replicate n 0
+part-zeros n m h = take-replicate n m 0 h
+
+pub taken-count : (n : ℕ) (l : List ℕ) → n ≤ length l → n ≡ length (take n l)
+taken-count n l h = let e = length-take n l in omega arith
+
+append-none : (l : List ℕ) → l ++ [] ≡ l
+append-none [] = refl
+append-none (x ∷ l) = ap (λ (m : List ℕ). x ∷ m) (append-none l)
+
+drop-all : (l : List ℕ) (n : ℕ) → n ≡ length l → drop n l ≡ []
+drop-all [] n h = rw h
+drop-all (x ∷ l) zero h = absurd (omega arith)
+drop-all (x ∷ l) (suc n) h = drop-all l n (omega arith)
+
+-- Zeros stored in the whole of a list.
+pub all-zeros : (l : List ℕ) → sets l 0 (replicate (length l - 0) 0) ≡ replicate (length l) 0
+all-zeros l =
+    let zeros : List ℕ = replicate (length l) 0 in
+    let many : length zeros ≡ length l = length-replicate (length l) 0 in
+    let whole : length l - 0 ≡ length l = omega arith in
+    let none : drop (0 + length zeros) l ≡ [] = drop-all l (0 + length zeros) (omega arith) in
+    ap (λ (n : ℕ). sets l 0 (replicate n 0)) whole ∙ sets-eq zeros l 0 (omega arith) ∙ ap (λ (m : List ℕ). zeros ++ m) none ∙ append-none zeros
+
+-- ---- a pass
+
+told-as : (k : ℕ) (l : List ℕ) (n : Counts) → k ≡ length l → toldBy k n ≡ told l n
+told-as zero [] n h = refl
+told-as zero (o ∷ l) n h = absurd (omega arith)
+told-as (suc k) [] n h = absurd (omega arith)
+told-as (suc k) (o ∷ l) n h = refl
+
+pub told-none : (k : ℕ) (n : Counts) → k ≡ 0 → NothingAsked n ≡ toldBy k n
+told-none k n h = rw h
+
+pub told-some : (k : ℕ) (n : Counts) → (k ≡ 0 → ⊥) → Asked n ≡ toldBy k n
+told-some zero n h = absurd (h refl)
+told-some (suc k) n h = refl
+
+module _ {w : List ℕ} {x : Extent} {table : List ℕ} (ready : Ready w x table) where
+  pub table-low : length table ≤ 4096
+  table-low = let low = accepted-read w (ready .is) .low in let size = ready .size in omega arith
+
+  pub few-obligations : {calls names marks calls₁ names₁ marks₁ eqs₁ : List ℕ} {c : Counts} {s : Walked}
+      → Works (ready .d) calls names marks (replicate 12288 0) c calls₁ names₁ marks₁ eqs₁ s → s .obligations ≤ 12288
+  few-obligations works = works .few (let e = length-replicate 12288 0 in omega arith)
+
+  pub obligations-fit : {calls names marks calls₁ names₁ marks₁ eqs₁ : List ℕ} {c : Counts} {s : Walked}
+      → Works (ready .d) calls names marks (replicate 12288 0) c calls₁ names₁ marks₁ eqs₁ s → length eqs₁ ≡ length {A = ℕ} (replicate 12288 0)
+      → s .obligations ≤ length eqs₁
+  obligations-fit works long = let few = few-obligations works in let e = length-replicate 12288 0 in omega arith
+
+  pub passes : {calls marks calls₁ names₁ marks₁ eqs₁ calls₂ : List ℕ} {s : Walked} {c₂ : Counts} → length calls < 2 ^ 64
+      → marks ≡ replicate (length table) 0
+      → Works (ready .d) calls (take (4 * length table) (replicate 16384 0)) marks (replicate 12288 0) nothing calls₁ names₁ marks₁ eqs₁ s
+      → length eqs₁ ≡ length {A = ℕ} (replicate 12288 0) → Asks (take (s .obligations) eqs₁) calls₁ (s .counts) calls₂ c₂
+      → Passes (ready .d) calls calls₂ marks₁ (record { counts = c₂; obligations = s .obligations })
+  passes {eqs₁ = eqs₁} {s = s} short none works long asks =
+      let low = table-low in
+      let named = take-replicate (4 * length table) 16384 0 (omega arith) in
+      let first = works .first (let e = length-replicate 12288 0 in omega arith) in
+      let fit = obligations-fit works long in
+      let did = rw (named, none, ready .size, ← first) at (works .did) in
+      let all = passed w (ready .is) short did asks in
+      record {
+        wrote = all .wrote;
+        counts = all .counts;
+        marks = all .marks;
+        asked = λ n. told-as (s .obligations) (take (s .obligations) eqs₁) n (taken-count (s .obligations) eqs₁ fit) ∙ ap (λ (l : List ℕ). told l n) (all .asked);
+      }
+
+  pub room-is : {calls calls′ marks′ : List ℕ} {p : Tally} → Passes (ready .d) calls calls′ marks′ p
+      → p .counts .words ≡ length (encode (verify (ready .d)))
+  room-is passes = ap (λ (c : Counts). c .words) (passes .counts)
+
+-- ---- the answer
+
+refuses : (w calls recorded : List ℕ) {e : Fault} → verified w (length calls) (length recorded) ≡ Refused e
+    → Verifies w calls recorded calls recorded (Refused e)
+refuses w calls recorded h =
+    let same = untouched w calls recorded h in record { answer = sym h; called = sym (same .0); marked = sym (same .1) }
+
+module _ {w : List ℕ} {x : Extent} {table : List ℕ} (ready : Ready w x table) (calls recorded : List ℕ) {words : ℕ}
+    (room : words ≡ length (encode (verify (ready .d)))) where
+  needs-words : words ≡ length (callWords w)
+  needs-words = room ∙ ap length (sym (words-are w (ready .is)))
+
+  pub short-calls : length calls < words → Verifies w calls recorded calls recorded (Refused (record { number = 14; place = words }))
+  short-calls short =
+      let need = needs-words in
+      refuses w calls recorded (short-of-words w (ready .is) (length calls) (length recorded) (omega arith) ∙ rw need)
+
+  pub short-marks : words ≤ length calls → length recorded < length table
+      → Verifies w calls recorded calls recorded (Refused (record { number = 14; place = length table }))
+  short-marks enough short =
+      let need = needs-words in
+      let size = ready .size in
+      refuses w calls recorded (short-of-marks w (ready .is) (length calls) (length recorded) (omega arith) (omega arith) ∙ rw size)
+
+  pub both-fit : {calls′ marks′ : List ℕ} {p : Tally} → words ≤ length calls → length table ≤ length recorded → length marks′ ≡ length table
+      → Passes (ready .d) calls calls′ marks′ p
+      → Verifies w calls recorded calls′ (marks′ ++ drop (length table) recorded) (toldBy (p .obligations) (p .counts))
+  unfolding overwrite marks
+  both-fit {calls′} {marks′} {p} enough lent kept passes =
+      let need = needs-words in
+      let size = ready .size in
+      let is = ready .is in
+      let all : List ℕ = encode (verify (ready .d)) in
+      let after = slices-after w calls recorded is (omega arith) (omega arith) in
+      let said = answered w is (length calls) (length recorded) (omega arith) (omega arith) in
+      let wrote : calls′ ≡ over all calls = passes .wrote .words ∙ sets-eq all calls 0 (omega arith) ∙ rw (zero-add (length all)) in
+      let marked : marks′ ≡ marks w = passes .marks ∙ sym (ap writtenMarks is) in
+      record {
+        answer = passes .asked (p .counts) ∙ ap (told ((built (ready .d)) .res)) (passes .counts) ∙ sym said;
+        called = wrote ∙ ap (λ (l : List ℕ). over l calls) (sym (words-are w is)) ∙ sym (after .0);
+        marked = rw (← kept) (ap (λ (l : List ℕ). over l recorded) marked) ∙ sym (after .1);
+      }
+
+-- ---- the list and its table
+
+record Reads (w : List ℕ) (x : Extent) : Type 0 where
+  d : Design
+  is : read w ≡ accepted d (x .replacements) (x .pairs)
+  slots : x .base + x .added ≡ total d
+
+module _ (w : List ℕ) {before after : List ℕ} {a : SlotTable} (long : length before ≡ 4096) (tabled : Tabled (read w) before after a) where
+  reads : {x : Extent} → a ≡ T.Filled x → Reads w x
+  reads {x} filled = go (read w) refl (sym (tabled .same) ∙ filled)
+    where
+      go : (r : Read) → read w ≡ r → tableAnswer (answer r) (length before) ≡ T.Filled x → Reads w x
+      go (refused e) is same = let z : _≡_ {A = ℕ} 0 1 = cc in absurd (omega arith)
+      go (accepted d reps pairs) is same =
+          let low = accepted-read w is .low in
+          let filled = rw (le-ltb (length before) (total d) (omega arith)) at same in
+          let same-x : record {
+            base = d .base;
+            added = d .added;
+            cells = length (d .cells);
+            cellreps = length (d .cellReps);
+            netreps = length (d .netReps);
+            replacements = reps;
+            pairs = pairs;
+          } ≡ x = cc in
+          record {
+            d = d;
+            is = rw (← same-x) is;
+            slots = rw (← same-x) refl;
+          }
+
+  pub slots-low : {x : Extent} → a ≡ T.Filled x → x .base + x .added ≤ 4096
+  slots-low filled =
+      let known = reads filled in
+      let low = accepted-read w (known .is) .low in
+      let same = known .slots in
+      omega arith
+
+  pub ready-of : {x : Extent} → a ≡ T.Filled x → length after ≡ 4096 → Ready w x (take (x .base + x .added) after)
+  ready-of {x} filled kept =
+      let known = reads filled in
+      let low = slots-low filled in
+      let same = known .slots in
+      let count = taken-count (x .base + x .added) after (omega arith) in
+      let words : take (total (known .d)) (tableAfter (read w) before) ≡ take (x .base + x .added) after =
+      ap (λ (l : List ℕ). take (total (known .d)) l) (sym (tabled .slice)) ∙ ap (λ (n : ℕ). take n after) (sym same) in
+      let tells = subst (Tells (known .d)) words (table-tells w (known .is) before (omega arith)) in
+      record {
+        d = known .d;
+        is = known .is;
+        tells = tells;
+        size = sym count ∙ same;
+      }
+
+  pub refused-of : {e : Fault} (calls recorded : List ℕ) → a ≡ T.Refused e → Verifies w calls recorded calls recorded (Refused e)
+  refused-of {e} calls recorded refuse = go (read w) refl (sym (tabled .same) ∙ refuse)
+    where
+      go : (r : Read) → read w ≡ r → tableAnswer (answer r) (length before) ≡ T.Refused e → Verifies w calls recorded calls recorded (Refused e)
+      go (refused f) is same =
+          let same-e : f ≡ e = cc in
+          refuses w calls recorded (refused-as-read w (rw (← same-e) is) (length calls) (length recorded))
+      go (accepted d reps pairs) is same =
+          let low = accepted-read w is .low in
+          let filled = rw (le-ltb (length before) (total d) (omega arith)) at same in
+          let z : _≡_ {A = ℕ} 0 1 = cc in absurd (omega arith)

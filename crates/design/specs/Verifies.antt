@@ -1,0 +1,40 @@
+-- What the code of the order of work is given and what it leaves: `verify` is to answer `verified`, and to leave the two slices as it says.
+use mathlib.Core.Path.{_≡_}
+use mathlib.Core.List.{List}
+use Prim.Native.Nat.{ℕ, zero, suc}
+use lib.ListN.{length}
+use Rattle.cell.specs.Design.{Design, total}
+use Rattle.engine.specs.Encode.{encode}
+use Rattle.engine.specs.Emit.{Wrote}
+use Rattle.design_list.specs.declared.Extent.{Extent}
+use Rattle.design_list.specs.Read.{accepted, read}
+use Rattle.order.specs.Verify.{built, verify}
+use Rattle.builder.specs.declared.Counts.{Counts}
+use Rattle.slots.specs.Tells.{Tells}
+use Rattle.design.specs.declared.Tally.{Tally}
+use Rattle.design.specs.declared.Verified.{Verified}
+use Rattle.design.specs.declared.Verified.the-variants.{NothingAsked, Asked}
+use Rattle.design.specs.Verified.{counted, told, verified, callsAfter, recordedAfter}
+
+-- An accepted list with the table of its slots.
+pub record Ready (w : List ℕ) (x : Extent) (table : List ℕ) : Type 0 where
+  pub d : Design
+  pub is : read w ≡ accepted d (x .replacements) (x .pairs)
+  pub tells : Tells d table
+  pub size : length table ≡ total d
+
+-- The answer of a pass, by its number of obligations.
+abbrev pub toldBy : ℕ → Counts → Verified
+toldBy zero n = NothingAsked n
+toldBy (suc k) n = Asked n
+
+pub record Passes (d : Design) (calls calls′ marks′ : List ℕ) (p : Tally) : Type 0 where
+  pub wrote : Wrote calls 0 (encode (verify d)) calls′ (p .counts .words)
+  pub counts : p .counts ≡ counted (verify d)
+  pub marks : marks′ ≡ (built d) .st .marks
+  pub asked : (n : Counts) → toldBy (p .obligations) n ≡ told ((built d) .res) n
+
+pub record Verifies (w calls recorded calls′ recorded′ : List ℕ) (r : Verified) : Type 0 where
+  pub answer : r ≡ verified w (length calls) (length recorded)
+  pub called : calls′ ≡ callsAfter w calls recorded
+  pub marked : recorded′ ≡ recordedAfter w calls recorded
