@@ -26,7 +26,8 @@ struct Tally {
 // The steps of an accepted list and `check`, from no names and no marks.
 fn pass(list: &[u32], x: Extent, table: &[u32], calls: &mut [u32], marks: &mut [u8]) -> Tally
     requires { ⌜ Ready (now list) x (now table) × (now marks ≡ replicate (length (now table)) 0) ⌝ }
-    ensures { λ r. ⌜ ((ready : Ready (now (list .entry)) x (now (table .entry))) → Passes (ready .d) (now (calls .entry)) (now (calls .exit)) (now (marks .exit)) r) ⌝ }
+    ensures { λ r. ⌜ ((ready : Ready (now (list .entry)) x (now (table .entry))) → Passes (ready .d)
+        (now (calls .entry)) (now (calls .exit)) (now (marks .exit)) r) ⌝ }
 {
     let mut names = [0u32; 16384];
     let mut eqs = [0u32; 12288];
@@ -60,7 +61,8 @@ fn pass(list: &[u32], x: Extent, table: &[u32], calls: &mut [u32], marks: &mut [
 // The words that the calls of an accepted list take: a pass that writes nowhere.
 fn room(list: &[u32], x: Extent, table: &[u32]) -> usize
     requires { ⌜ Ready (now list) x (now table) ⌝ }
-    ensures { λ r. ⌜ ((ready : Ready (now (list .entry)) x (now (table .entry))) → r ≡ length (encode (verify (ready .d)))) ⌝ }
+    ensures { λ r. ⌜ ((ready : Ready (now (list .entry)) x (now (table .entry)))
+        → r ≡ length (encode (verify (ready .d)))) ⌝ }
 {
     let mut none = [0u32; 1];
     let mut marks = [0u8; 4096];
@@ -100,7 +102,8 @@ fn verify_read(
     recorded: &mut [u8],
 ) -> Verified
     requires { ⌜ Ready (now list) x (now table) ⌝ }
-    ensures { λ r. ⌜ Verifies (now (list .entry)) (now (calls .entry)) (now (recorded .entry)) (now (calls .exit)) (now (recorded .exit)) r ⌝ }
+    ensures { λ r. ⌜ Verifies (now (list .entry)) (now (calls .entry)) (now (recorded .entry))
+        (now (calls .exit)) (now (recorded .exit)) r ⌝ }
 {
     let words = room(list, x, table);
     if calls.len() < words {
@@ -124,7 +127,8 @@ fn verify_read(
 // `Design::verify` of a list of words: its answer, the call words in the first slice, and the marks of the slots recorded in the second. A refusal
 // leaves both as they were.
 pub fn verify(list: &[u32], calls: &mut [u32], recorded: &mut [u8]) -> Verified
-    ensures { λ r. ⌜ Verifies (now (list .entry)) (now (calls .entry)) (now (recorded .entry)) (now (calls .exit)) (now (recorded .exit)) r ⌝ }
+    ensures { λ r. ⌜ Verifies (now (list .entry)) (now (calls .entry)) (now (recorded .entry))
+        (now (calls .exit)) (now (recorded .exit)) r ⌝ }
 {
     let mut table = [0u32; 4096];
     match design_list::slot_table(list, &mut table) {
