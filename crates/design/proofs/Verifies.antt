@@ -1,11 +1,11 @@
 -- What the functions of the order of work leave, from what they call: a pass from the walk and check; the answer from two passes; and an accepted
 -- list with its table from `slot_table`. Assumes nothing.
 use mathlib.Core.Path.{_≡_, refl, sym, ap, subst, _∙_}
-use mathlib.Core.List.{List, [], _∷_, _++_}
+use mathlib.Core.List.{List, [], _∷_, _++_, append-nil}
 use Prim.Native.Nat.{ℕ, zero, suc, _+_, _*_, _-_, _≤_, _<_, _^_}
 use native.Mathlib.Omega.{arith}
 use native.Mathlib.Nat.{zero-add, le-of-suc-le-suc}
-use lib.ListN.{length, take, drop, replicate, length-take}
+use lib.ListN.{length, take, drop, replicate, length-take, length-replicate}
 use lib.Seq.{sets, sets-eq}
 use borrow.Author.Tests.{le-ltb}
 use Rattle.logic.specs.declared.Fault.{Fault}
@@ -41,22 +41,14 @@ take-replicate zero m v h = refl
 take-replicate (suc n) zero v h = absurd (omega arith)
 take-replicate (suc n) (suc m) v h = ap (λ (l : List ℕ). v ∷ l) (take-replicate n m v (le-of-suc-le-suc h))
 
-pub length-replicate : (n v : ℕ) → length (replicate n v) ≡ n
-length-replicate zero v = refl
-length-replicate (suc n) v = ap suc (length-replicate n v)
-
 pub part-count : (n m v : ℕ) → n ≤ m → n ≡ length (take n (replicate m v))
-part-count n m v h = sym (ap length (take-replicate n m v h) ∙ length-replicate n v)
+part-count n m v h = sym (ap length (take-replicate n m v h) ∙ length-replicate {A = ℕ} n v)
 
 pub part-zeros : (n m : ℕ) → n ≤ m → take {A = ℕ} n (replicate m 0) ≡ replicate n 0
 part-zeros n m h = take-replicate n m 0 h
 
 pub taken-count : (n : ℕ) (l : List ℕ) → n ≤ length l → n ≡ length (take n l)
 taken-count n l h = let e = length-take n l in omega arith
-
-append-none : (l : List ℕ) → l ++ [] ≡ l
-append-none [] = refl
-append-none (x ∷ l) = ap (λ (m : List ℕ). x ∷ m) (append-none l)
 
 drop-all : (l : List ℕ) (n : ℕ) → n ≡ length l → drop n l ≡ []
 drop-all [] n h = rw h
@@ -67,10 +59,10 @@ drop-all (x ∷ l) (suc n) h = drop-all l n (omega arith)
 pub all-zeros : (l : List ℕ) → sets l 0 (replicate (length l - 0) 0) ≡ replicate (length l) 0
 all-zeros l =
     let zeros : List ℕ = replicate (length l) 0 in
-    let many : length zeros ≡ length l = length-replicate (length l) 0 in
+    let many : length zeros ≡ length l = length-replicate {A = ℕ} (length l) 0 in
     let whole : length l - 0 ≡ length l = omega arith in
     let none : drop (0 + length zeros) l ≡ [] = drop-all l (0 + length zeros) (omega arith) in
-    ap (λ (n : ℕ). sets l 0 (replicate n 0)) whole ∙ sets-eq zeros l 0 (omega arith) ∙ ap (λ (m : List ℕ). zeros ++ m) none ∙ append-none zeros
+    ap (λ (n : ℕ). sets l 0 (replicate n 0)) whole ∙ sets-eq zeros l 0 (omega arith) ∙ ap (λ (m : List ℕ). zeros ++ m) none ∙ append-nil zeros
 
 -- ---- a pass
 
@@ -93,12 +85,12 @@ module _ {w : List ℕ} {x : Extent} {table : List ℕ} (ready : Ready w x table
 
   pub few-obligations : {calls names marks calls₁ names₁ marks₁ eqs₁ : List ℕ} {c : Counts} {s : Walked}
       → Works (ready .d) calls names marks (replicate 12288 0) c calls₁ names₁ marks₁ eqs₁ s → s .obligations ≤ 12288
-  few-obligations works = works .few (let e = length-replicate 12288 0 in omega arith)
+  few-obligations works = works .few (let e = length-replicate {A = ℕ} 12288 0 in omega arith)
 
   pub obligations-fit : {calls names marks calls₁ names₁ marks₁ eqs₁ : List ℕ} {c : Counts} {s : Walked}
       → Works (ready .d) calls names marks (replicate 12288 0) c calls₁ names₁ marks₁ eqs₁ s → length eqs₁ ≡ length {A = ℕ} (replicate 12288 0)
       → s .obligations ≤ length eqs₁
-  obligations-fit works long = let few = few-obligations works in let e = length-replicate 12288 0 in omega arith
+  obligations-fit works long = let few = few-obligations works in let e = length-replicate {A = ℕ} 12288 0 in omega arith
 
   pub passes : {calls marks calls₁ names₁ marks₁ eqs₁ calls₂ : List ℕ} {s : Walked} {c₂ : Counts} → length calls < 2 ^ 64
       → marks ≡ replicate (length table) 0
@@ -108,7 +100,7 @@ module _ {w : List ℕ} {x : Extent} {table : List ℕ} (ready : Ready w x table
   passes {eqs₁ = eqs₁} {s = s} short none works long asks =
       let low = table-low in
       let named = take-replicate (4 * length table) 16384 0 (omega arith) in
-      let first = works .first (let e = length-replicate 12288 0 in omega arith) in
+      let first = works .first (let e = length-replicate {A = ℕ} 12288 0 in omega arith) in
       let fit = obligations-fit works long in
       let did = rw (named, none, ready .size, ← first) at (works .did) in
       let all = passed w (ready .is) short did asks in

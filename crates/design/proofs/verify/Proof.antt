@@ -2,7 +2,9 @@
 use borrow.Author.Needs.{needs}
 use mathlib.Core.Path.{_∙_}
 use native.Mathlib.Omega.{arith}
-use Rattle.design.proofs.Verifies.{length-replicate, taken-count, slots-low, ready-of, refused-of}
+use Prim.Native.Nat.{ℕ}
+use lib.ListN.{length-replicate}
+use Rattle.design.proofs.Verifies.{taken-count, slots-low, ready-of, refused-of}
 use Rattle.design.proofs.verify.Statement.{statement}
 use Rattle.design.proofs.verify.Tie as tie
 
@@ -10,7 +12,7 @@ add-slots : tie.Need-add-slots
 add-slots c =
     let filled = c .before .before in
     let tabled = filled .before .before .before in
-    omega (arith, slots-low _ (length-replicate 4096 0) (tabled .slot-table .ensures) (filled .x .given .1))
+    omega (arith, slots-low _ (length-replicate {A = ℕ} 4096 0) (tabled .slot-table .ensures) (filled .x .given .1))
 
 slots-fit : tie.Need-array-share-prefix-table
 slots-fit c =
@@ -18,8 +20,8 @@ slots-fit c =
     let tabled = filled .before .before .before in
     omega (
       arith,
-      slots-low _ (length-replicate 4096 0) (tabled .slot-table .ensures) (filled .x .given .1),
-      tabled .slot-table .kept .1 .0 ∙ length-replicate 4096 0,
+      slots-low _ (length-replicate {A = ℕ} 4096 0) (tabled .slot-table .ensures) (filled .x .given .1),
+      tabled .slot-table .kept .1 .0 ∙ length-replicate {A = ℕ} 4096 0,
     )
 
 slots-count : tie.Need-slice-aggregate-verify-read
@@ -29,22 +31,22 @@ slots-count c =
     taken-count _ _
     (omega (
       arith,
-      slots-low _ (length-replicate 4096 0) (tabled .slot-table .ensures) (filled .x .given .1),
-      tabled .slot-table .kept .1 .0 ∙ length-replicate 4096 0,
+      slots-low _ (length-replicate {A = ℕ} 4096 0) (tabled .slot-table .ensures) (filled .x .given .1),
+      tabled .slot-table .kept .1 .0 ∙ length-replicate {A = ℕ} 4096 0,
     ))
 
 verify-read-requires : tie.Need-verify-read-requires
 verify-read-requires c κs =
     let filled = c .before .before .before .before .before in
     let tabled = filled .before .before .before in
-    ready-of _ (length-replicate 4096 0) (tabled .slot-table .ensures) (filled .x .given .1) (tabled .slot-table .kept .1 .0 ∙ length-replicate 4096 0)
+    ready-of _ (length-replicate {A = ℕ} 4096 0) (tabled .slot-table .ensures) (filled .x .given .1) (tabled .slot-table .kept .1 .0 ∙ length-replicate {A = ℕ} 4096 0)
 
 returns : tie.Need-returns
 returns c =
     let refused = c .before in
     let tabled = refused .before .before .before in
     let start = tabled .before .before .before .before .before in
-    refused-of _ (length-replicate 4096 0) (tabled .slot-table .ensures) (start .args .calls .now) (start .args .recorded .now) (refused .f .given .1)
+    refused-of _ (length-replicate {A = ℕ} 4096 0) (tabled .slot-table .ensures) (start .args .calls .now) (start .args .recorded .now) (refused .f .given .1)
 
 pub verify-spec : {M : Type 1} → statement M
 verify-spec =
