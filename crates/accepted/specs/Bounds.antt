@@ -8,7 +8,7 @@ use Rattle.cell.specs.Design.{Placed, NetPair, Design, total}
 use Rattle.cell.specs.declared.Operation.{Operation}
 use Rattle.cell_reader.specs.Parse.{cellAt}
 use Rattle.cell_reader.specs.Accepted.{IsRecord}
-use Rattle.design_list.specs.Cover.{Walk, done, placed}
+use Rattle.placing.specs.Cover.{Walk, done, placed}
 use Rattle.design_list.specs.Read.{read, accepted}
 use Rattle.design_list.specs.Accepted.{accepted-read}
 use Rattle.bound.specs.Costs.{sumBy, sum-each}

@@ -19,12 +19,12 @@ use Rattle.cell_reader.specs.Parse as Parse
 use Rattle.cell_reader.specs.Parse.{numberIn, opAt, cellAt}
 use Rattle.cell_reader.specs.Accepted.{IsRecord}
 use Rattle.fields.specs.declared.Scan.the-variants as S
-use Rattle.design_list.specs.Voids.{voidsAt}
-use Rattle.design_list.specs.Slots as Slots
-use Rattle.design_list.specs.Slots.{covering, nowhere, takes, heads}
-use Rattle.design_list.specs.Items.{newCell, netPair, replacementAt, pairAt}
-use Rattle.design_list.specs.Laws.{IsPlaced}
-use Rattle.design_list.specs.Cover.{Walk, done, placed, walk-cells}
+use Rattle.voids.specs.Voids.{voidsAt}
+use Rattle.placing.specs.Slots as Slots
+use Rattle.placing.specs.Slots.{covering, nowhere, takes, heads}
+use Rattle.items.specs.Items.{newCell, netPair, replacementAt, pairAt}
+use Rattle.placing.specs.Laws.{IsPlaced}
+use Rattle.placing.specs.Cover.{Walk, done, placed, walk-cells}
 use Rattle.design_list.specs.Read.{read, accepted}
 use Rattle.design_list.specs.Accepted.{IsAccepted, accepted-read}
 use Rattle.working_out.specs.Reading.{Each, each-map, isIn, cellIn, cellOf, role, isVoid}

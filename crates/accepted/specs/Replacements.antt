@@ -21,9 +21,9 @@ use Rattle.cell_reader.specs.declared.Record.the-variants as R
 use Rattle.cell_reader.specs.Record.{recordAt}
 use Rattle.cell_reader.specs.Parse.{numberIn, netIn}
 use Rattle.cell_reader.specs.Accepted.{IsRecord, record-read}
-use Rattle.design_list.specs.Step.{Step}
-use Rattle.design_list.specs.Step as T
-use Rattle.design_list.specs.Items.{push, onStep, ascending, listedNumberAt, listedNetAt, onSlot, onNewCell, replaces, replacementAt, onNet, pairAt}
+use Rattle.items.specs.Step.{Step}
+use Rattle.items.specs.Step as T
+use Rattle.items.specs.Items.{push, onStep, ascending, listedNumberAt, listedNetAt, onSlot, onNewCell, replaces, replacementAt, onNet, pairAt}
 use Rattle.working_out.specs.Reading.{Each, each-map}
 use Rattle.working_out.specs.Laid.{Ascending}
 use Rattle.bound.specs.Costs.{sumBy}

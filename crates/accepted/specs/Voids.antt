@@ -22,13 +22,13 @@ use Rattle.fields.specs.Field.{fault, scanMany}
 use Rattle.fields.specs.Accepted.{many-read, both-read}
 use Rattle.cell_reader.specs.Parse.{numberIn, netIn, cellIn, opAt, endAt, cellAt}
 use Rattle.cell_reader.specs.Accepted.{IsLeading, IsRecord}
-use Rattle.design_list.specs.Slots.{takes}
-use Rattle.design_list.specs.Slots as Slots
-use Rattle.design_list.specs.Items.{newCell}
-use Rattle.design_list.specs.Voids.{voidDriver, namesVoid, offends, voidAt, clockAt, recordVoidsAt, replacementVoidsAt, pairVoidsAt, itemVoidsAt, voidsAt}
-use Rattle.design_list.specs.declared.Item.the-variants as I
-use Rattle.design_list.specs.Cover as Cover
-use Rattle.design_list.specs.Cover.{Walk, placed}
+use Rattle.placing.specs.Slots.{takes}
+use Rattle.placing.specs.Slots as Slots
+use Rattle.items.specs.Items.{newCell}
+use Rattle.voids.specs.Voids.{voidDriver, namesVoid, offends, voidAt, clockAt, recordVoidsAt, replacementVoidsAt, pairVoidsAt, itemVoidsAt, voidsAt}
+use Rattle.voids.specs.declared.Item.the-variants as I
+use Rattle.placing.specs.Cover as Cover
+use Rattle.placing.specs.Cover.{Walk, placed}
 use Rattle.design_list.specs.Read.{read, accepted}
 use Rattle.design_list.specs.Accepted.{accepted-read}
 use Rattle.working_out.specs.Reading.{Each, each-map, cellOf, role, isVoid}

@@ -10,9 +10,10 @@ use Rattle.fields.specs.Head as head
 use Rattle.fields.specs.Pattern as pattern
 use Rattle.cell_reader.specs.Parse as parse
 use Rattle.cell_reader.specs.Record as body
-use Rattle.design_list.specs.Items as items
-use Rattle.design_list.specs.Slots as slots
-use Rattle.design_list.specs.Voids as voids
+use Rattle.items.specs.Items as items
+use Rattle.placing.specs.Cells as cells
+use Rattle.placing.specs.Slots as slots
+use Rattle.voids.specs.Voids as voids
 use Rattle.design_list.specs.Read as reader
 use Rattle.engine.specs.Encode as encode
 use Rattle.smt.specs.Builder as builder
@@ -30,7 +31,7 @@ pub equal : map answered rows ≡ rows
 unfolding digits.span digits.climb digits.size table.tab bits.bv2nat bits.nat2bv field.numberAt field.netAt field.bitAt field.constantAt field.scanMany
     field.endsAt head.recordOf head.headAt pattern.alternateAt pattern.patternAt pattern.patternsAt parse.patternsIn
     parse.cellAt body.thirdAt body.secondAt body.firstAt body.leadingAt body.tailAt body.bodyAt body.contentsAt
-    body.recordAt items.countsAt items.headerAt items.placedAt items.cellsFrom items.cellsOf items.listedNumberAt
+    body.recordAt items.countsAt items.headerAt cells.placedAt cells.cellsFrom cells.cellsOf items.listedNumberAt
     items.listedNetAt items.replaces items.replacementAt items.ascending items.pairAt items.finishAt slots.covering
     slots.heads slots.isVoid voids.namesVoid voids.offends voids.voidAt voids.clockAt voids.recordVoidsAt
     voids.replacementVoidsAt voids.pairVoidsAt voids.voidsAt reader.readNetReps reader.readCellReps reader.readCells

@@ -11,14 +11,15 @@ use Rattle.cell.specs.Design.{Placed, Design, total}
 use Rattle.fields.specs.declared.Scan.{Scan}
 use Rattle.fields.specs.declared.Scan.the-variants as S
 use Rattle.fields.specs.Field.{fault}
-use Rattle.design_list.specs.declared.Header.{Header}
-use Rattle.design_list.specs.declared.Opening.{Opening}
-use Rattle.design_list.specs.declared.Opening.the-variants as O
-use Rattle.design_list.specs.Slots.{heads, isVoid}
-use Rattle.design_list.specs.Items.{headerAt, cellsOf, cellRepsFrom, netRepsFrom, finishAt}
-use Rattle.design_list.specs.Voids.{voidsAt}
+use Rattle.items.specs.declared.Header.{Header}
+use Rattle.items.specs.declared.Opening.{Opening}
+use Rattle.items.specs.declared.Opening.the-variants as O
+use Rattle.placing.specs.Slots.{heads, isVoid}
+use Rattle.items.specs.Items.{headerAt, cellRepsFrom, netRepsFrom, finishAt}
+use Rattle.placing.specs.Cells.{cellsOf}
+use Rattle.voids.specs.Voids.{voidsAt}
 use Rattle.design_list.specs.Read.{Read, refused, accepted, onScan, onOpening, readNetReps, readCellReps, readCells, read}
-use Rattle.design_list.specs.Laws.{header-read}
+use Rattle.items.specs.Laws.{header-read}
 
 -- A stage was clean, and what follows it was accepted.
 record Onward (s : Scan) (f : ℕ → Read) (d : Design) (replacements pairs : ℕ) : Type 0 where

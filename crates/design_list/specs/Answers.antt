@@ -10,18 +10,20 @@ use Rattle.cell.specs.Design.{Placed}
 use Rattle.logic.specs.declared.Fault.{Fault}
 use Rattle.fields.specs.declared.Scan.{Scan}
 use Rattle.fields.specs.declared.Scan.the-variants as S
-use Rattle.design_list.specs.declared.Header.{Header}
-use Rattle.design_list.specs.declared.Cells.the-variants as C
-use Rattle.design_list.specs.Step.{Step}
-use Rattle.design_list.specs.Step as T
+use Rattle.items.specs.declared.Header.{Header}
+use Rattle.placing.specs.declared.Cells.the-variants as C
+use Rattle.items.specs.Step.{Step}
+use Rattle.items.specs.Step as T
 use Rattle.design_list.specs.declared.DesignRead.{DesignRead}
 use Rattle.design_list.specs.declared.DesignRead.the-variants as D
-use Rattle.design_list.specs.Slots.{covering, heads, isVoid, marks}
-use Rattle.design_list.specs.Items.{Reading, push, onStep, ascending, cellsOf, cellRepsFrom, netRepsFrom, finishAt}
-use Rattle.design_list.specs.Marks.{headsIn, isVoidIn, onCells, counted}
-use Rattle.design_list.specs.Voids.{voidsAt}
+use Rattle.placing.specs.Slots.{covering, heads, isVoid, marks}
+use Rattle.items.specs.Items.{Reading, push, onStep, ascending, cellRepsFrom, netRepsFrom, finishAt}
+use Rattle.placing.specs.Cells.{cellsOf, onCells, counted}
+use Rattle.items.specs.Marks.{headsIn}
+use Rattle.voids.specs.Marks.{isVoidIn}
+use Rattle.voids.specs.Voids.{voidsAt}
 use Rattle.design_list.specs.Read.{Read, onScan, readNetReps, readCellReps, readCells, answer}
-use Rattle.design_list.specs.Cover.{walk-cells, walk-total, walk-narrow, heads-same, voids-same}
+use Rattle.placing.specs.Cover.{walk-cells, walk-total, walk-narrow, heads-same, voids-same}
 
 abbrev pub onAnswer : Scan → (ℕ → DesignRead) → DesignRead
 onAnswer (S.Clean next) f = f next

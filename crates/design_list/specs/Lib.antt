@@ -1,11 +1,4 @@
-pub mod Slots
-pub mod Step
-pub mod Items
-pub mod Voids
 pub mod Read
-pub mod Marks
-pub mod Laws
-pub mod Cover
 pub mod Answers
 pub mod Accepted
 pub mod Table

@@ -11,14 +11,15 @@ use Rattle.cell.specs.Design.{Placed, NetPair, Design, total}
 use Rattle.fields.specs.declared.Scan.{Scan}
 use Rattle.fields.specs.declared.Scan.the-variants as S
 use Rattle.fields.specs.Field.{fault}
-use Rattle.design_list.specs.declared.Header.{Header}
-use Rattle.design_list.specs.declared.Opening.{Opening}
-use Rattle.design_list.specs.declared.Opening.the-variants as O
+use Rattle.items.specs.declared.Header.{Header}
+use Rattle.items.specs.declared.Opening.{Opening}
+use Rattle.items.specs.declared.Opening.the-variants as O
 use Rattle.design_list.specs.declared.DesignRead.{DesignRead}
 use Rattle.design_list.specs.declared.DesignRead.the-variants as D
-use Rattle.design_list.specs.Slots.{heads, isVoid}
-use Rattle.design_list.specs.Items.{Reading, headerAt, cellsOf, cellRepsFrom, netRepsFrom, finishAt}
-use Rattle.design_list.specs.Voids.{voidsAt}
+use Rattle.placing.specs.Slots.{heads, isVoid}
+use Rattle.items.specs.Items.{Reading, headerAt, cellRepsFrom, netRepsFrom, finishAt}
+use Rattle.placing.specs.Cells.{cellsOf}
+use Rattle.voids.specs.Voids.{voidsAt}
 
 -- A refusal, or a design with the places of its replacements.
 pub data Read : Type 0 where

@@ -15,18 +15,18 @@ use Rattle.cell.specs.Design.{Design, total}
 use Rattle.fields.specs.declared.Scan.{Scan}
 use Rattle.fields.specs.declared.Scan.the-variants as S
 use Rattle.fields.specs.Field.{fault}
-use Rattle.design_list.specs.declared.Header.{Header}
+use Rattle.items.specs.declared.Header.{Header}
 use Rattle.design_list.specs.declared.Extent.{Extent}
 use Rattle.design_list.specs.declared.DesignRead.{DesignRead}
 use Rattle.design_list.specs.declared.DesignRead.the-variants as D
 use Rattle.design_list.specs.declared.SlotTable.{SlotTable}
 use Rattle.design_list.specs.declared.SlotTable.the-variants as T
-use Rattle.design_list.specs.Slots.{covering, heads, isVoid, markOf, marks}
-use Rattle.design_list.specs.Items.{cellRepsFrom, netRepsFrom, finishAt}
-use Rattle.design_list.specs.Voids.{voidsAt}
+use Rattle.placing.specs.Slots.{covering, heads, isVoid, markOf, marks}
+use Rattle.items.specs.Items.{cellRepsFrom, netRepsFrom, finishAt}
+use Rattle.voids.specs.Voids.{voidsAt}
 use Rattle.design_list.specs.Read.{Read, refused, accepted, onScan, readNetReps, readCellReps, readCells, read, answer, readValue}
 use Rattle.design_list.specs.Answers.{cellsRead}
-use Rattle.design_list.specs.Cover.{walk-cells, walk-total}
+use Rattle.placing.specs.Cover.{walk-cells, walk-total}
 use Rattle.design_list.specs.Accepted.{accepted-read}
 
 -- The answer, by the length of the slice: a slice with a word for every slot is filled, a shorter one is fault 14 at the room needed.

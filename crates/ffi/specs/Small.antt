@@ -32,18 +32,19 @@ use Rattle.cell_reader.specs.declared.Record.{Record}
 use Rattle.cell_reader.specs.declared.Record.the-variants as R
 use Rattle.cell.specs.Design.{Placed}
 use Rattle.cell_reader.specs.Parse.{numberIn, cellAt}
-use Rattle.design_list.specs.declared.Header.{Header}
-use Rattle.design_list.specs.declared.Opening.{Opening}
-use Rattle.design_list.specs.declared.Opening.the-variants as O
-use Rattle.design_list.specs.declared.Placing.{Placing}
-use Rattle.design_list.specs.declared.Placing.the-variants as P
-use Rattle.design_list.specs.Step.{Step}
-use Rattle.design_list.specs.Step as T
-use Rattle.design_list.specs.Items.{Reading, stop, push, onHeaderNumber, countsAt, headerAt, limitOf, onRecord, onPlaced, placedAt, cellsFrom, cellsOf, listedNumberAt, listedNetAt, onSlot, onNewCell, replaces, replacementAt, onStep, ascending, newCell, cellRepsFrom, onNet, pairAt, netPair, netRepsFrom, finishAt}
-use Rattle.design_list.specs.declared.Item.{Item}
-use Rattle.design_list.specs.declared.Item.the-variants as I
-use Rattle.design_list.specs.Slots.{heads, isVoid}
-use Rattle.design_list.specs.Voids.{voidDriver, namesVoid, offends, voidAt, clockAt, recordVoidsAt, replacementVoidsAt, pairVoidsAt, itemVoidsAt, voidsAt}
+use Rattle.items.specs.declared.Header.{Header}
+use Rattle.items.specs.declared.Opening.{Opening}
+use Rattle.items.specs.declared.Opening.the-variants as O
+use Rattle.placing.specs.declared.Placing.{Placing}
+use Rattle.placing.specs.declared.Placing.the-variants as P
+use Rattle.items.specs.Step.{Step}
+use Rattle.items.specs.Step as T
+use Rattle.items.specs.Items.{Reading, stop, push, onHeaderNumber, countsAt, headerAt, listedNumberAt, listedNetAt, onSlot, onNewCell, replaces, replacementAt, onStep, ascending, newCell, cellRepsFrom, onNet, pairAt, netPair, netRepsFrom, finishAt}
+use Rattle.placing.specs.Cells.{limitOf, onRecord, onPlaced, placedAt, cellsFrom, cellsOf}
+use Rattle.voids.specs.declared.Item.{Item}
+use Rattle.voids.specs.declared.Item.the-variants as I
+use Rattle.placing.specs.Slots.{heads, isVoid}
+use Rattle.voids.specs.Voids.{voidDriver, namesVoid, offends, voidAt, clockAt, recordVoidsAt, replacementVoidsAt, pairVoidsAt, itemVoidsAt, voidsAt}
 use Rattle.design_list.specs.Read.{Read, refused, accepted, onScan, onOpening, readNetReps, readCellReps, readCells, read, answer}
 use Rattle.ffi.specs.Packed.{packed}
 use Rattle.cell_reader.specs.Record.{onValue, thirdAt, secondAt, firstAt, leadingAt, tailAt, bodyAt, onHead, onLeading, onBody, contentsAt, recordAt}

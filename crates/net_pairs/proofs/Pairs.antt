@@ -7,7 +7,7 @@ use lib.ListN.{length}
 use Rattle.logic.specs.Net.{netOf}
 use Rattle.cell.specs.Design.{Design, NetPair, total}
 use Rattle.cell_reader.specs.Parse.{numberIn, netIn}
-use Rattle.design_list.specs.Items.{netPair}
+use Rattle.items.specs.Items.{netPair}
 use Rattle.design_list.specs.Read.{read, accepted}
 use Rattle.design_list.specs.Accepted.{accepted-read}
 use Rattle.working_out.specs.Reading.{readsPast, pairOf}

@@ -12,8 +12,8 @@ use lib.Dec.{ltb, eqb}
 use borrow.Author.Tests.{ltb-true, ltb-false, lt-ltb, le-ltb, ne-eqb}
 use Rattle.cell.specs.Cell.{outputLen, slotsOf, standing}
 use Rattle.cell.specs.Design.{Design, Placed, total}
-use Rattle.design_list.specs.Slots.{covering, markOf, marks}
-use Rattle.design_list.specs.Cover.{Walk, walk-total, table-at, takes-all, Narrow, walk-narrow}
+use Rattle.placing.specs.Slots.{covering, markOf, marks}
+use Rattle.placing.specs.Cover.{Walk, walk-total, table-at, takes-all, Narrow, walk-narrow}
 use Rattle.design_list.specs.Read.{read, accepted}
 use Rattle.design_list.specs.Table.{tableAfter}
 use Rattle.design_list.specs.Accepted.{accepted-read}

@@ -11,12 +11,12 @@ use Rattle.fields.specs.declared.Number.the-variants as N
 use Rattle.fields.specs.declared.Scan.the-variants.{Clean}
 use Rattle.fields.specs.Field.{numberAt}
 use Rattle.fields.specs.Accepted.{IsNumber, number-read}
-use Rattle.design_list.specs.declared.Header.{Header}
-use Rattle.design_list.specs.declared.Opening.{Opening}
-use Rattle.design_list.specs.declared.Opening.the-variants as O
-use Rattle.design_list.specs.Step.{Step}
-use Rattle.design_list.specs.Slots.{heads}
-use Rattle.design_list.specs.Items.{onHeaderNumber, countsAt, headerAt, ascending, replacementAt, newCell, pairAt, netPair}
+use Rattle.items.specs.declared.Header.{Header}
+use Rattle.items.specs.declared.Opening.{Opening}
+use Rattle.items.specs.declared.Opening.the-variants as O
+use Rattle.items.specs.Step.{Step}
+use Rattle.placing.specs.Slots.{heads}
+use Rattle.items.specs.Items.{onHeaderNumber, countsAt, headerAt, ascending, replacementAt, newCell, pairAt, netPair}
 use Rattle.design_list.specs.Read.{read, accepted}
 use Rattle.design_list.specs.Accepted.{IsAccepted, accepted-read}
 use Rattle.accepted.specs.Replacements.{climb-read}

@@ -21,12 +21,13 @@ use Rattle.cell_reader.specs.declared.Record.the-variants as R
 use Rattle.cell_reader.specs.Record.{recordAt}
 use Rattle.cell_reader.specs.Parse.{numberIn, cellAt}
 use Rattle.logic.specs.declared.Slot.{Slot}
-use Rattle.design_list.specs.declared.Placing.{Placing}
-use Rattle.design_list.specs.declared.Placing.the-variants as P
-use Rattle.design_list.specs.Step.{Step}
-use Rattle.design_list.specs.Step as T
-use Rattle.design_list.specs.Slots.{heads}
-use Rattle.design_list.specs.Items.{Reading, stop, push, limitOf, onRecord, placedAt, onPlaced, cellsFrom, cellsOf, ascending, listedNumberAt, onSlot, onNewCell, replaces, replacementAt, newCell, pairAt, netPair}
+use Rattle.placing.specs.declared.Placing.{Placing}
+use Rattle.placing.specs.declared.Placing.the-variants as P
+use Rattle.items.specs.Step.{Step}
+use Rattle.items.specs.Step as T
+use Rattle.placing.specs.Slots.{heads}
+use Rattle.items.specs.Items.{Reading, stop, push, ascending, listedNumberAt, onSlot, onNewCell, replaces, replacementAt, newCell, pairAt, netPair}
+use Rattle.placing.specs.Cells.{limitOf, onRecord, placedAt, onPlaced, cellsFrom, cellsOf}
 use Rattle.design_list.specs.Read.{read, accepted}
 use Rattle.design_list.specs.Accepted.{IsAccepted, accepted-read}
 use Rattle.accepted.specs.Replacements.{Climb, done, taken, climb-read, pair-read}

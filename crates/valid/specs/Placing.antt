@@ -12,7 +12,8 @@ use borrow.Author.Tests.{ltb-true, lt-ltb, le-ltb, le-leb}
 use Rattle.cell.specs.Cell.{Cell, slotsOf}
 use Rattle.cell.specs.Design.{Placed}
 use Rattle.fields.specs.declared.Scan.the-variants.{Clean}
-use Rattle.design_list.specs.Items.{Reading, limitOf, placedAt, cellsFrom}
+use Rattle.items.specs.Items.{Reading}
+use Rattle.placing.specs.Cells.{limitOf, placedAt, cellsFrom}
 use Rattle.working_out.specs.Reading.{Each}
 use Rattle.working_out.specs.Laid.{Run}
 use Rattle.valid.specs.Words.{recordOf, cellWordsOf}

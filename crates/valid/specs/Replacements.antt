@@ -13,9 +13,9 @@ use Rattle.cell.specs.Cell.{outputLen}
 use Rattle.cell.specs.Operation.{mayReplace}
 use Rattle.cell.specs.Design.{Placed, NetPair, Design, total}
 use Rattle.fields.specs.declared.Scan.the-variants.{Clean}
-use Rattle.design_list.specs.Step.{Step}
-use Rattle.design_list.specs.Step as T
-use Rattle.design_list.specs.Items.{ascending, listedNumberAt, listedNetAt, replaces, replacementAt, newCell, pairAt, netPair}
+use Rattle.items.specs.Step.{Step}
+use Rattle.items.specs.Step as T
+use Rattle.items.specs.Items.{ascending, listedNumberAt, listedNetAt, replaces, replacementAt, newCell, pairAt, netPair}
 use Rattle.working_out.specs.Reading.{Each, each-map}
 use Rattle.working_out.specs.Laid.{Ascending, Within, PairWithin}
 use Rattle.valid.specs.Words.{netWordOf, operationOfCell, recordOf, replacementWordsOf, pairWordsOf}

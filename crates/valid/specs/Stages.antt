@@ -8,12 +8,13 @@ use lib.ListN.{length, length-append}
 use borrow.Author.Tests.{le-ltb, eq-eqb}
 use Rattle.cell.specs.Design.{Placed, NetPair, Design, total}
 use Rattle.fields.specs.declared.Scan.the-variants.{Clean}
-use Rattle.design_list.specs.declared.Header.{Header}
-use Rattle.design_list.specs.declared.Opening.the-variants as O
-use Rattle.design_list.specs.declared.Item.the-variants as I
-use Rattle.design_list.specs.Slots.{heads}
-use Rattle.design_list.specs.Items.{countsAt, headerAt, cellsOf, cellRepsFrom, netRepsFrom, finishAt}
-use Rattle.design_list.specs.Voids.{itemVoidsAt, voidsAt}
+use Rattle.items.specs.declared.Header.{Header}
+use Rattle.items.specs.declared.Opening.the-variants as O
+use Rattle.voids.specs.declared.Item.the-variants as I
+use Rattle.placing.specs.Slots.{heads}
+use Rattle.items.specs.Items.{countsAt, headerAt, cellRepsFrom, netRepsFrom, finishAt}
+use Rattle.placing.specs.Cells.{cellsOf}
+use Rattle.voids.specs.Voids.{itemVoidsAt, voidsAt}
 use Rattle.design_list.specs.Read.{Read, accepted, readNetReps, readCellReps, readCells, read}
 use Rattle.working_out.specs.Reading.{Each}
 use Rattle.accepted.specs.Voids.{netsBesideClock}

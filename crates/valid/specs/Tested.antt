@@ -9,7 +9,7 @@ use Rattle.cell.specs.Cell.{Cell, outputLen}
 use Rattle.cell.specs.Cell as C
 use Rattle.cell.specs.Operation.{mayReplace}
 use Rattle.cell.specs.Design.{Placed, NetPair, Design, total}
-use Rattle.design_list.specs.Slots.{heads}
+use Rattle.placing.specs.Slots.{heads}
 use Rattle.working_out.specs.Reading.{Each, cellOf}
 use Rattle.working_out.specs.Laid.{CellLaid, MayReplace, Replaces, netsOf}
 use Rattle.bound.specs.Bounded.{Bounded}

@@ -16,9 +16,9 @@ use Rattle.cell.specs.Operation.{standingOf}
 use Rattle.cell.specs.Design.{Placed, NetPair, Design, total}
 use Rattle.fields.specs.declared.Scan.the-variants.{Clean}
 use Rattle.fields.specs.Field.{scanMany}
-use Rattle.design_list.specs.Slots as Slots
-use Rattle.design_list.specs.Slots.{takes}
-use Rattle.design_list.specs.Voids.{namesVoid, offends, voidAt, clockAt, recordVoidsAt, replacementVoidsAt, pairVoidsAt}
+use Rattle.placing.specs.Slots as Slots
+use Rattle.placing.specs.Slots.{takes}
+use Rattle.voids.specs.Voids.{namesVoid, offends, voidAt, clockAt, recordVoidsAt, replacementVoidsAt, pairVoidsAt}
 use Rattle.working_out.specs.Reading.{Each, each-append, cellOf, role, isVoid}
 use Rattle.working_out.specs.Laid.{Run, Within, netsOf}
 use Rattle.accepted.specs.Laid.{cell-takes}

@@ -14,10 +14,10 @@ use Rattle.cell.specs.Design.{Design, Placed, total}
 use Rattle.cell.specs.declared.Operation.{Operation}
 use Rattle.cell_reader.specs.Parse.{numberIn, opAt, cellIn, cellAt, endAt}
 use Rattle.cell_reader.specs.Accepted.{IsRecord}
-use Rattle.design_list.specs.Slots.{heads}
-use Rattle.design_list.specs.Items.{newCell}
-use Rattle.design_list.specs.Laws.{limit-low}
-use Rattle.design_list.specs.Cover.{Walk, done, placed}
+use Rattle.placing.specs.Slots.{heads}
+use Rattle.items.specs.Items.{newCell}
+use Rattle.placing.specs.Laws.{limit-low}
+use Rattle.placing.specs.Cover.{Walk, done, placed}
 use Rattle.design_list.specs.Read.{read, accepted}
 use Rattle.design_list.specs.Accepted.{accepted-read}
 use Rattle.working_out.specs.Reading.{Each, each-map}

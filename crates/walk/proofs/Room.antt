@@ -15,9 +15,9 @@ use Rattle.fields.specs.declared.Number.{Number}
 use Rattle.fields.specs.declared.Number.the-variants as N
 use Rattle.fields.specs.Field.{numberAt}
 use Rattle.fields.specs.Accepted.{number-read}
-use Rattle.design_list.specs.declared.Header.{Header}
-use Rattle.design_list.specs.declared.Opening.the-variants as O
-use Rattle.design_list.specs.Items.{onHeaderNumber, countsAt, headerAt, netPair, pairAt}
+use Rattle.items.specs.declared.Header.{Header}
+use Rattle.items.specs.declared.Opening.the-variants as O
+use Rattle.items.specs.Items.{onHeaderNumber, countsAt, headerAt, netPair, pairAt}
 use Rattle.design_list.specs.Read.{read, accepted}
 use Rattle.design_list.specs.Accepted.{accepted-read}
 use Rattle.working_out.specs.Reading.{Pair, equal, ofVoid, ofDffs, ordinary, readsPast, pairOf}

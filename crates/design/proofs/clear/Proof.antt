@@ -6,7 +6,7 @@ use mathlib.Core.Path.{_≡_, refl, sym, _∙_}
 use lib.ListN.{length, replicate, length-set}
 use lib.Seq.{sets}
 use native.Mathlib.Omega.{arith}
-use Rattle.design_list.specs.Laws.{fill-none, fill-turn}
+use Rattle.placing.specs.Laws.{fill-none, fill-turn}
 use Rattle.design.proofs.Verifies.{all-zeros}
 use Rattle.design.proofs.clear.Statement.{statement}
 use Rattle.design.proofs.clear.Tie as tie

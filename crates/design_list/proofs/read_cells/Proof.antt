@@ -15,10 +15,11 @@ returns-2 : tie.Need-returns-2
 returns-2 c =
     let told = c .before .before .before in
     let call = told .before .before .before .before in
-    let start = call .before .before .before .before .before in (
+    let lent = call .before .before .before in
+    let start = lent .before .before .before in (
       c .read-cell-reps .ensures ∙
           rw (call .cells-at .ensures .1)
-          (cells-answer _ _ (start .args .table .now) (start .pre .2) (sym (told .count .given .1) ∙ call .cells-at .ensures .0)),
+          (cells-answer _ _ (start .args .table .now) (start .pre .1) (sym (told .count .given .1) ∙ call .cells-at .ensures .0)),
       call .cells-at .ensures .1,
     )
 
@@ -26,5 +27,5 @@ pub read-cells-spec : {M : Type 1} → statement M
 read-cells-spec =
     tie.close
     (tie.spec
-    (λ c. search needs) (λ c κs. search needs) (λ c. search needs) (λ c. search needs) (λ c κs. search needs)
+    (λ c. search needs) (λ c. search needs) (λ c κs. search needs) (λ c. search needs) (λ c. search needs) (λ c κs. search needs)
     (λ c. search needs) returns (λ c. search needs) returns-2)

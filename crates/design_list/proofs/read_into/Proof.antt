@@ -4,7 +4,7 @@ use mathlib.Core.Path.{refl, sym, _∙_}
 use native.Mathlib.Omega.{arith}
 use Rattle.design_list.specs.Read.{read}
 use Rattle.design_list.specs.Table.{Stored, stored-cells}
-use Rattle.design_list.specs.Laws.{header-read}
+use Rattle.items.specs.Laws.{header-read}
 use borrow.Author.Needs.{needs}
 use Rattle.design_list.proofs.read_into.Statement.{statement}
 use Rattle.design_list.proofs.read_into.Tie as tie
@@ -22,7 +22,7 @@ read-cells-requires c κs =
     let told = c .before .before in
     let call = told .before .before in
     let small = header-read _ (sym (call .header-at .ensures) ∙ told .header .given .1) in
-    (omega arith, small, omega (arith, small))
+    (small, omega (arith, small))
 
 returns-3 : tie.Need-returns-3
 unfolding read Stored

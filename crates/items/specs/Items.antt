@@ -1,0 +1,116 @@
+-- Document 01, "Words" and "Faults and what stays": the header, the cell replacements and the net replacements of a design list, each up to its first
+-- fault.
+use Prim.Native.Nat.{ℕ, zero, suc, _+_, _-_, _^_}
+use mathlib.Core.List.{List, [], _∷_}
+use mathlib.Core.Bool.{Bool, false, cond}
+use lib.ListN.{length}
+use lib.Dec.{ltb, leb, eqb}
+use Rattle.cell.specs.Operation.{mayReplace}
+use Rattle.cell.specs.declared.Operation.{Operation}
+use Rattle.cell.specs.Design.{Placed, NetPair}
+use Rattle.fields.specs.declared.Number.{Number}
+use Rattle.fields.specs.declared.Number.the-variants as N
+use Rattle.fields.specs.declared.Scan.{Scan}
+use Rattle.fields.specs.declared.Scan.the-variants.{Clean, Refused}
+use Rattle.fields.specs.Field.{fault, numberAt, netAt}
+use Rattle.cell_reader.specs.declared.Record.{Record}
+use Rattle.cell_reader.specs.declared.Record.the-variants as R
+use Rattle.cell_reader.specs.Record.{recordAt}
+use Rattle.cell_reader.specs.Parse.{numberIn, netIn, cellAt}
+use Rattle.items.specs.declared.Opening.{Opening}
+use Rattle.items.specs.declared.Opening.the-variants as O
+use Rattle.items.specs.Step.{Step}
+use Rattle.items.specs.Step as T
+
+-- Items read up to a fault, or to the place after the last.
+pub record Reading (A : Type 0) : Type 0 where
+  pub items : List A
+  pub scan : Scan
+
+module _ {A : Type 0} where
+  abbrev pub stop : Scan → Reading A
+  stop scan = record { items = []; scan = scan }
+
+  abbrev pub push : A → Reading A → Reading A
+  push item rest = record { items = item ∷ rest .items; scan = rest .scan }
+
+-- Header words, each kind 2, then bound 4: base + added ≤ 4,096, each replacement count ≤ 4,096.
+abbrev pub onHeaderNumber : Number → (ℕ → Opening) → Opening
+onHeaderNumber (N.Value n next) f = f n
+onHeaderNumber (N.Refused e) f = O.Refused e
+
+unfoldable pub countsAt : List ℕ → ℕ → ℕ → Opening
+countsAt w base added =
+    onHeaderNumber (numberAt w 4096 4 2) (λ (cellReps : ℕ).
+    onHeaderNumber (numberAt w 4096 4 3) (λ (netReps : ℕ).
+    O.Read record { base = base; added = added; cellreps = cellReps; netreps = netReps }))
+
+unfoldable pub headerAt : List ℕ → Opening
+headerAt w =
+    onHeaderNumber (numberAt w 4096 4 0) (λ (base : ℕ).
+    onHeaderNumber (numberAt w (4096 - base) 4 1) (λ (added : ℕ). countsAt w base added))
+
+-- A word outside the records: missing 1, kind 2; #slot has no bound; a net's slot 6.
+unfoldable pub listedNumberAt : List ℕ → ℕ → Number
+listedNumberAt w at = cond (ltb at (length w)) (numberAt w (2 ^ 29 - 1) (length w) at) (N.Refused (fault 1 (length w)))
+
+unfoldable pub listedNetAt : List ℕ → ℕ → ℕ → Scan
+listedNetAt w total at = cond (ltb at (length w)) (netAt w total 0 (length w) at) (Refused (fault 1 (length w)))
+
+abbrev pub onSlot : Number → (ℕ → ℕ → Step) → Step
+onSlot (N.Value slot next) f = f slot next
+onSlot (N.Refused e) f = T.Refused e
+
+abbrev pub onNewCell : Record → (Operation → ℕ → ℕ → Step) → Step
+onNewCell (R.Read op width next) f = f op width next
+onNewCell (R.Refused e) f = T.Refused e
+
+-- Whether a replacement is right: its slot is not below `least`, heads a base cell as `head` says, and its new cell is no Void, Input or Note.
+unfoldable pub replaces : (ℕ → ℕ → Bool) → ℕ → ℕ → Operation → ℕ → Bool
+replaces head least slot op width = cond (leb least slot) (cond (head slot width) (mayReplace op) false) false
+
+-- #slot, then a record; what is wrong between them is fault 12, at #slot.
+unfoldable pub replacementAt : List ℕ → ℕ → (ℕ → ℕ → Bool) → ℕ → ℕ → Step
+replacementAt w total head least at =
+    onSlot (listedNumberAt w at) (λ (slot start : ℕ).
+    onNewCell (recordAt w total start) (λ (op : Operation) (width next : ℕ).
+    cond (replaces head least slot op width) (T.Read (slot + 1) next) (T.Refused (fault 12 at))))
+
+module _ {A : Type 0} where
+  abbrev pub onStep : Step → (ℕ → ℕ → Reading A) → Reading A
+  onStep (T.Read least next) f = f least next
+  onStep (T.Refused e) f = stop (Refused e)
+
+  -- k replacements, each not below what the one before it asks: `item` of the place of each.
+  unfoldable pub ascending : (ℕ → ℕ → Step) → (ℕ → A) → ℕ → ℕ → ℕ → Reading A
+  ascending step item zero least at = stop (Clean at)
+  ascending step item (suc k) least at = onStep (step least at) (λ (above next : ℕ). push (item at) (ascending step item k above next))
+
+-- The cell replacements, their slots strictly ascending: the new cell at the replaced slot.
+abbrev pub newCell : List ℕ → ℕ → Placed
+newCell w at = record { slot = numberIn w at; cell = cellAt w (at + 1) }
+
+abbrev pub cellRepsFrom : List ℕ → ℕ → (ℕ → ℕ → Bool) → ℕ → ℕ → ℕ → Reading Placed
+cellRepsFrom w total head k least at = ascending (replacementAt w total head) (newCell w) k least at
+
+abbrev pub onNet : Scan → (ℕ → Step) → Step
+onNet (Clean next) f = f next
+onNet (Refused e) f = T.Refused e
+
+-- from, to; a from not above the one before is fault 13, at from.
+unfoldable pub pairAt : List ℕ → ℕ → ℕ → ℕ → Step
+pairAt w total least at =
+    onNet (listedNetAt w total at) (λ (to : ℕ).
+    onNet (listedNetAt w total to) (λ (next : ℕ).
+    cond (leb least (numberIn w at)) (T.Read (numberIn w at + 1) next) (T.Refused (fault 13 at))))
+
+-- The net replacements, the payloads of their froms strictly ascending (0, 1, slots, X).
+abbrev pub netPair : List ℕ → ℕ → NetPair
+netPair w at = record { from = netIn w at; to = netIn w (at + 1) }
+
+abbrev pub netRepsFrom : List ℕ → ℕ → ℕ → ℕ → ℕ → Reading NetPair
+netRepsFrom w total k least at = ascending (pairAt w total) (netPair w) k least at
+
+-- Words left after the last pair: fault 1 at the first.
+unfoldable pub finishAt : List ℕ → ℕ → Scan
+finishAt w at = cond (eqb at (length w)) (Clean at) (Refused (fault 1 at))

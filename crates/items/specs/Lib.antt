@@ -1,0 +1,4 @@
+pub mod Step
+pub mod Items
+pub mod Marks
+pub mod Laws

@@ -1,0 +1,4 @@
+pub mod Slots
+pub mod Cells
+pub mod Laws
+pub mod Cover

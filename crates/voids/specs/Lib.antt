@@ -1,0 +1,3 @@
+pub mod Voids
+pub mod Marks
+pub mod Laws
