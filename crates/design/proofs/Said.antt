@@ -1,20 +1,28 @@
--- Requirement 3, of the call slice that `verify` leaves: for every list, from its contract alone. Assumes nothing.
+-- What `verify` says of the slices that it leaves, requirement 3 among it: for every list, from its contract alone. An answer other than a refusal
+-- means that the list is accepted and both slices have room; the rest is what `Answered`, `Required` and `Marks` have of such a list. Assumes nothing.
 use mathlib.Core.Path.{_≡_, refl, sym, ap, subst, _∙_}
+use mathlib.Core.Logic.{_↔_}
 use mathlib.Core.List.{List, [], _∷_}
+use mathlib.Core.Option.{none}
 use Prim.Native.Nat.{ℕ, _≤_, _<_}
 use native.Mathlib.Omega.{arith}
 use native.Mathlib.Decide.{decLt}
-use lib.ListN.{length, take, drop}
+use lib.ListN.{length, take, drop, length-append, length-drop}
 use lib.Seq.{take-at}
-use Rattle.cell.specs.Design.{total}
+use Rattle.cell.specs.Design.{Design, total}
 use Rattle.engine.specs.Encode.{decode}
+use Rattle.engine.specs.WellFormed.{malformedAt, placeOf}
 use Rattle.builder.specs.declared.Counts.{Counts}
 use Rattle.design_list.specs.Read.{Read, refused, accepted, read}
+use Rattle.working_out.specs.Obligations.{obligations}
 use Rattle.order.specs.Verify.{built, verify}
 use Rattle.design.specs.declared.Verified.{Verified}
-use Rattle.design.specs.Verified.{counted, told, verified, callWords}
-use Rattle.design.specs.Answered.{refused-as-read, answered, short-of-words, short-of-marks, slices-after}
-use Rattle.design.specs.Required.{words-are, required}
+use Rattle.design.specs.declared.Verified.the-variants.{NothingAsked}
+use Rattle.design.specs.Verified.{counted, told, verified, over, callWords}
+use Rattle.design.specs.Verified as v
+use Rattle.design.specs.Answered.{refused-as-read, answered, short-of-words, short-of-marks, nothing-asked, slices-after}
+use Rattle.design.specs.Required.{words-are, never-malformed, required}
+use Rattle.design.specs.Marks.{list-marked}
 use Rattle.design.specs.Requirement3.{Requirement3}
 use Rattle.design.specs.Verifies.{Verifies}
 use Rattle.design.specs.Said.{Says, Said}
@@ -23,35 +31,61 @@ told-says : (l : List ℕ) (m n : Counts) → Says (told l m) n → m ≡ n
 told-says [] m n said = said
 told-says (o ∷ l) m n said = said
 
-pub verify-said : {w calls recorded calls′ recorded′ : List ℕ} {r : Verified} → Verifies w calls recorded calls′ recorded′ r → (n : Counts)
-    → Says r n → Said w calls′ n
-verify-said {w} {calls} {recorded} {calls′} v n said = go (read w) refl
-  where
-    says : {a : Verified} → verified w (length calls) (length recorded) ≡ a → Says a n
-    says is = subst (λ (a : Verified). Says a n) (v .answer ∙ is) said
+-- A slice that was written from its start begins with what was written, and is as long as before.
+module _ (slice new old : List ℕ) (is : slice ≡ over new old) where
+  front : (n : ℕ) → length new ≡ n → take n slice ≡ new
+  front n many = ap (λ (l : List ℕ). take n l) is ∙ take-at new (drop (length new) old) n many
 
-    go : (q : Read) → read w ≡ q → Said w calls′ n
-    go (refused e) is = absurd (says (refused-as-read w is (length calls) (length recorded)))
-    go (accepted d reps pairs) is = fits (decLt (length calls) (length (callWords w))) (decLt (length recorded) (total d))
-      where
-        full : length (callWords w) ≤ length calls → total d ≤ length recorded → Said w calls′ n
-        full words marks =
-            let same : counted (verify d) ≡ n =
-            told-says ((built d) .res) _ n (says (answered w is (length calls) (length recorded) words marks)) in
-            let many : length (callWords w) ≡ n .words = ap length (words-are w is) ∙ ap (λ (c : Counts). c .words) same in
-            let written = v .called ∙ slices-after w calls recorded is words marks .0 in
-            let front : take (n .words) calls′ ≡ callWords w =
-            ap (λ (l : List ℕ). take (n .words) l) written ∙ take-at (callWords w) (drop (length (callWords w)) calls) (n .words) many in
-            record {
-              d = d;
-              replacements = reps;
-              pairs = pairs;
-              is = is;
-              required = λ no-loop.
-                  subst (λ (l : List ℕ). Requirement3 d (decode l)) (sym front) (required w d reps pairs is no-loop);
-            }
+  kept-length : length new ≤ length old → length slice ≡ length old
+  kept-length fits =
+      let dropped = length-drop (length new) old in
+      ap length is ∙ length-append new (drop (length new) old) ∙ omega arith
 
-        fits : Dec (length calls < length (callWords w)) → Dec (length recorded < total d) → Said w calls′ n
-        fits (yes short) more = absurd (says (short-of-words w is (length calls) (length recorded) short))
-        fits (no room) (yes short) = absurd (says (short-of-marks w is (length calls) (length recorded) (omega arith) short))
-        fits (no room) (no more) = full (omega arith) (omega arith)
+module _ {w calls recorded calls′ recorded′ : List ℕ} {r : Verified} (left : Verifies w calls recorded calls′ recorded′ r)
+    (n : Counts) (said : Says r n) where
+  says : {a : Verified} → verified w (length calls) (length recorded) ≡ a → Says a n
+  says is = subst (λ (a : Verified). Says a n) (left .answer ∙ is) said
+
+  module _ {d : Design} {reps pairs : ℕ} (is : read w ≡ accepted d reps pairs)
+      (words : length (callWords w) ≤ length calls) (marks : total d ≤ length recorded) where
+    full : Said w calls′ recorded′ r n
+    full =
+        let answer = answered w is (length calls) (length recorded) words marks in
+        let same : counted (verify d) ≡ n = told-says ((built d) .res) _ n (says answer) in
+        let many : length (callWords w) ≡ n .words = ap length (words-are w is) ∙ ap (λ (c : Counts). c .words) same in
+        let slots : length (v.marks w) ≡ total d = list-marked w is .many in
+        let after = slices-after w calls recorded is words marks in
+        let called = left .called ∙ after .0 in
+        let marked = left .marked ∙ after .1 in
+        let begins : take (n .words) calls′ ≡ callWords w = front calls′ (callWords w) calls called (n .words) many in
+        let kept = kept-length calls′ (callWords w) calls called words in
+        let kept-marks = kept-length recorded′ (v.marks w) recorded marked (omega arith) in
+        let none-asked = nothing-asked w is (length calls) (length recorded) words marks in
+        record {
+          d = d;
+          replacements = reps;
+          pairs = pairs;
+          is = is;
+          room = omega arith;
+          words = begins;
+          slots = omega arith;
+          marks = front recorded′ (v.marks w) recorded marked (total d) slots;
+          formed = ap malformedAt begins ∙ ap placeOf (never-malformed w is);
+          nothing = (
+            λ e. none-asked .0 (sym (left .answer) ∙ e ∙ ap NothingAsked (sym same)),
+            λ e. left .answer ∙ none-asked .1 e ∙ ap NothingAsked same,
+          );
+          required = λ no-loop. subst (λ (l : List ℕ). Requirement3 d (decode l)) (sym begins) (required w d reps pairs is no-loop);
+        }
+
+  pub verify-said : Said w calls′ recorded′ r n
+  verify-said = go (read w) refl
+    where
+      go : (q : Read) → read w ≡ q → Said w calls′ recorded′ r n
+      go (refused e) is = absurd (says (refused-as-read w is (length calls) (length recorded)))
+      go (accepted d reps pairs) is = fits (decLt (length calls) (length (callWords w))) (decLt (length recorded) (total d))
+        where
+          fits : Dec (length calls < length (callWords w)) → Dec (length recorded < total d) → Said w calls′ recorded′ r n
+          fits (yes short) more = absurd (says (short-of-words w is (length calls) (length recorded) short))
+          fits (no room) (yes short) = absurd (says (short-of-marks w is (length calls) (length recorded) (omega arith) short))
+          fits (no room) (no more) = full is (omega arith) (omega arith)

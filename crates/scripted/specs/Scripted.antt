@@ -5,9 +5,9 @@ use mathlib.Core.List.{List, [], _∷_, List·Memᴰ·head, List·Memᴰ·tail}
 use mathlib.Core.Option.{Option}
 use Prim.Native.Nat.{ℕ, zero, suc, _+_}
 use native.Mathlib.Omega.{arith}
-use lib.ListN.{length, getD, drop}
+use lib.ListN.{length, getD, take, drop}
 use borrow.Author.Tests.{eq-eqb}
-use Rattle.cell.specs.Design.{Design}
+use Rattle.cell.specs.Design.{Design, total}
 use Rattle.engine.specs.Call.{Name, Call}
 use Rattle.engine.specs.Call as c
 use Rattle.engine.specs.Encode.{decode, letterNumber, suffixNumber}
@@ -19,6 +19,9 @@ use Rattle.design.specs.Requirement3.{declaredNames, IsDeclared, Declared}
 use Rattle.design.specs.Verified.{callWords, marks}
 use Rattle.design.specs.Required.{never-malformed}
 use Rattle.design.specs.Marks.{Marked, list-marked}
+use Rattle.builder.specs.declared.Counts.{Counts}
+use Rattle.design.specs.declared.Verified.{Verified}
+use Rattle.design.specs.Said.{Said}
 use Rattle.asked.specs.Marks.{any, declaresName, declared, allDeclared, markStands, badMark}
 use Rattle.asked.proofs.Marks.{mark-fine, marks-done}
 use Rattle.script.specs.Written.{scriptOf, roomFor, onFormed, marked, marked-fine, written}
@@ -71,3 +74,9 @@ list-scripted w is room =
     ap (λ (place : Option ℕ). onFormed place (marked (callWords w) (marks w) room)) (ap placeOf (never-malformed w is))
     ∙ marked-fine (callWords w) (marks w) room
     (fine-from (list-marked w is) (length (marks w)) 0 (omega arith) ∙ marks-done (decode (callWords w)) (marks w) (length (marks w)) (omega arith))
+
+-- So for the words and the marks that `verify` leaves in the caller's slices: never 19, never 2.
+pub said-scripted : {w calls recorded : List ℕ} {r : Verified} {n : Counts} (s : Said w calls recorded r n) (room : ℕ)
+    → written (take (n .words) calls) (take (total (s .d)) recorded) room
+    ≡ roomFor (length (scriptOf (take (n .words) calls) (take (total (s .d)) recorded))) room
+said-scripted {w} s room = rw (s .words, s .marks) (list-scripted w (s .is) room)

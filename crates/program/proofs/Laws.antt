@@ -1,0 +1,156 @@
+-- Laws of what the program writes: the words of the input one by one, the slots of an accepted list, a script that fits, and what is written for
+-- each answer of `verify`.
+use mathlib.Core.Path.{_≡_, refl, sym, ap, _∙_}
+use mathlib.Core.Bool.{Bool, true, false}
+use mathlib.Core.List.{List, [], _∷_, _++_}
+use mathlib.Core.Option.{Option, some, none}
+use Prim.Native.Nat.{ℕ, _+_, _/_, _%_, _<_, _≤_, _^_}
+use native.Mathlib.Omega.{arith}
+use native.Mathlib.Numerals.{add-one}
+use lib.Dec.{ltb}
+use lib.ListN.{length, take, set}
+use lib.Seq.{take-suc-set}
+use borrow.Author.Tests.{ltb-false, lt-ltb, le-ltb, eq-eqb, ne-eqb}
+use Rattle.logic.specs.declared.Fault.{Fault}
+use Rattle.fields.specs.Field.{fault}
+use Rattle.design_list.specs.declared.Extent.{Extent}
+use Rattle.design_list.specs.declared.DesignRead.the-variants as D
+use Rattle.design_list.specs.Read.{Read, refused, accepted, read, answer}
+use Rattle.text.specs.Write.{Wrote, capped, overwrite-fits}
+use Rattle.engine.specs.WellFormed.{malformedAt}
+use Rattle.engine.specs.Encode.{decode}
+use Rattle.asked.specs.Marks.{badMark}
+use Rattle.asked.specs.declared.Mark.{Mark}
+use Rattle.asked.specs.declared.Mark.the-variants.{Fine, Bad}
+use Rattle.script.specs.declared.Written.{Written}
+use Rattle.script.specs.declared.Written.the-variants.{Bytes, Refused}
+use Rattle.script.specs.Written.{scriptOf, roomFor, onFine, onFormed, marked, written, textAfter, Scripted}
+use Rattle.builder.specs.declared.Counts.{Counts}
+use Rattle.design.specs.declared.Verified.{Verified}
+use Rattle.design.specs.declared.Verified.the-variants as design
+use Rattle.design.specs.Verified.{verified, callWords, marks}
+use Rattle.design.specs.Verifies.{Verifies}
+use Rattle.design.specs.Said.{Says, Said}
+use Rattle.design.proofs.Said.{verify-said}
+use Rattle.program.specs.Output.{wordAt, firstWords, wordsOf, refusalLine, scriptOr, scriptText, ofVerified, listOutput, outputIn, slotsIn}
+
+-- ---- the words of the input
+
+pub words-start : (bytes words : List ℕ) → take 0 words ≡ firstWords bytes 0
+unfolding firstWords
+words-start bytes words = refl
+
+pub words-turn : (bytes words : List ℕ) (i : ℕ) → i < length words → take i words ≡ firstWords bytes i
+    → take (i + 1) (set words i (wordAt bytes i)) ≡ firstWords bytes (i + 1)
+unfolding firstWords
+words-turn bytes words i inside before =
+    rw (add-one i, take-suc-set words i (wordAt bytes i) inside, before)
+
+-- ---- the slots of an accepted list
+
+pub slots-refused : (r : Read) {e : Fault} → answer r ≡ D.Refused e → slotsIn r ≡ 0
+slots-refused (refused e) is = refl
+slots-refused (accepted d replacements pairs) is = let z : _≡_ {A = ℕ} 0 1 = cc in absurd (omega arith)
+
+pub slots-accepted : (r : Read) {x : Extent} → answer r ≡ D.Accepted x → slotsIn r ≡ x .base + x .added
+slots-accepted (refused e) is = let z : _≡_ {A = ℕ} 0 1 = cc in absurd (omega arith)
+slots-accepted (accepted d replacements pairs) {x} is =
+    let base : d .base ≡ x .base = cc in
+    let added : d .added ≡ x .added = cc in
+    omega arith
+
+-- ---- a script that fits
+
+-- The writer counts the bytes of a script, and there is room for them.
+pub script-fits : (w marks : List ℕ) (room : ℕ) {n : ℕ} → written w marks room ≡ Bytes n
+    → (n ≡ length (scriptOf w marks)) × (length (scriptOf w marks) ≤ room)
+unfolding written marked
+script-fits w marks room {n} is =
+    go (malformedAt w) (badMark (decode w) 0 marks) (ltb room (length (scriptOf w marks))) refl is
+  where
+    go : (place : Option ℕ) (mark : Mark) (short : Bool) → ltb room (length (scriptOf w marks)) ≡ short
+        → onFormed place (onFine mark (roomFor (length (scriptOf w marks)) room)) ≡ Bytes n
+        → (n ≡ length (scriptOf w marks)) × (length (scriptOf w marks) ≤ room)
+    go (some place) mark short e is = let z : _≡_ {A = ℕ} 0 1 = cc in absurd (omega arith)
+    go none (Bad slot) short e is = let z : _≡_ {A = ℕ} 0 1 = cc in absurd (omega arith)
+    go none Fine true e is =
+        let refuses = rw e at is in
+        let z : _≡_ {A = ℕ} 0 1 = cc in absurd (omega arith)
+    go none Fine false e is =
+        let fits : length (scriptOf w marks) ≤ room = ltb-false _ _ e in
+        let bytes = rw e at is in
+        let same : length (scriptOf w marks) ≡ n = cc in
+        (sym same, fits)
+
+-- What the writer wrote is the script.
+pub wrote-script : (w marks before after : List ℕ) {n : ℕ} → length before < 2 ^ 64
+    → Scripted w marks before after (Bytes n) (written w marks (length before))
+    → Wrote before after 0 n (scriptText w marks (length before))
+wrote-script w marks before after short done =
+    let fits = script-fits w marks (length before) (sym (done .answers)) in
+    rw (← done .answers)
+    (record {
+      stored = done .writes ∙ sym (overwrite-fits before (scriptOf w marks) (fits .1));
+      place = omega (arith, fits .0, fits .1);
+    })
+
+-- After the writer's refusal the text is as it was, and takes the refusal's line.
+pub wrote-refused : (w marks before middle after : List ℕ) {e : Fault} {r : ℕ}
+    → Scripted w marks before middle (Refused e) (written w marks (length before)) → Wrote middle after 0 r (refusalLine e)
+    → Wrote before after 0 r (scriptText w marks (length before))
+wrote-refused w marks before middle after done wrote = rw (← done .answers) (rw (done .writes) at wrote)
+
+-- ---- what is written for each answer of `verify`
+
+pub nothing-says : {r : Verified} {n : Counts} → r ≡ design.NothingAsked n → Says r n
+nothing-says is = rw is refl
+
+pub asked-says : {r : Verified} {n : Counts} → r ≡ design.Asked n → Says r n
+asked-says is = rw is refl
+
+told-text : (a : Verified) (n : Counts) → Says a n → (text : List ℕ) → ofVerified a text ≡ text
+told-text (design.Refused e) n said text = absurd said
+told-text (design.NothingAsked m) n said text = refl
+told-text (design.Asked m) n said text = refl
+
+-- `verify` with the program's room.
+module _ {w calls recorded calls′ recorded′ : List ℕ} {r : Verified} (left : Verifies w calls recorded calls′ recorded′ r)
+    (words : length calls ≡ 16384) (marked : length recorded ≡ 4096) where
+  answer-is : r ≡ verified w 16384 4096
+  answer-is = left .answer ∙ rw (words, marked)
+
+  pub list-refused : {e : Fault} → r ≡ design.Refused e → (room : ℕ) → listOutput w room ≡ refusalLine e
+  unfolding listOutput
+  list-refused is room = ap (λ (a : Verified). ofVerified a (scriptText (callWords w) (marks w) room)) (sym answer-is ∙ is)
+
+  module _ (n : Counts) (said : Says r n) (slots : ℕ) (all : slots ≡ slotsIn (read w)) where
+    -- The first words and marks are there.
+    pub handed : (n .words ≤ length calls′) × (slots ≤ length recorded′)
+    handed =
+        let s = verify-said left n said in
+        (s .room, rw (all, ap slotsIn (s .is)) (s .slots))
+
+    -- They are the list's own.
+    pub list-told : (room : ℕ) → listOutput w room ≡ scriptText (take (n .words) calls′) (take slots recorded′) room
+    unfolding listOutput
+    list-told room =
+        let s = verify-said left n said in
+        let recorded-are : take slots recorded′ ≡ marks w = rw (all, ap slotsIn (s .is)) (s .marks) in
+        ap (λ (a : Verified). ofVerified a (scriptText (callWords w) (marks w) room)) (sym answer-is)
+        ∙ told-text r n said _
+        ∙ rw (s .words, recorded-are)
+
+-- ---- the bytes of the input
+
+module _ (bytes : List ℕ) (room : ℕ) where
+  pub too-long : 65536 < length bytes → outputIn bytes room ≡ refusalLine (fault 4 16384)
+  unfolding outputIn
+  too-long long = rw (lt-ltb 65536 (length bytes) long)
+
+  pub broken-word : length bytes ≤ 65536 → (length bytes % 4 ≡ 0 → ⊥) → outputIn bytes room ≡ refusalLine (fault 1 (length bytes / 4))
+  unfolding outputIn
+  broken-word short broken = rw (le-ltb 65536 (length bytes) short, ne-eqb _ _ broken)
+
+  pub whole-words : length bytes ≤ 65536 → length bytes % 4 ≡ 0 → outputIn bytes room ≡ listOutput (wordsOf bytes) room
+  unfolding outputIn
+  whole-words short whole = rw (le-ltb 65536 (length bytes) short, eq-eqb _ _ whole)

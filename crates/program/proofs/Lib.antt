@@ -1,0 +1,2 @@
+-- Laws of the program's definitions.
+pub mod Laws

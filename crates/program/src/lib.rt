@@ -1,0 +1,113 @@
+// The program below its input and output: the bytes of a design list to the bytes of its script, or of its refusal.
+use design::Verified;
+use design_list::DesignRead;
+use logic::Fault;
+use script::Written;
+ghost use mathlib.Core.Path.{_≡_};
+ghost use Prim.Native.Nat.{_/_, _<_, _≤_};
+ghost use lib.ListN.{length, take};
+ghost use Rattle.design_list.specs.Read.{read};
+ghost use Rattle.text.specs.Write.{Wrote};
+ghost use Rattle.program.specs.Output.{wordAt, wordsOf, refusalLine, scriptText, listOutput, outputIn, slotsIn};
+
+// The word that begins at byte 4 * i.
+fn word(input: &[u8], i: usize) -> u32
+    requires { ⌜ i < length (now input) / 4 ⌝ }
+    ensures { λ r. ⌜ r ≡ wordAt (now (input .entry)) i ⌝ }
+{
+    let at = 4 * i;
+    let low = text::byte_at(input, at) as u32 + 256 * (text::byte_at(input, at + 1) as u32);
+    let high = text::byte_at(input, at + 2) as u32 + 256 * (text::byte_at(input, at + 3) as u32);
+    low + 65536 * high
+}
+
+// The words of the input, from the start of a slice on.
+fn load(input: &[u8], words: &mut [u32])
+    requires { ⌜ length (now input) / 4 ≤ length (now words) ⌝ }
+    ensures { λ _. ⌜ take (length (now (input .entry)) / 4) (now (words .exit)) ≡ wordsOf (now (input .entry)) ⌝ }
+{
+    let whole = input.len() / 4;
+    let mut i: usize = 0;
+    while i < whole {
+        logic::put(words, i, word(input, i));
+        i += 1;
+    }
+}
+
+// Writes `refused N at P` and a line feed.
+fn put_refusal(text: &mut [u8], fault: Fault) -> usize
+    ensures { λ r. ⌜ Wrote (now (text .entry)) (now (text .exit)) 0 r (refusalLine fault) ⌝ }
+{
+    let number = text::put_bytes(text, 0, b"refused ");
+    let between = text::put_number(text, number, fault.number as usize);
+    let place = text::put_bytes(text, between, b" at ");
+    let end = text::put_number(text, place, fault.place);
+    text::put_byte(text, end, 10)
+}
+
+// Writes the script of the first call words and marks, or the writer's refusal.
+fn put_script(text: &mut [u8], calls: &[u32], words: usize, recorded: &[u8], slots: usize) -> usize
+    requires { ⌜ (words ≤ length (now calls)) × (slots ≤ length (now recorded)) ⌝ }
+    ensures { λ r. ⌜ Wrote (now (text .entry)) (now (text .exit)) 0 r
+        (scriptText (take words (now (calls .entry))) (take slots (now (recorded .entry))) (length (now (text .entry)))) ⌝ }
+{
+    match script::write_script(&calls[..words], &recorded[..slots], text) {
+        Written::Bytes(n) => n,
+        Written::Refused(f) => put_refusal(text, f),
+    }
+}
+
+// The slots of an accepted list.
+fn slots_of(list: &[u32]) -> usize
+    ensures { λ r. ⌜ r ≡ slotsIn (read (now (list .entry))) ⌝ }
+{
+    match design_list::read_design(list) {
+        DesignRead::Refused(_) => 0,
+        DesignRead::Accepted(x) => x.base + x.added,
+    }
+}
+
+// Writes the script of a list of words, or its refusal, with 16,384 call words and 4,096 marks of its own.
+fn put_list(text: &mut [u8], list: &[u32]) -> usize
+    ensures { λ r. ⌜ Wrote (now (text .entry)) (now (text .exit)) 0 r
+        (listOutput (now (list .entry)) (length (now (text .entry)))) ⌝ }
+{
+    let mut calls = [0u32; 16384];
+    let mut recorded = [0u8; 4096];
+    let slots = slots_of(list);
+    match design::verify(list, &mut calls, &mut recorded) {
+        Verified::Refused(f) => put_refusal(text, f),
+        Verified::NothingAsked(c) => put_script(text, &calls, c.words, &recorded, slots),
+        Verified::Asked(c) => put_script(text, &calls, c.words, &recorded, slots),
+    }
+}
+
+// What the program writes for the bytes of its input, from the start of a text on, and how many bytes it is; past the text's end it is
+// only counted.
+pub fn output(input: &[u8], text: &mut [u8]) -> usize
+    ensures { λ r. ⌜ Wrote (now (text .entry)) (now (text .exit)) 0 r
+        (outputIn (now (input .entry)) (length (now (text .entry)))) ⌝ }
+{
+    if 65536 < input.len() {
+        return put_refusal(
+            text,
+            Fault {
+                number: 4,
+                place: 16384,
+            },
+        );
+    }
+    let whole = input.len() / 4;
+    if input.len() % 4 != 0 {
+        return put_refusal(
+            text,
+            Fault {
+                number: 1,
+                place: whole,
+            },
+        );
+    }
+    let mut words = [0u32; 16384];
+    load(input, &mut words);
+    put_list(text, &words[..whole])
+}

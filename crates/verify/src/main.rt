@@ -1,0 +1,14 @@
+// The program of document 01: the words of a design list on standard input, its script or its refusal on standard output.
+use libc::STDIN_FILENO;
+use libc::STDOUT_FILENO;
+
+fn main() {
+    // A byte more than 16,384 words, by which a longer input shows itself.
+    let mut input = [0u8; 65537];
+    let n = io::read_full(STDIN_FILENO, &mut input);
+    let mut text = io::large_buffer();
+    let written = program::output(&input[..n], &mut text);
+    if written <= 65536 {
+        io::write_all(STDOUT_FILENO, &text[..written]);
+    }
+}
