@@ -1,2 +1,3 @@
 pub mod Packed
-pub mod Small
+pub mod Verified
+pub mod Whole
