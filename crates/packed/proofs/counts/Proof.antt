@@ -1,10 +1,10 @@
--- `ffi::vm_counts` meets its contract: what `counts` answers is lent room, packed, and its counts are stored. Assumes nothing.
+-- `packed::counts` meets its contract: what `counts` answers is lent room, packed, and its counts are stored. Assumes nothing.
 use borrow.Author.Needs.{needs}
 use mathlib.Core.Path.{sym, _∙_}
 use lib.ListN.{length}
-use Rattle.ffi.proofs.Laws.{nothing-room, asked-room}
-use Rattle.ffi.proofs.vm_counts.Statement.{statement}
-use Rattle.ffi.proofs.vm_counts.Tie as tie
+use Rattle.packed.proofs.Laws.{nothing-room, asked-room}
+use Rattle.packed.proofs.counts.Statement.{statement}
+use Rattle.packed.proofs.counts.Tie as tie
 
 nothing-fits : tie.Need-put-counts-requires
 nothing-fits c κs =
@@ -54,8 +54,8 @@ returns-3 c =
       writes = rw (← counted .counts .ensures, ← roomed .with-room .ensures, known .answer3 .given .1, stored .put-counts2 .ensures);
     }
 
-pub vm-counts-spec : {M : Type 1} → statement M
-vm-counts-spec =
+pub counts-spec : {M : Type 1} → statement M
+counts-spec =
     tie.close
     (tie.spec
     (λ c κs. search needs) (λ c κs. search needs) (λ c. search needs) (λ c κs. search needs) (λ c. search needs) nothing-fits (λ c κs. search needs)

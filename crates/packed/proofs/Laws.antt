@@ -1,4 +1,4 @@
--- The slice of vm_counts: three numbers are stored in front of it, and where they are it has room for them. Assumes nothing.
+-- The slice of counts: three numbers are stored in front of it, and where they are it has room for them. Assumes nothing.
 use mathlib.Core.Path.{_≡_, refl}
 use mathlib.Core.Bool.{Bool, true, false, cond}
 use mathlib.Core.List.{List, [], _∷_}
@@ -10,7 +10,7 @@ use borrow.Author.Tests.{ltb-false}
 use Rattle.builder.specs.declared.Counts.{Counts}
 use Rattle.design.specs.declared.Verified.{Verified}
 use Rattle.design.specs.declared.Verified.the-variants.{Refused, NothingAsked, Asked}
-use Rattle.ffi.specs.Verified.{lent}
+use Rattle.packed.specs.Verified.{lent}
 
 pub three-set : (l : List ℕ) (a b c : ℕ) → 3 ≤ length l → set (set (set l 0 a) 1 b) 2 c ≡ a ∷ b ∷ c ∷ drop 3 l
 three-set [] a b c h = absurd (omega arith)

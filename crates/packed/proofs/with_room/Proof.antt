@@ -1,8 +1,8 @@
--- `ffi::with_room` meets its contract, case by case. Assumes nothing.
+-- `packed::with_room` meets its contract, case by case. Assumes nothing.
 use borrow.Author.Needs.{needs}
 use borrow.Author.Tests.{lt-ltb, le-ltb}
-use Rattle.ffi.proofs.with_room.Statement.{statement}
-use Rattle.ffi.proofs.with_room.Tie as tie
+use Rattle.packed.proofs.with_room.Statement.{statement}
+use Rattle.packed.proofs.with_room.Tie as tie
 
 returns : tie.Need-returns
 returns c = rw (c .before .answer .given .1)

@@ -1,10 +1,10 @@
--- `ffi::put_counts` meets its contract: three stores in front of the slice. Assumes nothing.
+-- `packed::put_counts` meets its contract: three stores in front of the slice. Assumes nothing.
 use borrow.Author.Needs.{needs}
 use native.Mathlib.Omega.{arith}
 use lib.ListN.{length-set}
-use Rattle.ffi.proofs.Laws.{three-set}
-use Rattle.ffi.proofs.put_counts.Statement.{statement}
-use Rattle.ffi.proofs.put_counts.Tie as tie
+use Rattle.packed.proofs.Laws.{three-set}
+use Rattle.packed.proofs.put_counts.Statement.{statement}
+use Rattle.packed.proofs.put_counts.Tie as tie
 
 second-fits : tie.Need-slice-write-into-2
 second-fits c = simp length-set (omega arith)

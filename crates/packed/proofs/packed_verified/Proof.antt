@@ -1,8 +1,8 @@
--- `ffi::packed_verified` meets its contract, case by case. Assumes nothing.
+-- `packed::packed_verified` meets its contract, case by case. Assumes nothing.
 use borrow.Author.Needs.{needs}
 use native.Mathlib.Omega.{arith}
-use Rattle.ffi.proofs.packed_verified.Statement.{statement}
-use Rattle.ffi.proofs.packed_verified.Tie as tie
+use Rattle.packed.proofs.packed_verified.Statement.{statement}
+use Rattle.packed.proofs.packed_verified.Tie as tie
 
 returns : tie.Need-returns
 returns c = rw (c .before .before .answer .given .1) (omega (arith, c .packed-fault .ensures))

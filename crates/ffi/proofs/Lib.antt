@@ -1,2 +1,0 @@
--- Laws of the C interface.
-pub mod Laws
