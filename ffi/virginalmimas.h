@@ -10,6 +10,18 @@
    bits 47 to 0 its place (accepted: the number of slots, base + added). The words keep their values. */
 uint64_t vm_read(const uint32_t *list, size_t len);
 
+/* Verifies a design list of len words, which may hold anything: the words of its calls go into calls, which has room for c, and the marks of its
+   slots (0, or 1 or 2 for a recorded one) into recorded, which has room for r. Bits 63 to 48 of the answer are the number of the first fault
+   (0: none), and bits 46 to 0 its place. Without a fault bits 46 to 0 are the number of call words, and bit 47 is set where something is asked;
+   where it is not, there is no check among the calls, and no solver is needed. 14 is a slice too short, at the room needed: the call words first,
+   then the slots. On a fault both slices keep what they hold; without one, what lies past the call words and past the slots is kept. */
+uint64_t vm_verify(const uint32_t *list, size_t len, uint32_t *calls, size_t c, uint8_t *recorded, size_t r);
+
+/* What vm_verify would answer for a list of len words if the slices had room enough, with no room lent: the numbers of terms, temporaries and call
+   words go into counts[0] to counts[2], which has room for c, in this order. Less than 3 is fault 14 at 3, after the list's own faults. On a fault
+   counts keeps its numbers. */
+uint64_t vm_counts(const uint32_t *list, size_t len, uint64_t *counts, size_t c);
+
 /* Evaluates a call list of n words, which may hold anything, under m numbers: the bits of its declared names, in the order of their
    declarations. The number of every term goes into values, which has room for v. Bits 63 to 48 of the answer are the number of the
    first fault (0: none), bits 47 to 0 its place, or the number of assertions that are false. On a fault values keeps its numbers. */

@@ -1,12 +1,16 @@
 //! The oracle: the given Rust as the judge of the port's solver calls. README.md tells the commands and the forms.
 
 mod check;
+#[cfg(port)]
+mod compare;
 mod damage;
 mod expect;
 mod features;
 mod generate;
 mod list;
 mod notation;
+#[cfg(port)]
+mod port;
 mod random;
 mod read;
 mod record;
@@ -34,6 +38,7 @@ const USAGE: &str = "usage: oracle COMMAND
   generate SEED COUNT [tiny|small|medium|long|mixed]
   damage SEED COUNT
   check SEED COUNT [SIZE] many lists through everything, with the figures
+  compare SEED COUNT [SIZE] many lists through the proved archive and the Rust, with the figures
   expect                  a document's rows of lists with expected answers: which differ
   sample SEED FOLDER      writes the stored sample
 Lists are lines of words on standard input, eight hexadecimal digits each.";
@@ -72,6 +77,8 @@ fn command(arguments: &[&str]) -> Result<bool, String> {
         }
         ["check", seed, count] => Ok(check::check(number(seed)?, number(count)?, Size::Mixed)),
         ["check", seed, count, size] => Ok(check::check(number(seed)?, number(count)?, size_of(size)?)),
+        ["compare", seed, count] => compared(number(seed)?, number(count)?, Size::Mixed),
+        ["compare", seed, count, size] => compared(number(seed)?, number(count)?, size_of(size)?),
         ["expect"] => {
             let text = io::read_to_string(io::stdin()).map_err(|error| error.to_string())?;
             let (compared, differing) = expect::compare_all(&text).map_err(|token| format!("'{token}' is no word"))?;
@@ -121,6 +128,16 @@ fn write_lines(texts: impl Iterator<Item = String>) -> Result<bool, String> {
 
 fn on_words(line: &str, answer: impl FnOnce(&[u32]) -> String) -> Result<String, String> {
     words::from_line(line).map(|words| answer(&words))
+}
+
+#[cfg(port)]
+fn compared(seed: u64, count: u64, size: Size) -> Result<bool, String> {
+    Ok(compare::compare(seed, count, size))
+}
+
+#[cfg(not(port))]
+fn compared(_seed: u64, _count: u64, _size: Size) -> Result<bool, String> {
+    Err("built without the archive: `rt staticlib ffi`, then oracle/build".to_string())
 }
 
 fn generated(seed: u64, count: u64, size: Size) -> Result<bool, String> {

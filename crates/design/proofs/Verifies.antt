@@ -27,11 +27,11 @@ use Rattle.net_pairs.specs.declared.Walked.{Walked}
 use Rattle.walk.specs.Works.{Works}
 use Rattle.design.specs.declared.Tally.{Tally}
 use Rattle.design.specs.declared.Verified.the-variants.{Refused, NothingAsked, Asked}
-use Rattle.design.specs.Verified.{told, verified, over, callWords, marks, writtenMarks}
-use Rattle.design.specs.Answered.{refused-as-read, answered, short-of-words, short-of-marks, untouched, slices-after}
+use Rattle.design.specs.Verified.{told, verified, unroomed, over, callWords, marks, writtenMarks}
+use Rattle.design.specs.Answered.{refused-as-read, unroomed-refused, unroomed-accepted, answered, short-of-words, short-of-marks, untouched, slices-after}
 use Rattle.design.specs.Required.{words-are}
 use Rattle.design.specs.Passes.{nothing}
-use Rattle.design.specs.Verifies.{Ready, toldBy, Passes, Verifies}
+use Rattle.design.specs.Verifies.{Ready, toldBy, Tallied, Passes, Verifies}
 use Rattle.design.proofs.Passed.{passed}
 
 -- ---- lists of zeros
@@ -111,9 +111,15 @@ module _ {w : List ℕ} {x : Extent} {table : List ℕ} (ready : Ready w x table
         asked = λ n. told-as (s .obligations) (take (s .obligations) eqs₁) n (taken-count (s .obligations) eqs₁ fit) ∙ ap (λ (l : List ℕ). told l n) (all .asked);
       }
 
-  pub room-is : {calls calls′ marks′ : List ℕ} {p : Tally} → Passes (ready .d) calls calls′ marks′ p
-      → p .counts .words ≡ length (encode (verify (ready .d)))
-  room-is passes = ap (λ (c : Counts). c .words) (passes .counts)
+  pub tallied : {calls calls′ marks′ : List ℕ} {p : Tally} → Passes (ready .d) calls calls′ marks′ p → Tallied (ready .d) p
+  tallied passes = record { counts = passes .counts; asked = passes .asked }
+
+  pub room-is : {p : Tally} → Tallied (ready .d) p → p .counts .words ≡ length (encode (verify (ready .d)))
+  room-is counted = ap (λ (c : Counts). c .words) (counted .counts)
+
+  pub told-unroomed : {p : Tally} → Tallied (ready .d) p → toldBy (p .obligations) (p .counts) ≡ unroomed w
+  told-unroomed {p} counted =
+      counted .asked (p .counts) ∙ ap (told ((built (ready .d)) .res)) (counted .counts) ∙ sym (unroomed-accepted w (ready .is))
 
 -- ---- the answer
 
@@ -212,14 +218,18 @@ module _ (w : List ℕ) {before after : List ℕ} {a : SlotTable} (long : length
         size = sym count ∙ same;
       }
 
-  pub refused-of : {e : Fault} (calls recorded : List ℕ) → a ≡ T.Refused e → Verifies w calls recorded calls recorded (Refused e)
-  refused-of {e} calls recorded refuse = go (read w) refl (sym (tabled .same) ∙ refuse)
+  reads-refused : {e : Fault} → a ≡ T.Refused e → read w ≡ refused e
+  reads-refused {e} refuse = go (read w) refl (sym (tabled .same) ∙ refuse)
     where
-      go : (r : Read) → read w ≡ r → tableAnswer (answer r) (length before) ≡ T.Refused e → Verifies w calls recorded calls recorded (Refused e)
-      go (refused f) is same =
-          let same-e : f ≡ e = cc in
-          refuses w calls recorded (refused-as-read w (rw (← same-e) is) (length calls) (length recorded))
+      go : (r : Read) → read w ≡ r → tableAnswer (answer r) (length before) ≡ T.Refused e → read w ≡ refused e
+      go (refused f) is same = let same-e : f ≡ e = cc in rw (← same-e) is
       go (accepted d reps pairs) is same =
           let low = accepted-read w is .low in
           let filled = rw (le-ltb (length before) (total d) (omega arith)) at same in
           let z : _≡_ {A = ℕ} 0 1 = cc in absurd (omega arith)
+
+  pub refused-of : {e : Fault} (calls recorded : List ℕ) → a ≡ T.Refused e → Verifies w calls recorded calls recorded (Refused e)
+  refused-of calls recorded refuse = refuses w calls recorded (refused-as-read w (reads-refused refuse) (length calls) (length recorded))
+
+  pub refused-unroomed : {e : Fault} → a ≡ T.Refused e → Refused e ≡ unroomed w
+  refused-unroomed refuse = sym (unroomed-refused w (reads-refused refuse))

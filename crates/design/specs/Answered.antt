@@ -27,8 +27,11 @@ use Rattle.design.specs.Verified.{
   temporaries,
   counted,
   told,
+  ofDesign,
   ofRead,
   verified,
+  ofReadUnroomed,
+  unroomed,
   over,
   onSuccess,
   callWords,
@@ -109,6 +112,14 @@ pub refused-as-read : (w : List ℕ) {e : Fault} → read w ≡ refused e → (r
 unfolding verified
 refused-as-read w is room recorded = ap (λ r. ofRead r room recorded) is
 
+pub unroomed-refused : (w : List ℕ) {e : Fault} → read w ≡ refused e → unroomed w ≡ Refused e
+unfolding unroomed
+unroomed-refused w is = ap ofReadUnroomed is
+
+pub unroomed-accepted : (w : List ℕ) {d : Design} {reps pairs : ℕ} → read w ≡ accepted d reps pairs → unroomed w ≡ ofDesign d
+unfolding unroomed
+unroomed-accepted w is = ap ofReadUnroomed is
+
 module _ (w : List ℕ) {d : Design} {reps pairs : ℕ} (is : read w ≡ accepted d reps pairs) (room recorded : ℕ) where
   -- With room, every accepted list is answered.
   pub answered : length (callWords w) ≤ room → total d ≤ recorded → verified w room recorded ≡ told ((built d) .res) (counted (verify d))
@@ -116,6 +127,10 @@ module _ (w : List ℕ) {d : Design} {reps pairs : ℕ} (is : read w ≡ accepte
   answered calls marks =
       let enough : length (encode (verify d)) ≤ room = rw (words-are w is) at calls in
       ap (λ r. ofRead r room recorded) is ∙ rw (le-ltb _ _ enough, le-ltb _ _ marks)
+
+  -- What it is answered is what `unroomed` says.
+  pub answered-unroomed : length (callWords w) ≤ room → total d ≤ recorded → verified w room recorded ≡ unroomed w
+  answered-unroomed calls marks = answered calls marks ∙ sym (unroomed-accepted w is)
 
   -- Its counts are at most 2^27 each.
   pub few-counts : Few (counted (verify d))

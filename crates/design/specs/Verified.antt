@@ -46,11 +46,15 @@ abbrev pub told : List ℕ → Counts → Verified
 told [] n = NothingAsked n
 told (o ∷ more) n = Asked n
 
+-- What an accepted list is answered where there is room.
+abbrev pub ofDesign : Design → Verified
+ofDesign d = told ((built d) .res) (counted (verify d))
+
 -- 14, the call slice before the recorded one, each at the room needed.
 abbrev pub roomed : Design → ℕ → ℕ → Verified
 roomed d room recorded =
     cond (ltb room (length (encode (verify d)))) (Refused (record { number = 14; place = length (encode (verify d)) }))
-    (cond (ltb recorded (total d)) (Refused (record { number = 14; place = total d })) (told ((built d) .res) (counted (verify d))))
+    (cond (ltb recorded (total d)) (Refused (record { number = 14; place = total d })) (ofDesign d))
 
 abbrev pub ofRead : Read → ℕ → ℕ → Verified
 ofRead (refused e) room recorded = Refused e
@@ -59,6 +63,14 @@ ofRead (accepted d reps pairs) room recorded = roomed d room recorded
 -- The answer for a list, with the room of the two slices.
 unfoldable pub verified : List ℕ → ℕ → ℕ → Verified
 verified w room recorded = ofRead (read w) room recorded
+
+abbrev pub ofReadUnroomed : Read → Verified
+ofReadUnroomed (refused e) = Refused e
+ofReadUnroomed (accepted d reps pairs) = ofDesign d
+
+-- The answer for a list, with any room that suffices.
+unfoldable pub unroomed : List ℕ → Verified
+unroomed w = ofReadUnroomed (read w)
 
 -- ---- what the slices hold after it: a refusal changes nothing, success nothing past what it writes
 

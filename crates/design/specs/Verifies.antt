@@ -28,6 +28,11 @@ abbrev pub toldBy : ℕ → Counts → Verified
 toldBy zero n = NothingAsked n
 toldBy (suc k) n = Asked n
 
+-- What a pass counts, wherever it writes.
+pub record Tallied (d : Design) (p : Tally) : Type 0 where
+  pub counts : p .counts ≡ counted (verify d)
+  pub asked : (n : Counts) → toldBy (p .obligations) n ≡ told ((built d) .res) n
+
 pub record Passes (d : Design) (calls calls′ marks′ : List ℕ) (p : Tally) : Type 0 where
   pub wrote : Wrote calls 0 (encode (verify d)) calls′ (p .counts .words)
   pub counts : p .counts ≡ counted (verify d)

@@ -6,9 +6,8 @@ use design_list::SlotTable;
 use logic::Fault;
 ghost use mathlib.Core.Path.{_≡_};
 ghost use lib.ListN.{length, replicate};
-ghost use Rattle.engine.specs.Encode.{encode};
-ghost use Rattle.order.specs.Verify.{verify};
-ghost use Rattle.design.specs.Verifies.{Ready, toldBy, Passes, Verifies};
+ghost use Rattle.design.specs.Verified.{unroomed};
+ghost use Rattle.design.specs.Verifies.{Ready, toldBy, Tallied, Passes, Verifies};
 
 // A refusal, a list with no obligation, or one whose obligations are asked.
 pub enum Verified {
@@ -58,17 +57,15 @@ fn pass(list: &[u32], x: Extent, table: &[u32], calls: &mut [u32], marks: &mut [
     }
 }
 
-// The words that the calls of an accepted list take: a pass that writes nowhere.
-fn room(list: &[u32], x: Extent, table: &[u32]) -> usize
+// What a pass over an accepted list counts where it writes nowhere.
+fn dry_run(list: &[u32], x: Extent, table: &[u32]) -> Tally
     requires { ⌜ Ready (now list) x (now table) ⌝ }
-    ensures { λ r. ⌜ ((ready : Ready (now (list .entry)) x (now (table .entry)))
-        → r ≡ length (encode (verify (ready .d)))) ⌝ }
+    ensures { λ r. ⌜ ((ready : Ready (now (list .entry)) x (now (table .entry))) → Tallied (ready .d) r) ⌝ }
 {
     let mut none = [0u32; 1];
     let mut marks = [0u8; 4096];
     let slots = table.len();
-    let dry = pass(list, x, table, &mut none[..0], &mut marks[..slots]);
-    dry.counts.words
+    pass(list, x, table, &mut none[..0], &mut marks[..slots])
 }
 
 // No mark at any slot.
@@ -105,7 +102,8 @@ fn verify_read(
     ensures { λ r. ⌜ Verifies (now (list .entry)) (now (calls .entry)) (now (recorded .entry))
         (now (calls .exit)) (now (recorded .exit)) r ⌝ }
 {
-    let words = room(list, x, table);
+    let dry = dry_run(list, x, table);
+    let words = dry.counts.words;
     if calls.len() < words {
         return Verified::Refused(Fault {
             number: 14,
@@ -136,6 +134,20 @@ pub fn verify(list: &[u32], calls: &mut [u32], recorded: &mut [u8]) -> Verified
         SlotTable::Filled(x) => {
             let slots = x.base + x.added;
             verify_read(list, x, &table[..slots], calls, recorded)
+        }
+    }
+}
+
+// What `verify` answers where both slices have room enough, so that a caller can size them first: its counts, and whether anything is asked.
+pub fn counts(list: &[u32]) -> Verified
+    ensures { λ r. ⌜ r ≡ unroomed (now (list .entry)) ⌝ }
+{
+    let mut table = [0u32; 4096];
+    match design_list::slot_table(list, &mut table) {
+        SlotTable::Refused(f) => Verified::Refused(f),
+        SlotTable::Filled(x) => {
+            let slots = x.base + x.added;
+            told(dry_run(list, x, &table[..slots]))
         }
     }
 }

@@ -1,9 +1,8 @@
 -- Answers packed into one word of 64 bits: bits 63 to 48 the fault number (0: none), bits 47 to 0 its place or what the entry says.
 use mathlib.Core.Path.{_≡_}
 use mathlib.Core.List.{List}
-use Prim.Native.Nat.{ℕ, _+_, _*_, _%_, _^_}
+use Prim.Native.Nat.{ℕ, _%_, _^_}
 use lib.ListN.{length}
-use Rattle.logic.specs.declared.Fault.{Fault}
 use Rattle.eval.specs.declared.Evaluation.{Evaluation}
 use Rattle.eval.specs.declared.Evaluation.the-variants as eval
 use Rattle.eval.specs.declared.Evaluation.the-variants.{Evaluated}
@@ -18,14 +17,7 @@ use Rattle.answer.specs.declared.Answer.the-variants.{Unsat, Sat}
 use Rattle.answer.specs.Reply.{answerOf, replyTo, tableAfter}
 use Rattle.design_list.specs.declared.DesignRead.{DesignRead}
 use Rattle.design_list.specs.Read.{numberOf, valueOf}
-
--- A number above a value.
-abbrev pub packedAs : ℕ → ℕ → ℕ
-packedAs number value = number % 2 ^ 16 * 2 ^ 48 + value % 2 ^ 48
-
--- A refusal of any entry.
-abbrev pub packedFault : Fault → ℕ
-packedFault e = packedAs (e .number) (e .place)
+use Rattle.packed.specs.Packed.{packedAs, packedFault}
 
 -- The list reader's answer: its number, and below it the place of the fault or base + added.
 abbrev pub packed : DesignRead → ℕ

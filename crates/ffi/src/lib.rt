@@ -2,18 +2,11 @@
 use answer::Answer;
 use design_list::DesignRead;
 use eval::Evaluation;
-use logic::Fault;
 use script::Written;
 ghost use mathlib.Core.Path.{_≡_};
 ghost use Rattle.design_list.specs.Read.{read, answer};
-ghost use Rattle.ffi.specs.Packed.{packed, packedFault, PackedEvaluation, PackedScript, PackedAnswer};
-
-// A refusal, packed: its number above its place.
-fn packed_fault(fault: Fault) -> u64
-    ensures { λ r. ⌜ r ≡ packedFault fault ⌝ }
-{
-    (fault.number % 65536) as u64 * 281474976710656 + (fault.place % 281474976710656) as u64
-}
+ghost use Rattle.ffi.specs.Packed.{packed, PackedEvaluation, PackedScript, PackedAnswer};
+ghost use Rattle.packed.specs.Verified.{PackedVerified, PackedCounts};
 
 // Reads a design list: the fault's number and place, or 0 and the number of slots.
 #[no_mangle]
@@ -21,9 +14,28 @@ pub extern "C" fn vm_read(list: &[u32]) -> u64
     ensures { λ r. ⌜ r ≡ packed (answer (read (now (list .entry)))) ⌝ }
 {
     match design_list::read_design(list) {
-        DesignRead::Refused(f) => packed_fault(f),
+        DesignRead::Refused(f) => packed::packed_fault(f),
         DesignRead::Accepted(x) => x.base as u64 + x.added as u64,
     }
+}
+
+// Verifies a design list: its calls go into the one slice and the marks of its recorded slots into the other. The fault's number and place, or 0
+// and the number of call words, with bit 47 set where something is asked.
+#[no_mangle]
+pub extern "C" fn vm_verify(list: &[u32], calls: &mut [u32], recorded: &mut [u8]) -> u64
+    ensures { λ r. ⌜ PackedVerified (now (list .entry)) (now (calls .entry)) (now (recorded .entry))
+        (now (calls .exit)) (now (recorded .exit)) r ⌝ }
+{
+    packed::verify(list, calls, recorded)
+}
+
+// What a design list's calls would come to: the answer of vm_verify where the slices have room enough, and the numbers of terms, temporaries and
+// call words in front of a slice.
+#[no_mangle]
+pub extern "C" fn vm_counts(list: &[u32], counts: &mut [u64]) -> u64
+    ensures { λ r. ⌜ PackedCounts (now (list .entry)) (now (counts .entry)) (now (counts .exit)) r ⌝ }
+{
+    packed::counts(list, counts)
 }
 
 // Evaluates a call list under the bits of its declared names into a slice: the fault's number and place, or 0 and the number of
@@ -33,7 +45,7 @@ pub extern "C" fn vm_evaluate(calls: &[u32], bits: &[u64], values: &mut [u64]) -
     ensures { λ r. ⌜ PackedEvaluation (now (calls .entry)) (now (bits .entry)) (now (values .entry)) (now (values .exit)) r ⌝ }
 {
     match eval::evaluate(calls, bits, values) {
-        Evaluation::Refused(f) => packed_fault(f),
+        Evaluation::Refused(f) => packed::packed_fault(f),
         Evaluation::Evaluated(n) => (n % 281474976710656) as u64,
     }
 }
@@ -44,7 +56,7 @@ pub extern "C" fn vm_script(calls: &[u32], recorded: &[u8], text: &mut [u8]) -> 
     ensures { λ r. ⌜ PackedScript (now (calls .entry)) (now (recorded .entry)) (now (text .entry)) (now (text .exit)) r ⌝ }
 {
     match script::write_script(calls, recorded, text) {
-        Written::Refused(f) => packed_fault(f),
+        Written::Refused(f) => packed::packed_fault(f),
         Written::Bytes(n) => (n % 281474976710656) as u64,
     }
 }
@@ -55,7 +67,7 @@ pub extern "C" fn vm_answer(text: &[u8], recorded: &[u8], trits: &mut [u8]) -> u
     ensures { λ r. ⌜ PackedAnswer (now (text .entry)) (now (recorded .entry)) (now (trits .entry)) (now (trits .exit)) r ⌝ }
 {
     match answer::read_answer(text, recorded, trits) {
-        Answer::Refused(f) => packed_fault(f),
+        Answer::Refused(f) => packed::packed_fault(f),
         Answer::Unsat => 0,
         Answer::Sat => 1,
     }

@@ -3,7 +3,7 @@ use borrow.Author.Needs.{needs}
 use mathlib.Core.Path.{sym, ap, _∙_}
 use Prim.Native.Nat.{ℕ}
 use lib.ListN.{replicate}
-use Rattle.design.proofs.Verifies.{taken-count, short-calls, short-marks, both-fit}
+use Rattle.design.proofs.Verifies.{taken-count, room-is, short-calls, short-marks, both-fit}
 use Rattle.design.proofs.verify_read.Statement.{statement}
 use Rattle.design.proofs.verify_read.Tie as tie
 
@@ -11,14 +11,14 @@ returns : tie.Need-returns
 returns c =
     let counted = c .before in
     let start = counted .before .before .before .before .before in
-    short-calls (start .pre) (start .args .calls .now) (start .args .recorded .now) (counted .room .ensures (start .pre)) (c .if1 .taken)
+    short-calls (start .pre) (start .args .calls .now) (start .args .recorded .now) (room-is (start .pre) (counted .dry-run .ensures (start .pre))) (c .if1 .taken)
 
 returns-2 : tie.Need-returns-2
 returns-2 c =
     let fits = c .before in
     let counted = fits .before in
     let start = counted .before .before .before .before .before in
-    short-marks (start .pre) (start .args .calls .now) (start .args .recorded .now) (counted .room .ensures (start .pre)) (fits .if1 .left) (c .if2 .taken)
+    short-marks (start .pre) (start .args .calls .now) (start .args .recorded .now) (room-is (start .pre) (counted .dry-run .ensures (start .pre))) (fits .if1 .left) (c .if2 .taken)
 
 marks-count : tie.Need-slice-aggregate-marks
 marks-count c = taken-count _ _ (c .before .if2 .left)
@@ -40,7 +40,7 @@ returns-3 c =
     let start = counted .before .before .before .before .before in
     let kept = passed .pass .kept .1 .1 .1 .1 .0 ∙ cleared .clear .kept .0 ∙ sym (taken-count _ _ (fits .if2 .left)) in
     rw (c .told .ensures)
-    (both-fit (start .pre) (start .args .calls .now) (start .args .recorded .now) (counted .room .ensures (start .pre)) (first .if1 .left)
+    (both-fit (start .pre) (start .args .calls .now) (start .args .recorded .now) (room-is (start .pre) (counted .dry-run .ensures (start .pre))) (first .if1 .left)
     (fits .if2 .left) kept (passed .pass .ensures (start .pre)))
 
 pub verify-read-spec : {M : Type 1} → statement M

@@ -1,10 +1,10 @@
--- `design::room` meets its contract: a pass counts the words also where it has no room for them. Assumes nothing.
+-- `design::dry_run` meets its contract: a pass counts also where it has no room. Assumes nothing.
 use borrow.Author.Needs.{needs}
 use native.Mathlib.Omega.{arith}
 use lib.ListN.{length}
-use Rattle.design.proofs.Verifies.{part-count, part-zeros, table-low, room-is}
-use Rattle.design.proofs.room.Statement.{statement}
-use Rattle.design.proofs.room.Tie as tie
+use Rattle.design.proofs.Verifies.{part-count, part-zeros, table-low, tallied}
+use Rattle.design.proofs.dry_run.Statement.{statement}
+use Rattle.design.proofs.dry_run.Tie as tie
 
 marks-fit : tie.Need-array-borrow-prefix-marks
 marks-fit c = omega (arith, table-low (c .before .before .before .pre))
@@ -18,8 +18,8 @@ pass-requires c κs =
     (start .pre, part-zeros (length (start .args .table .now)) 4096 (table-low (start .pre)))
 
 returns : tie.Need-returns
-returns c = λ ready. room-is ready (c .before .before .pass .ensures ready)
+returns c = λ ready. tallied ready (c .before .before .pass .ensures ready)
 
-pub room-spec : {M : Type 1} → statement M
-room-spec =
+pub dry-run-spec : {M : Type 1} → statement M
+dry-run-spec =
     tie.close (tie.spec (λ c. search needs) (λ c. search needs) marks-fit marks-count pass-requires returns)

@@ -1,4 +1,4 @@
--- A refusal of `read` has a number of at most 13 and a place of at most 16,384, so packing it loses nothing.
+-- A refusal of `read` has a number of at most 13 and a place of at most 16,384.
 use Prim.Native.Nat.{ℕ, zero, suc, _+_, _-_, _/_, _%_, _^_, _<_, _≤_, max}
 use mathlib.Core.Path.{_≡_, refl}
 use mathlib.Core.Bool.{Bool, true, false, cond}
@@ -46,7 +46,6 @@ use Rattle.voids.specs.declared.Item.the-variants as I
 use Rattle.placing.specs.Slots.{heads, isVoid}
 use Rattle.voids.specs.Voids.{voidDriver, namesVoid, offends, voidAt, clockAt, recordVoidsAt, replacementVoidsAt, pairVoidsAt, itemVoidsAt, voidsAt}
 use Rattle.design_list.specs.Read.{Read, refused, accepted, onScan, onOpening, readNetReps, readCellReps, readCells, read, answer}
-use Rattle.ffi.specs.Packed.{packed}
 use Rattle.cell_reader.specs.Record.{onValue, thirdAt, secondAt, firstAt, leadingAt, tailAt, bodyAt, onHead, onLeading, onBody, contentsAt, recordAt}
 
 -- A fault of document 01's table, at a place of a list.
@@ -512,11 +511,3 @@ read-small w = go (ltb 16384 (length w)) (ltb (length w) 4) refl refl
     go true b x y = omega arith
     go false true x y = let short : length w ≤ 16384 = ltb-false _ _ x in omega arith
     go false false x y = opened (ltb-false _ _ x) (ltb-false _ _ y) (headerAt w) (header-small w (ltb-false _ _ x))
-
--- The packed answer of a refused list gives back the fault's number and place.
-pub packed-whole :
-    (w : List ℕ) {e : Fault} → read w ≡ refused e →
-    (packed (answer (read w)) / 2 ^ 48 ≡ e .number) × (packed (answer (read w)) % 2 ^ 48 ≡ e .place)
-packed-whole w {e} same =
-    let small : Small e = rw same at (read-small w) in
-    rw same (omega (arith, small .0, small .1), omega (arith, small .0, small .1))

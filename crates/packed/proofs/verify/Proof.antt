@@ -1,0 +1,18 @@
+-- `packed::verify` meets its contract: the answer of `verify` is packed as the definition says. Assumes nothing.
+use borrow.Author.Needs.{needs}
+use Rattle.packed.proofs.verify.Statement.{statement}
+use Rattle.packed.proofs.verify.Tie as tie
+
+returns : tie.Need-returns
+returns c =
+    let verified = c .before .before .before .before .before in
+    record {
+      answers = rw (← verified .verify .ensures .answer, c .packed-verified .ensures);
+      writes = verified .verify .ensures .called;
+      marks = verified .verify .ensures .marked;
+    }
+
+pub verify-spec : {M : Type 1} → statement M
+verify-spec =
+    tie.close
+    (tie.spec (λ c κs. search needs) (λ c κs. search needs) (λ c. search needs) (λ c. search needs) returns)

@@ -1,0 +1,96 @@
+// Answers packed into one word of 64 bits: a refusal, and what the order of work answers.
+use builder::Counts;
+use design::Verified;
+use logic::Fault;
+ghost use mathlib.Core.Path.{_≡_};
+ghost use lib.ListN.{length};
+ghost use Prim.Native.Nat.{_≤_};
+ghost use Rattle.packed.specs.Packed.{packedFault};
+ghost use Rattle.packed.specs.Verified.{packedVerified, PackedVerified, lent, written, PackedCounts};
+
+// A refusal, packed: its number above its place.
+pub fn packed_fault(fault: Fault) -> u64
+    ensures { λ r. ⌜ r ≡ packedFault fault ⌝ }
+{
+    (fault.number % 65536) as u64 * 281474976710656 + (fault.place % 281474976710656) as u64
+}
+
+// What the order of work answers, packed: its number above bit 48, whether anything is asked in bit 47, and below it the call words or the place.
+fn packed_verified(answer: Verified) -> u64
+    ensures { λ r. ⌜ r ≡ packedVerified answer ⌝ }
+{
+    match answer {
+        Verified::Refused(f) => packed_fault(f),
+        Verified::NothingAsked(n) => (n.words % 281474976710656) as u64,
+        Verified::Asked(n) => {
+            ((n.words % 281474976710656) as u64 + 140737488355328) % 281474976710656
+        }
+    }
+}
+
+// Verifies a design list: its calls go into the one slice and the marks of its recorded slots into the other. The fault's number and place, or 0
+// and the number of call words, with bit 47 set where something is asked.
+pub fn verify(list: &[u32], calls: &mut [u32], recorded: &mut [u8]) -> u64
+    ensures { λ r. ⌜ PackedVerified (now (list .entry)) (now (calls .entry)) (now (recorded .entry))
+        (now (calls .exit)) (now (recorded .exit)) r ⌝ }
+{
+    packed_verified(design::verify(list, calls, recorded))
+}
+
+// An answer with its counts, or 14 where the slice lent for them has less than three numbers.
+fn with_room(answer: Verified, room: usize) -> Verified
+    ensures { λ r. ⌜ r ≡ lent answer room ⌝ }
+{
+    match answer {
+        Verified::Refused(f) => Verified::Refused(f),
+        Verified::NothingAsked(n) => {
+            if room < 3 {
+                Verified::Refused(Fault {
+                    number: 14,
+                    place: 3,
+                })
+            } else {
+                Verified::NothingAsked(n)
+            }
+        }
+        Verified::Asked(n) => {
+            if room < 3 {
+                Verified::Refused(Fault {
+                    number: 14,
+                    place: 3,
+                })
+            } else {
+                Verified::Asked(n)
+            }
+        }
+    }
+}
+
+// Terms, temporaries and words, in this order, in front of a slice.
+fn put_counts(n: Counts, into: &mut [u64])
+    requires { ⌜ 3 ≤ length (now into) ⌝ }
+    ensures { λ _. ⌜ now (into .exit) ≡ written n (now (into .entry)) ⌝ }
+{
+    into[0] = n.terms as u64;
+    into[1] = n.temporaries as u64;
+    into[2] = n.words as u64;
+}
+
+// What a design list's calls would come to: the answer of `verify` where the slices have room enough, and the numbers of terms, temporaries and
+// call words in front of a slice.
+pub fn counts(list: &[u32], counts: &mut [u64]) -> u64
+    ensures { λ r. ⌜ PackedCounts (now (list .entry)) (now (counts .entry)) (now (counts .exit)) r ⌝ }
+{
+    let answer = with_room(design::counts(list), counts.len());
+    match answer {
+        Verified::Refused(f) => packed_verified(Verified::Refused(f)),
+        Verified::NothingAsked(n) => {
+            put_counts(n, counts);
+            packed_verified(Verified::NothingAsked(n))
+        }
+        Verified::Asked(n) => {
+            put_counts(n, counts);
+            packed_verified(Verified::Asked(n))
+        }
+    }
+}

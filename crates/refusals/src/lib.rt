@@ -1,0 +1,1 @@
+// What every refusal of the list reader has.
