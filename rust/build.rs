@@ -1,5 +1,5 @@
-//! Links the proved archive, libffi.a, which `rt staticlib ffi` writes. VIRGINALMIMAS_ARCHIVE names its folder; the default is
-//! target/staticlib of the repository.
+//! Links the proved archive, libffi.a, which `rt staticlib ffi` writes. VIRGINALMIMAS_ARCHIVE names its folder; the
+//! default is target/staticlib of the repository.
 
 use std::env;
 use std::path::PathBuf;

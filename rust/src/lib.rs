@@ -1,8 +1,8 @@
 //! Virginalmimas from Rust: a function for each entry of its proved archive, over slices, with an enum for each answer.
 //!
-//! Words, fault numbers and places are those of `ffi/virginalmimas.h`. Any words may be handed in: a bad list is refused with
-//! the number and place of its first fault, and a refusal leaves every lent slice as it was. There is no heap; tables are on
-//! the stack, so a thread that calls `evaluate` or `script` needs 2 MB of it.
+//! Words, fault numbers and places are those of `ffi/virginalmimas.h`. Any words may be handed in: a bad list is refused
+//! with the number and place of its first fault, and a refusal leaves every lent slice as it was. There is no heap; tables
+//! are on the stack, so a thread that calls `evaluate` or `script` needs 2 MB of it.
 
 /// The entries, as `ffi/virginalmimas.h` declares them.
 mod entries {
@@ -25,7 +25,8 @@ fn unpacked(packed: u64) -> Result<u64, (u16, usize)> {
     }
 }
 
-/// What `verify` does with a design list. Where nothing is asked there is no check among the calls, and no solver is needed.
+/// What `verify` does with a design list. Where nothing is asked there is no check among the calls, and no solver is
+/// needed.
 #[derive(Debug, Clone, Copy, PartialEq, Eq)]
 pub enum Verified {
     Refused { number: u16, place: usize },
@@ -33,8 +34,8 @@ pub enum Verified {
     Asked { words: usize },
 }
 
-/// The words of the solver calls go into `calls`, and the mark of each slot into `recorded`. A slice too short is fault 14 at
-/// the room needed, `calls` before `recorded`; `counts` and `read` tell both beforehand.
+/// The words of the solver calls go into `calls`, and the mark of each slot into `recorded`. A slice too short is fault 14
+/// at the room needed, `calls` before `recorded`; `counts` and `read` tell both beforehand.
 pub fn verify(list: &[u32], calls: &mut [u32], recorded: &mut [u8]) -> Verified {
     let (room, slots) = (calls.len(), recorded.len());
     let (calls, recorded) = (calls.as_mut_ptr(), recorded.as_mut_ptr());
@@ -108,8 +109,8 @@ pub enum Evaluated {
     Evaluated { false_assertions: usize },
 }
 
-/// Evaluates a call list under the bits of its declared names, in the order of their declarations; the number of every term
-/// goes into `values`.
+/// Evaluates a call list under the bits of its declared names, in the order of their declarations; the number of every
+/// term goes into `values`.
 pub fn evaluate(calls: &[u32], bits: &[u64], values: &mut [u64]) -> Evaluated {
     let (values, room) = (values.as_mut_ptr(), values.len());
     // Safety: as in `verify`.
@@ -146,7 +147,8 @@ pub enum Answer {
     Sat,
 }
 
-/// Reads a solver's reply against the recorded marks. After sat `trits` has 0, 1, 2 (X) or 3 (not recorded) for each mark.
+/// Reads a solver's reply against the recorded marks. After sat `trits` has 0, 1, 2 (X) or 3 (not recorded) for each
+/// mark.
 pub fn answer(text: &[u8], recorded: &[u8], trits: &mut [u8]) -> Answer {
     let (trits, room) = (trits.as_mut_ptr(), trits.len());
     let (marks, slots) = (recorded.as_ptr(), recorded.len());
