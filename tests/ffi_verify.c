@@ -1,4 +1,5 @@
-/* Verifies lists through vm_verify and counts them through vm_counts; exits with 1 where an answer or a slice is not as the header says. */
+/* Verifies lists through vm_verify and counts them through vm_counts; exits with 1 where an answer or a slice is not as the
+   header says. */
 #include <stdio.h>
 #include <string.h>
 #include "../ffi/virginalmimas.h"
@@ -58,7 +59,8 @@ static const uint32_t script[] = {
 };
 
 int main(void) {
-    const uint32_t example[] = {NUM(2), NUM(0), NUM(0), NUM(1), HEAD(21, 1), NUM(1), HEAD(2, 2), NUM(1), SLOT(0), SLOT(1), SLOT(0)};
+    const uint32_t example[] = {NUM(2), NUM(0), NUM(0), NUM(1), HEAD(21, 1), NUM(1), HEAD(2, 2), NUM(1), SLOT(0),
+                                SLOT(1), SLOT(0)};
     const uint32_t unchanged[] = {NUM(2), NUM(0), NUM(0), NUM(0), HEAD(21, 1), NUM(1), HEAD(2, 2), NUM(1), SLOT(0)};
     const uint32_t wide[] = {NUM(64), NUM(0), NUM(0), NUM(0), HEAD(21, 1), NUM(64)};
     const uint32_t reads_void[] = {NUM(2), NUM(0), NUM(0), NUM(0), HEAD(0, 0), HEAD(1, 2), NUM(1), SLOT(0)};
@@ -79,20 +81,24 @@ int main(void) {
     refused("marks one short", example, 11, n, 1, FAULT(14, 2));
 
     expect("counts cut short", vm_counts(example, 10, counts, 0) == FAULT(1, 10));
-    expect("counts of two numbers", vm_counts(example, 11, counts, 2) == FAULT(14, 3) && counts[0] == 9 && counts[1] == 9);
+    expect("counts of two numbers", vm_counts(example, 11, counts, 2) == FAULT(14, 3));
+    expect("they stay", counts[0] == 9 && counts[1] == 9);
     expect("counts", vm_counts(example, 11, counts, 4) == (ASKED | n));
     expect("terms, temporaries, words", counts[0] == 17 && counts[1] == 0 && counts[2] == n && counts[3] == 9);
-    expect("counts, nothing asked", vm_counts(unchanged, 9, counts, 3) == 33 && counts[0] == 8 && counts[1] == 0 && counts[2] == 33);
+    expect("counts, nothing asked", vm_counts(unchanged, 9, counts, 3) == 33);
+    expect("its counts", counts[0] == 8 && counts[1] == 0 && counts[2] == 33);
 
     expect("example", vm_verify(example, 11, calls, n, recorded, 2) == (ASKED | n));
-    expect("its calls", memcmp(calls, script, sizeof script) == 0 && memcmp(calls + n, filled + n, sizeof filled - sizeof script) == 0);
+    expect("its calls", memcmp(calls, script, sizeof script) == 0);
+    expect("words past them", memcmp(calls + n, filled + n, sizeof filled - sizeof script) == 0);
     expect("its marks", recorded[0] == 1 && recorded[1] == 1 && memcmp(recorded + 2, blank + 2, SLOTS - 2) == 0);
     expect("its script", vm_script(calls, n, recorded, 2, text, sizeof text) >> 48 == 0);
 
     memcpy(calls, filled, sizeof calls);
     memcpy(recorded, blank, sizeof recorded);
     expect("nothing asked", vm_verify(unchanged, 9, calls, ROOM, recorded, SLOTS) == 33);
-    expect("its calls", memcmp(calls, script, 33 * sizeof *calls) == 0 && memcmp(calls + 33, filled + 33, (ROOM - 33) * sizeof *calls) == 0);
+    expect("its calls", memcmp(calls, script, 33 * sizeof *calls) == 0);
+    expect("words past them", memcmp(calls + 33, filled + 33, (ROOM - 33) * sizeof *calls) == 0);
     expect("its marks", recorded[0] == 1 && recorded[1] == 1 && memcmp(recorded + 2, blank + 2, SLOTS - 2) == 0);
 
     printf(failed ? "ffi_verify: failed\n" : "ffi_verify: ok\n");

@@ -1,5 +1,5 @@
-//! The proved archive beside the Rust: both in one program and on the same lists. Call words, marks, refusals and counts
-//! must be equal, and what neither writes must stay as it was.
+//! The proved archive beside the Rust: both in one program and on the same lists. Call words, marks, refusals and
+//! counts must be equal, and what is not written must stay as it was.
 
 use crate::features::{self, Tally};
 use crate::generate::{self, Size};

@@ -28,7 +28,16 @@ use Rattle.walk.specs.Works.{Works}
 use Rattle.design.specs.declared.Tally.{Tally}
 use Rattle.design.specs.declared.Verified.the-variants.{Refused, NothingAsked, Asked}
 use Rattle.design.specs.Verified.{told, verified, unroomed, over, callWords, marks, writtenMarks}
-use Rattle.design.specs.Answered.{refused-as-read, unroomed-refused, unroomed-accepted, answered, short-of-words, short-of-marks, untouched, slices-after}
+use Rattle.design.specs.Answered.{
+  refused-as-read,
+  unroomed-refused,
+  unroomed-accepted,
+  answered,
+  short-of-words,
+  short-of-marks,
+  untouched,
+  slices-after,
+}
 use Rattle.design.specs.Required.{words-are}
 use Rattle.design.specs.Passes.{nothing}
 use Rattle.design.specs.Verifies.{Ready, toldBy, Tallied, Passes, Verifies}
@@ -111,7 +120,8 @@ module _ {w : List ℕ} {x : Extent} {table : List ℕ} (ready : Ready w x table
         asked = λ n. told-as (s .obligations) (take (s .obligations) eqs₁) n (taken-count (s .obligations) eqs₁ fit) ∙ ap (λ (l : List ℕ). told l n) (all .asked);
       }
 
-  pub tallied : {calls calls′ marks′ : List ℕ} {p : Tally} → Passes (ready .d) calls calls′ marks′ p → Tallied (ready .d) p
+  pub tallied : {calls calls′ marks′ : List ℕ} {p : Tally} → Passes (ready .d) calls calls′ marks′ p
+      → Tallied (ready .d) p
   tallied passes = record { counts = passes .counts; asked = passes .asked }
 
   pub room-is : {p : Tally} → Tallied (ready .d) p → p .counts .words ≡ length (encode (verify (ready .d)))
@@ -119,7 +129,8 @@ module _ {w : List ℕ} {x : Extent} {table : List ℕ} (ready : Ready w x table
 
   pub told-unroomed : {p : Tally} → Tallied (ready .d) p → toldBy (p .obligations) (p .counts) ≡ unroomed w
   told-unroomed {p} counted =
-      counted .asked (p .counts) ∙ ap (told ((built (ready .d)) .res)) (counted .counts) ∙ sym (unroomed-accepted w (ready .is))
+      counted .asked (p .counts) ∙ ap (told ((built (ready .d)) .res)) (counted .counts)
+      ∙ sym (unroomed-accepted w (ready .is))
 
 -- ---- the answer
 
@@ -229,7 +240,8 @@ module _ (w : List ℕ) {before after : List ℕ} {a : SlotTable} (long : length
           let z : _≡_ {A = ℕ} 0 1 = cc in absurd (omega arith)
 
   pub refused-of : {e : Fault} (calls recorded : List ℕ) → a ≡ T.Refused e → Verifies w calls recorded calls recorded (Refused e)
-  refused-of calls recorded refuse = refuses w calls recorded (refused-as-read w (reads-refused refuse) (length calls) (length recorded))
+  refused-of calls recorded refuse =
+      refuses w calls recorded (refused-as-read w (reads-refused refuse) (length calls) (length recorded))
 
   pub refused-unroomed : {e : Fault} → a ≡ T.Refused e → Refused e ≡ unroomed w
   refused-unroomed refuse = sym (unroomed-refused w (reads-refused refuse))

@@ -116,7 +116,8 @@ pub unroomed-refused : (w : List ℕ) {e : Fault} → read w ≡ refused e → u
 unfolding unroomed
 unroomed-refused w is = ap ofReadUnroomed is
 
-pub unroomed-accepted : (w : List ℕ) {d : Design} {reps pairs : ℕ} → read w ≡ accepted d reps pairs → unroomed w ≡ ofDesign d
+pub unroomed-accepted : (w : List ℕ) {d : Design} {reps pairs : ℕ} → read w ≡ accepted d reps pairs
+    → unroomed w ≡ ofDesign d
 unfolding unroomed
 unroomed-accepted w is = ap ofReadUnroomed is
 

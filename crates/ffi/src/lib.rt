@@ -19,8 +19,8 @@ pub extern "C" fn vm_read(list: &[u32]) -> u64
     }
 }
 
-// Verifies a design list: its calls go into the one slice and the marks of its recorded slots into the other. The fault's number and place, or 0
-// and the number of call words, with bit 47 set where something is asked.
+// Verifies a design list: its calls go into the one slice and the marks of its recorded slots into the other. The fault's
+// number and place, or 0 and the number of call words, with bit 47 set where something is asked.
 #[no_mangle]
 pub extern "C" fn vm_verify(list: &[u32], calls: &mut [u32], recorded: &mut [u8]) -> u64
     ensures { λ r. ⌜ PackedVerified (now (list .entry)) (now (calls .entry)) (now (recorded .entry))
@@ -29,8 +29,8 @@ pub extern "C" fn vm_verify(list: &[u32], calls: &mut [u32], recorded: &mut [u8]
     packed::verify(list, calls, recorded)
 }
 
-// What a design list's calls would come to: the answer of vm_verify where the slices have room enough, and the numbers of terms, temporaries and
-// call words in front of a slice.
+// What a design list's calls would come to: the answer of vm_verify where the slices have room enough, and the numbers of
+// terms, temporaries and call words in front of a slice.
 #[no_mangle]
 pub extern "C" fn vm_counts(list: &[u32], counts: &mut [u64]) -> u64
     ensures { λ r. ⌜ PackedCounts (now (list .entry)) (now (counts .entry)) (now (counts .exit)) r ⌝ }

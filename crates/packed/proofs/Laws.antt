@@ -1,4 +1,5 @@
--- The slice of counts: three numbers are stored in front of it, and where they are it has room for them. Assumes nothing.
+-- The slice of counts: three numbers are stored in front of it, and where they are it has room for them; and what `counts`
+-- leaves, from what it calls. Assumes nothing.
 use mathlib.Core.Path.{_≡_, refl}
 use mathlib.Core.Bool.{Bool, true, false, cond}
 use mathlib.Core.List.{List, [], _∷_}
@@ -10,7 +11,8 @@ use borrow.Author.Tests.{ltb-false}
 use Rattle.builder.specs.declared.Counts.{Counts}
 use Rattle.design.specs.declared.Verified.{Verified}
 use Rattle.design.specs.declared.Verified.the-variants.{Refused, NothingAsked, Asked}
-use Rattle.packed.specs.Verified.{lent}
+use Rattle.design.specs.Verified.{unroomed}
+use Rattle.packed.specs.Verified.{packedVerified, roomed, lent, countsAfter, PackedCounts}
 
 pub three-set : (l : List ℕ) (a b c : ℕ) → 3 ≤ length l → set (set (set l 0 a) 1 b) 2 c ≡ a ∷ b ∷ c ∷ drop 3 l
 three-set [] a b c h = absurd (omega arith)
@@ -24,7 +26,7 @@ Answers (Refused e) = ⊥
 Answers (NothingAsked n) = Unit {0}
 Answers (Asked n) = Unit {0}
 
-roomed-room : (room : ℕ) (a : Verified) → Answers (cond (ltb room 3) (Refused (record { number = 14; place = 3 })) a) → 3 ≤ room
+roomed-room : (room : ℕ) (a : Verified) → Answers (roomed room a) → 3 ≤ room
 roomed-room room a = go (ltb room 3) refl
   where
     go : (b : Bool) → ltb room 3 ≡ b → Answers (cond b (Refused (record { number = 14; place = 3 })) a) → 3 ≤ room
@@ -41,3 +43,9 @@ nothing-room a room is = lent-room a room (rw (← is) tt)
 
 pub asked-room : (a : Verified) (room : ℕ) {n : Counts} → Asked n ≡ lent a room → 3 ≤ room
 asked-room a room is = lent-room a room (rw (← is) tt)
+
+pub counts-are : (w before : List ℕ) {after : List ℕ} {r : ℕ} {a b v : Verified} → a ≡ unroomed w
+    → b ≡ lent a (length before) → b ≡ v → r ≡ packedVerified v → after ≡ countsAfter v before
+    → PackedCounts w before after r
+counts-are w before all room is said wrote =
+    record { answers = rw (← all, ← room, is, said); writes = rw (← all, ← room, is, wrote) }

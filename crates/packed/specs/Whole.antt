@@ -16,7 +16,18 @@ use Rattle.refusals.specs.Small.{Small, SmallRead, read-small}
 use Rattle.order.specs.Verify.{built, verify}
 use Rattle.design.specs.declared.Verified.{Verified}
 use Rattle.design.specs.declared.Verified.the-variants.{Refused, NothingAsked, Asked}
-use Rattle.design.specs.Verified.{numberOf, valueOf, counted, told, ofDesign, roomed, ofRead, verified, ofReadUnroomed, unroomed}
+use Rattle.design.specs.Verified.{
+  numberOf,
+  valueOf,
+  counted,
+  told,
+  ofDesign,
+  roomed,
+  ofRead,
+  verified,
+  ofReadUnroomed,
+  unroomed,
+}
 use Rattle.design.specs.Answered.{few-counts}
 use Rattle.packed.specs.Verified.{askedOf, packedVerified, lent}
 
@@ -41,7 +52,8 @@ told-low (o ∷ l) n few = (omega arith, few)
 
 module _ (w : List ℕ) where
   refused-low : {e : Fault} → read w ≡ refused e → Low (Refused e)
-  refused-low {e} is = let small : Small e = rw is at (read-small w) in (omega (arith, small .0), omega (arith, small .1))
+  refused-low {e} is =
+      let small : Small e = rw is at (read-small w) in (omega (arith, small .0), omega (arith, small .1))
 
   module _ {d : Design} {reps pairs : ℕ} (is : read w ≡ accepted d reps pairs) where
     answered-low : Low (ofDesign d)
@@ -86,7 +98,8 @@ lent-low (Asked n) room low = go (ltb room 3)
     go false = low
 
 -- Of verify, for every list and every room lent.
-pub verify-whole : (w : List ℕ) (room recorded : ℕ) → Whole (verified w room recorded) (packedVerified (verified w room recorded))
+pub verify-whole : (w : List ℕ) (room recorded : ℕ)
+    → Whole (verified w room recorded) (packedVerified (verified w room recorded))
 verify-whole w room recorded = low-whole (verified w room recorded) (verified-low w room recorded)
 
 -- Of counts likewise.

@@ -1,18 +1,22 @@
--- `design::counts` meets its contract: what `slot_table` refuses is refused, and an accepted list is told by a dry run. Assumes nothing.
+-- `design::counts` meets its contract: what `slot_table` refuses is refused, and an accepted list is told by a dry run.
+-- Assumes nothing.
 use borrow.Author.Needs.{needs}
-use mathlib.Core.Path.{_∙_}
+use mathlib.Core.Path.{_≡_, _∙_}
 use native.Mathlib.Omega.{arith}
 use Prim.Native.Nat.{ℕ}
-use lib.ListN.{length-replicate}
+use lib.ListN.{length, replicate, length-replicate}
 use Rattle.design.proofs.Verifies.{taken-count, slots-low, ready-of, refused-unroomed, told-unroomed}
 use Rattle.design.proofs.counts.Statement.{statement}
 use Rattle.design.proofs.counts.Tie as tie
+
+zeros : length {A = ℕ} (replicate 4096 0) ≡ 4096
+zeros = length-replicate {A = ℕ} 4096 0
 
 add-slots : tie.Need-add-slots
 add-slots c =
     let filled = c .before .before in
     let tabled = filled .before .before .before in
-    omega (arith, slots-low _ (length-replicate {A = ℕ} 4096 0) (tabled .slot-table .ensures) (filled .x .given .1))
+    omega (arith, slots-low _ zeros (tabled .slot-table .ensures) (filled .x .given .1))
 
 slots-fit : tie.Need-array-share-prefix-table
 slots-fit c =
@@ -20,8 +24,8 @@ slots-fit c =
     let tabled = filled .before .before .before in
     omega (
       arith,
-      slots-low _ (length-replicate {A = ℕ} 4096 0) (tabled .slot-table .ensures) (filled .x .given .1),
-      tabled .slot-table .kept .1 .0 ∙ length-replicate {A = ℕ} 4096 0,
+      slots-low _ zeros (tabled .slot-table .ensures) (filled .x .given .1),
+      tabled .slot-table .kept .1 .0 ∙ zeros,
     )
 
 slots-count : tie.Need-slice-aggregate-dry-run
@@ -31,21 +35,21 @@ slots-count c =
     taken-count _ _
     (omega (
       arith,
-      slots-low _ (length-replicate {A = ℕ} 4096 0) (tabled .slot-table .ensures) (filled .x .given .1),
-      tabled .slot-table .kept .1 .0 ∙ length-replicate {A = ℕ} 4096 0,
+      slots-low _ zeros (tabled .slot-table .ensures) (filled .x .given .1),
+      tabled .slot-table .kept .1 .0 ∙ zeros,
     ))
 
 dry-run-requires : tie.Need-dry-run-requires
 dry-run-requires c κs =
     let filled = c .before .before .before in
     let tabled = filled .before .before .before in
-    ready-of _ (length-replicate {A = ℕ} 4096 0) (tabled .slot-table .ensures) (filled .x .given .1) (tabled .slot-table .kept .1 .0 ∙ length-replicate {A = ℕ} 4096 0)
+    ready-of _ zeros (tabled .slot-table .ensures) (filled .x .given .1) (tabled .slot-table .kept .1 .0 ∙ zeros)
 
 returns : tie.Need-returns
 returns c =
     let refused = c .before in
     let tabled = refused .before .before .before in
-    refused-unroomed _ (length-replicate {A = ℕ} 4096 0) (tabled .slot-table .ensures) (refused .f .given .1)
+    refused-unroomed _ zeros (tabled .slot-table .ensures) (refused .f .given .1)
 
 returns-2 : tie.Need-returns-2
 returns-2 c =
@@ -53,12 +57,12 @@ returns-2 c =
     let filled = counted .before .before .before .before in
     let tabled = filled .before .before .before in
     let ready =
-    ready-of _ (length-replicate {A = ℕ} 4096 0) (tabled .slot-table .ensures) (filled .x .given .1) (tabled .slot-table .kept .1 .0 ∙ length-replicate {A = ℕ} 4096 0) in
+    ready-of _ zeros (tabled .slot-table .ensures) (filled .x .given .1) (tabled .slot-table .kept .1 .0 ∙ zeros) in
     c .told .ensures ∙ told-unroomed ready (counted .dry-run .ensures ready)
 
 pub counts-spec : {M : Type 1} → statement M
 counts-spec =
     tie.close
     (tie.spec
-    (λ c. search needs) (λ c κs. search needs) (λ c. search needs) (λ c. search needs) add-slots slots-fit slots-count dry-run-requires (λ c κs. search needs)
-    returns returns-2)
+    (λ c. search needs) (λ c κs. search needs) (λ c. search needs) (λ c. search needs) add-slots slots-fit slots-count
+    dry-run-requires (λ c κs. search needs) returns returns-2)

@@ -10,7 +10,9 @@ marks-fit : tie.Need-array-borrow-prefix-marks
 marks-fit c = omega (arith, table-low (c .before .before .before .pre))
 
 marks-count : tie.Need-slice-aggregate-pass-2
-marks-count c = let start = c .before .before .before .before in part-count (length (start .args .table .now)) 4096 0 (table-low (start .pre))
+marks-count c =
+    let start = c .before .before .before .before in
+    part-count (length (start .args .table .now)) 4096 0 (table-low (start .pre))
 
 pass-requires : tie.Need-pass-requires
 pass-requires c κs =

@@ -1,0 +1,161 @@
+//! Virginalmimas from Rust: a function for each entry of its proved archive, over slices, with an enum for each answer.
+//!
+//! Words, fault numbers and places are those of `ffi/virginalmimas.h`. Any words may be handed in: a bad list is refused
+//! with the number and place of its first fault, and a refusal leaves every lent slice as it was. There is no heap; tables
+//! are on the stack, so a thread that calls `evaluate` or `script` needs 2 MB of it.
+
+/// The entries, as `ffi/virginalmimas.h` declares them.
+mod entries {
+    unsafe extern "C" {
+        pub fn vm_read(list: *const u32, len: usize) -> u64;
+        pub fn vm_verify(list: *const u32, len: usize, calls: *mut u32, c: usize, recorded: *mut u8, r: usize) -> u64;
+        pub fn vm_counts(list: *const u32, len: usize, counts: *mut u64, c: usize) -> u64;
+        pub fn vm_evaluate(calls: *const u32, n: usize, bits: *const u64, m: usize, values: *mut u64, v: usize) -> u64;
+        pub fn vm_script(calls: *const u32, n: usize, recorded: *const u8, r: usize, text: *mut u8, t: usize) -> u64;
+        pub fn vm_answer(text: *const u8, t: usize, recorded: *const u8, r: usize, trits: *mut u8, s: usize) -> u64;
+    }
+}
+
+/// A packed answer taken apart: a refusal's number and place, or what the entry says.
+fn unpacked(packed: u64) -> Result<u64, (u16, usize)> {
+    let value = packed & ((1 << 48) - 1);
+    match (packed >> 48) as u16 {
+        0 => Ok(value),
+        number => Err((number, value as usize)),
+    }
+}
+
+/// What `verify` does with a design list. Where nothing is asked there is no check among the calls, and no solver is
+/// needed.
+#[derive(Debug, Clone, Copy, PartialEq, Eq)]
+pub enum Verified {
+    Refused { number: u16, place: usize },
+    NothingAsked { words: usize },
+    Asked { words: usize },
+}
+
+/// The words of the solver calls go into `calls`, and the mark of each slot into `recorded`. A slice too short is fault 14
+/// at the room needed, `calls` before `recorded`; `counts` and `read` tell both beforehand.
+pub fn verify(list: &[u32], calls: &mut [u32], recorded: &mut [u8]) -> Verified {
+    let (room, slots) = (calls.len(), recorded.len());
+    let (calls, recorded) = (calls.as_mut_ptr(), recorded.as_mut_ptr());
+    // Safety: each pointer goes with the length of its slice, and the archive keeps within them.
+    match unpacked(unsafe { entries::vm_verify(list.as_ptr(), list.len(), calls, room, recorded, slots) }) {
+        Err((number, place)) => Verified::Refused { number, place },
+        Ok(value) if is_asked(value) => Verified::Asked { words: words_of(value) },
+        Ok(value) => Verified::NothingAsked { words: words_of(value) },
+    }
+}
+
+/// Bit 47: something is asked.
+fn is_asked(value: u64) -> bool {
+    value >> 47 == 1
+}
+
+fn words_of(value: u64) -> usize {
+    (value & ((1 << 47) - 1)) as usize
+}
+
+/// How many terms and temporaries the calls of a list make, and how many words they take.
+#[derive(Debug, Clone, Copy, PartialEq, Eq)]
+pub struct Counts {
+    pub terms: u64,
+    pub temporaries: u64,
+    pub words: u64,
+}
+
+/// What `counts` does with a design list.
+#[derive(Debug, Clone, Copy, PartialEq, Eq)]
+pub enum Counted {
+    Refused { number: u16, place: usize },
+    NothingAsked(Counts),
+    Asked(Counts),
+}
+
+/// What `verify` would count if its slices had room enough.
+pub fn counts(list: &[u32]) -> Counted {
+    let mut counts = [0; 3];
+    // Safety: as in `verify`.
+    let packed = unsafe { entries::vm_counts(list.as_ptr(), list.len(), counts.as_mut_ptr(), counts.len()) };
+    let [terms, temporaries, words] = counts;
+    let counts = Counts { terms, temporaries, words };
+    match unpacked(packed) {
+        Err((number, place)) => Counted::Refused { number, place },
+        Ok(value) if is_asked(value) => Counted::Asked(counts),
+        Ok(_) => Counted::NothingAsked(counts),
+    }
+}
+
+/// What `read` does with a design list. Its slots are base + added: as many marks are recorded.
+#[derive(Debug, Clone, Copy, PartialEq, Eq)]
+pub enum Read {
+    Refused { number: u16, place: usize },
+    Accepted { slots: usize },
+}
+
+/// Reads a design list.
+pub fn read(list: &[u32]) -> Read {
+    // Safety: as in `verify`.
+    match unpacked(unsafe { entries::vm_read(list.as_ptr(), list.len()) }) {
+        Err((number, place)) => Read::Refused { number, place },
+        Ok(slots) => Read::Accepted { slots: slots as usize },
+    }
+}
+
+/// What `evaluate` does with a call list.
+#[derive(Debug, Clone, Copy, PartialEq, Eq)]
+pub enum Evaluated {
+    Refused { number: u16, place: usize },
+    Evaluated { false_assertions: usize },
+}
+
+/// Evaluates a call list under the bits of its declared names, in the order of their declarations; the number of every
+/// term goes into `values`.
+pub fn evaluate(calls: &[u32], bits: &[u64], values: &mut [u64]) -> Evaluated {
+    let (values, room) = (values.as_mut_ptr(), values.len());
+    // Safety: as in `verify`.
+    let packed = unsafe { entries::vm_evaluate(calls.as_ptr(), calls.len(), bits.as_ptr(), bits.len(), values, room) };
+    match unpacked(packed) {
+        Err((number, place)) => Evaluated::Refused { number, place },
+        Ok(many) => Evaluated::Evaluated { false_assertions: many as usize },
+    }
+}
+
+/// What `script` does with a call list and its recorded marks.
+#[derive(Debug, Clone, Copy, PartialEq, Eq)]
+pub enum Script {
+    Refused { number: u16, place: usize },
+    Written { bytes: usize },
+}
+
+/// Writes the script for an SMT-LIB solver into `text`.
+pub fn script(calls: &[u32], recorded: &[u8], text: &mut [u8]) -> Script {
+    let (text, room) = (text.as_mut_ptr(), text.len());
+    let (marks, slots) = (recorded.as_ptr(), recorded.len());
+    // Safety: as in `verify`.
+    match unpacked(unsafe { entries::vm_script(calls.as_ptr(), calls.len(), marks, slots, text, room) }) {
+        Err((number, place)) => Script::Refused { number, place },
+        Ok(bytes) => Script::Written { bytes: bytes as usize },
+    }
+}
+
+/// What `answer` does with a solver's reply.
+#[derive(Debug, Clone, Copy, PartialEq, Eq)]
+pub enum Answer {
+    Refused { number: u16, place: usize },
+    Unsat,
+    Sat,
+}
+
+/// Reads a solver's reply against the recorded marks. After sat `trits` has 0, 1, 2 (X) or 3 (not recorded) for each
+/// mark.
+pub fn answer(text: &[u8], recorded: &[u8], trits: &mut [u8]) -> Answer {
+    let (trits, room) = (trits.as_mut_ptr(), trits.len());
+    let (marks, slots) = (recorded.as_ptr(), recorded.len());
+    // Safety: as in `verify`.
+    match unpacked(unsafe { entries::vm_answer(text.as_ptr(), text.len(), marks, slots, trits, room) }) {
+        Err((number, place)) => Answer::Refused { number, place },
+        Ok(0) => Answer::Unsat,
+        Ok(_) => Answer::Sat,
+    }
+}

@@ -1,0 +1,101 @@
+//! Document 01's example through every function: an Input, its Not, and the Not's net replaced by the Input's.
+
+use virginalmimas::*;
+
+/// #2 #0 #0 #1, Input #1, Not #1 s0, s1 s0.
+#[rustfmt::skip]
+const LIST: [u32; 11] = [
+    0x6000_0002, 0x6000_0000, 0x6000_0000, 0x6000_0001, // header
+    0x4000_0035, 0x6000_0001, // Input #1
+    0x4000_0042, 0x6000_0001, 0x0000_0002, // Not #1 s0
+    0x0000_0003, 0x0000_0002, // s1 s0
+];
+
+/// The same without the replacement.
+fn unchanged() -> Vec<u32> {
+    let mut list = LIST[..9].to_vec();
+    list[3] = 0x6000_0000;
+    list
+}
+
+/// Its script.
+const SCRIPT: &str = include_str!("../../oracle/example.smt2");
+const WORDS: usize = 60;
+const UNTOUCHED: u32 = 0xa5a5_a5a5;
+
+fn verified() -> ([u32; WORDS], [u8; 2]) {
+    let (mut calls, mut recorded) = ([UNTOUCHED; WORDS], [9; 2]);
+    assert_eq!(verify(&LIST, &mut calls, &mut recorded), Verified::Asked { words: WORDS });
+    (calls, recorded)
+}
+
+#[test]
+fn reads() {
+    assert_eq!(read(&LIST), Read::Accepted { slots: 2 });
+    assert_eq!(read(&LIST[..10]), Read::Refused { number: 1, place: 10 });
+    assert_eq!(read(&[]), Read::Refused { number: 1, place: 0 });
+}
+
+#[test]
+fn counts_before_any_room_is_lent() {
+    let all = Counts { terms: 17, temporaries: 0, words: WORDS as u64 };
+    assert_eq!(counts(&LIST), Counted::Asked(all));
+    assert_eq!(counts(&unchanged()), Counted::NothingAsked(Counts { terms: 8, temporaries: 0, words: 33 }));
+    assert_eq!(counts(&LIST[..10]), Counted::Refused { number: 1, place: 10 });
+}
+
+#[test]
+fn verifies() {
+    let (mut calls, mut recorded) = ([UNTOUCHED; WORDS + 3], [9; 4]);
+    assert_eq!(verify(&LIST, &mut calls, &mut recorded), Verified::Asked { words: WORDS });
+    assert_eq!(calls[..WORDS], verified().0);
+    assert_eq!(calls[WORDS..], [UNTOUCHED; 3]);
+    assert_eq!(recorded, [1, 1, 9, 9]);
+    assert_eq!(verify(&unchanged(), &mut calls, &mut recorded), Verified::NothingAsked { words: 33 });
+}
+
+#[test]
+fn a_refusal_leaves_both_slices() {
+    let (mut calls, mut recorded) = ([UNTOUCHED; WORDS], [9; 2]);
+    let refused = |number, place| Verified::Refused { number, place };
+    assert_eq!(verify(&LIST[..10], &mut calls, &mut recorded), refused(1, 10));
+    assert_eq!(verify(&LIST, &mut calls[..WORDS - 1], &mut recorded[..1]), refused(14, WORDS));
+    assert_eq!(verify(&LIST, &mut calls, &mut recorded[..1]), refused(14, 2));
+    assert_eq!((calls, recorded), ([UNTOUCHED; WORDS], [9; 2]));
+}
+
+#[test]
+fn writes_the_script() {
+    let (calls, recorded) = verified();
+    let mut text = [b'.'; 2_000];
+    assert_eq!(script(&calls, &recorded, &mut text), Script::Written { bytes: SCRIPT.len() });
+    assert_eq!(&text[..SCRIPT.len()], SCRIPT.as_bytes());
+    assert!(text[SCRIPT.len()..].iter().all(|byte| *byte == b'.'));
+    assert_eq!(script(&calls, &recorded, &mut text[..9]), Script::Refused { number: 15, place: SCRIPT.len() });
+    assert_eq!(script(&calls[..4], &recorded, &mut text), Script::Refused { number: 19, place: 0 });
+}
+
+#[test]
+fn evaluates() {
+    let (calls, _) = verified();
+    let mut values = [9; 18];
+    // The Input is 1 and its Not 0: the replacement is wrong there, and the query holds.
+    assert_eq!(evaluate(&calls, &[0, 1, 0, 0], &mut values), Evaluated::Evaluated { false_assertions: 0 });
+    assert_eq!(values[..5], [0, 1, 0, 0, 0]);
+    assert_eq!(values[17], 9);
+    // A Not of 1 that is 1 breaks its own assertion, and the query.
+    assert_eq!(evaluate(&calls, &[0, 1, 0, 1], &mut values), Evaluated::Evaluated { false_assertions: 2 });
+    assert_eq!(evaluate(&calls, &[0, 1, 0], &mut values), Evaluated::Refused { number: 20, place: 4 });
+}
+
+#[test]
+fn reads_the_answer() {
+    let (_, recorded) = verified();
+    let mut trits = [9; 3];
+    assert_eq!(answer(b"unsat", &recorded, &mut trits), Answer::Unsat);
+    assert_eq!(answer(b"unknown", &recorded, &mut trits), Answer::Refused { number: 18, place: 0 });
+    assert_eq!(trits, [9; 3]);
+    let sat = b"sat\n((n0x #b0)\n (n0y #b1)\n (n1x #b0)\n (n1y #b0))\n";
+    assert_eq!(answer(sat, &recorded, &mut trits), Answer::Sat);
+    assert_eq!(trits, [1, 0, 9]);
+}
