@@ -29,7 +29,7 @@ use Rattle.design.specs.Verified.{
   unroomed,
 }
 use Rattle.design.specs.Answered.{few-counts}
-use Rattle.packed.specs.Verified.{askedOf, packedVerified, lent}
+use Rattle.packed.specs.Verified.{askedOf, packedVerified, PackedVerified, lent, PackedCounts}
 
 -- The number, the value and whether anything is asked, taken out of a packed answer.
 pub record Whole (a : Verified) (packed : ℕ) : Type 0 where
@@ -97,11 +97,16 @@ lent-low (Asked n) room low = go (ltb room 3)
     go true = (omega arith, omega arith)
     go false = low
 
--- Of verify, for every list and every room lent.
-pub verify-whole : (w : List ℕ) (room recorded : ℕ)
-    → Whole (verified w room recorded) (packedVerified (verified w room recorded))
-verify-whole w room recorded = low-whole (verified w room recorded) (verified-low w room recorded)
+-- Of verify, from its contract: for every list and every two slices.
+pub verify-whole : {w calls recorded calls′ recorded′ : List ℕ} {r : ℕ} → PackedVerified w calls recorded calls′ recorded′ r
+    → Whole (verified w (length calls) (length recorded)) r
+verify-whole {w} {calls} {recorded} said =
+    let room = length calls in
+    let marks = length recorded in
+    rw (said .answers) (low-whole (verified w room marks) (verified-low w room marks))
 
 -- Of counts likewise.
-pub counts-whole : (w : List ℕ) (room : ℕ) → Whole (lent (unroomed w) room) (packedVerified (lent (unroomed w) room))
-counts-whole w room = low-whole (lent (unroomed w) room) (lent-low (unroomed w) room (unroomed-low w))
+pub counts-whole : {w before after : List ℕ} {r : ℕ} → PackedCounts w before after r → Whole (lent (unroomed w) (length before)) r
+counts-whole {w} {before} said =
+    let room = length before in
+    rw (said .answers) (low-whole (lent (unroomed w) room) (lent-low (unroomed w) room (unroomed-low w)))
