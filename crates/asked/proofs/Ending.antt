@@ -17,8 +17,8 @@ use Rattle.engine.specs.Encode as o
 use Rattle.engine.specs.Steps.{calls-end, calls-step}
 use Rattle.text.specs.Bytes.{ascii}
 use Rattle.text.specs.Names.{nameText, spelling, namesOfMark, bothNames, askedFrom, asked}
-use Rattle.terms.specs.Find.{firstCalls, Reached, reached-start, reached-next, first-more, split, madeAt}
-use Rattle.terms.specs.Literal.{payloads}
+use Rattle.call_list.specs.Records.{firstCalls, Reached, reached-start, reached-next, first-more, split, madeAt}
+use Rattle.call_list.specs.Literal.{payloads}
 use Rattle.pieces.specs.Text.{spaced}
 use Rattle.pieces.specs.Shape.{shapeOf, shapeAt}
 use Rattle.pieces.proofs.Laws.{spaced-append}

@@ -7,6 +7,8 @@ use Rattle.engine.specs.Call.{Name, Call}
 use Rattle.engine.specs.Call as c
 use Rattle.engine.specs.Encode.{letterNumber, suffixNumber}
 use Rattle.text.specs.Names.{namesOfMark}
+use Rattle.name_table.specs.Names.{nameEntry, bySearch}
+use Rattle.name_table.specs.Named.{isName}
 use Rattle.asked.specs.declared.Mark.{Mark}
 use Rattle.asked.specs.declared.Mark.the-variants.{Fine, Bad}
 
@@ -16,10 +18,6 @@ any p [] = false
 any p (call ∷ calls) = p call || any p calls
 
 -- A call declares the name of a letter, an index and a suffix, by their numbers.
-abbrev pub isName : ℕ → ℕ → ℕ → Name → Bool
-isName letter index suffix name =
-    eqb (letterNumber (name .letter)) letter && (eqb (name .index) index && eqb (suffixNumber (name .suffix)) suffix)
-
 abbrev pub declaresName : ℕ → ℕ → ℕ → Call → Bool
 declaresName letter index suffix (c.term t) = false
 declaresName letter index suffix (c.declare name w) = isName letter index suffix name
@@ -45,3 +43,22 @@ badMark calls slot (mark ∷ marks) = cond (markStands calls slot mark) (badMark
 -- The number of a letter or a suffix, as a word has it.
 abbrev pub lowNumber : ℕ → ℕ
 lowNumber n = cond (eqb n 1) 1 (cond (eqb n 2) 2 0)
+
+-- ---- as the code goes
+
+-- Whether calls declare a name: by a table of names, beyond it by the calls.
+abbrev pub declaredBy : List ℕ → List Call → ℕ → ℕ → ℕ → Bool
+declaredBy names calls letter index suffix =
+    bySearch (nameEntry names letter index suffix) (any (declaresName letter index suffix) calls)
+
+-- Both names of a slot, and what a mark asks, by what is declared.
+abbrev pub pairBy : (ℕ → ℕ → ℕ → Bool) → ℕ → ℕ → Bool
+pairBy declares letter slot = declares letter slot 1 && declares letter slot 2
+
+abbrev pub standsBy : (ℕ → ℕ → ℕ → Bool) → ℕ → ℕ → Bool
+standsBy declares slot mark = cond (eqb mark 1) (pairBy declares 0 slot) (cond (eqb mark 2) (pairBy declares 1 slot) (eqb mark 0))
+
+-- The first mark of which a test fails.
+unfoldable pub badBy : (ℕ → ℕ → Bool) → ℕ → List ℕ → Mark
+badBy stands slot [] = Fine
+badBy stands slot (mark ∷ marks) = cond (stands slot mark) (badBy stands (suc slot) marks) (Bad slot)

@@ -1,6 +1,5 @@
 // What the recorded marks ask of a solver: whether the calls declare the names, and the text that asks for their values.
 ghost use mathlib.Core.Path.{_≡_};
-ghost use mathlib.Core.Bool.{_&&_};
 ghost use mathlib.Core.List.{_++_, map};
 ghost use Prim.Native.Nat.{_+_, _<_};
 ghost use lib.ListN.{length};
@@ -12,7 +11,7 @@ ghost use Rattle.text.specs.Names.{nameText, namesOfMark, spelling, asked};
 ghost use Rattle.text.specs.Write.{Wrote};
 ghost use Rattle.pieces.specs.Text.{spaced};
 ghost use Rattle.asked.specs.Ending.{getValue, ending, namesFrom, FirstAsked, valuesText};
-ghost use Rattle.asked.specs.Marks.{any, lowNumber, declaresName, markStands, badMark};
+ghost use Rattle.asked.specs.Marks.{any, lowNumber, declaresName, declaredBy, pairBy, standsBy, badBy};
 
 // The first recorded mark that does not stand, if there is one.
 pub enum Mark {
@@ -26,10 +25,10 @@ fn has_check(calls: &[u32]) -> bool
 {
     let mut head = 0;
     while head < calls.len() {
-        if pieces::shape(terms::operation(calls, head)) == 7 {
+        if pieces::shape(call_list::operation_number(calls, head)) == 7 {
             return true;
         }
-        head = terms::next_record(calls, head);
+        head = call_list::next_record(calls, head);
     }
     false
 }
@@ -154,19 +153,19 @@ fn low_number(number: u32) -> u32
 fn declares_here(calls: &[u32], head: usize, letter: u32, index: usize, suffix: u32) -> bool
     ensures { λ r. ⌜ r ≡ declaresName letter index suffix (callAt (now (calls .entry)) head) ⌝ }
 {
-    if pieces::shape(terms::operation(calls, head)) != 5 {
+    if pieces::shape(call_list::operation_number(calls, head)) != 5 {
         return false;
     }
-    if low_number(terms::argument(calls, head, 0)) != letter {
+    if letter != low_number(call_list::argument_at(calls, head, 0)) {
         return false;
     }
-    if terms::term_argument(calls, head, 1) != index {
+    if index != call_list::argument_at(calls, head, 1) as usize {
         return false;
     }
-    low_number(terms::argument(calls, head, 2)) == suffix
+    suffix == low_number(call_list::argument_at(calls, head, 2))
 }
 
-// Whether a call list declares a name.
+// Whether a call list declares a name, by its records.
 fn is_declared(calls: &[u32], letter: u32, index: usize, suffix: u32) -> bool
     ensures { λ r. ⌜ r ≡ any (declaresName letter index suffix) (decode (now (calls .entry))) ⌝ }
 {
@@ -175,41 +174,52 @@ fn is_declared(calls: &[u32], letter: u32, index: usize, suffix: u32) -> bool
         if declares_here(calls, head, letter, index, suffix) {
             return true;
         }
-        head = terms::next_record(calls, head);
+        head = call_list::next_record(calls, head);
     }
     false
 }
 
-// Whether a call list declares both names of a slot.
-fn is_pair_declared(calls: &[u32], letter: u32, slot: usize) -> bool
-    ensures { λ r. ⌜ r ≡ (any (declaresName letter slot 1) (decode (now (calls .entry))) && any (declaresName letter slot 2) (decode (now (calls .entry)))) ⌝ }
+// Whether a call list declares a name: by the table of its names, beyond it by its records.
+fn is_known(calls: &[u32], names: &[u8], letter: u32, index: usize, suffix: u32) -> bool
+    ensures { λ r. ⌜ r ≡ declaredBy (now (names .entry)) (decode (now (calls .entry))) letter index suffix ⌝ }
 {
-    if is_declared(calls, letter, slot, 1) {
-        return is_declared(calls, letter, slot, 2);
+    let noted = name_table::name_entry(names, letter, index, suffix);
+    if noted == 2 {
+        return is_declared(calls, letter, index, suffix);
+    }
+    noted == 1
+}
+
+// Whether a call list declares both names of a slot.
+fn is_pair_declared(calls: &[u32], names: &[u8], letter: u32, slot: usize) -> bool
+    ensures { λ r. ⌜ r ≡ pairBy (declaredBy (now (names .entry)) (decode (now (calls .entry)))) letter slot ⌝ }
+{
+    if is_known(calls, names, letter, slot, 1) {
+        return is_known(calls, names, letter, slot, 2);
     }
     false
 }
 
 // Whether a mark is none, or asks for names that the calls declare.
-fn mark_stands(calls: &[u32], slot: usize, mark: u8) -> bool
-    ensures { λ r. ⌜ r ≡ markStands (decode (now (calls .entry))) slot mark ⌝ }
+fn mark_stands(calls: &[u32], names: &[u8], slot: usize, mark: u8) -> bool
+    ensures { λ r. ⌜ r ≡ standsBy (declaredBy (now (names .entry)) (decode (now (calls .entry)))) slot mark ⌝ }
 {
     if mark == 1 {
-        return is_pair_declared(calls, 0, slot);
+        return is_pair_declared(calls, names, 0, slot);
     }
     if mark == 2 {
-        return is_pair_declared(calls, 1, slot);
+        return is_pair_declared(calls, names, 1, slot);
     }
     mark == 0
 }
 
-// The first mark that does not stand.
-pub fn bad_mark(calls: &[u32], recorded: &[u8]) -> Mark
-    ensures { λ r. ⌜ r ≡ badMark (decode (now (calls .entry))) 0 (now (recorded .entry)) ⌝ }
+// The first mark that does not stand, with a table of the names that the calls declare.
+pub fn bad_mark(calls: &[u32], names: &[u8], recorded: &[u8]) -> Mark
+    ensures { λ r. ⌜ r ≡ badBy (standsBy (declaredBy (now (names .entry)) (decode (now (calls .entry))))) 0 (now (recorded .entry)) ⌝ }
 {
     let mut slot = 0;
     while slot < recorded.len() {
-        if !mark_stands(calls, slot, recorded[slot]) {
+        if !mark_stands(calls, names, slot, recorded[slot]) {
             return Mark::Bad(slot);
         }
         slot += 1;

@@ -1,1 +1,4 @@
 pub mod Operations
+pub mod Made
+pub mod Records
+pub mod Literal

@@ -1,13 +1,12 @@
 -- The check, record by record: what holds between two records, and what the answer is where it ends.
-use native.Mathlib.Nat.{le-refl}
 use Rattle.checker.specs.declared.Wrong.the-variants.{None, At}
 use mathlib.Core.Path.{_≡_, refl, sym, ap, ap₂, _∙_, subst}
-use mathlib.Core.Bool.{Bool, true, false, not, _&&_}
+use mathlib.Core.Bool.{Bool, true, false}
 use mathlib.Core.List.{List}
 use mathlib.Core.Option.{Option, some, none}
 use Prim.Native.Nat.{ℕ, zero, suc, _+_, _-_, _≤_, _<_}
 use native.Mathlib.Omega.{arith}
-use lib.ListN.{length, getD, set, length-set, replicate, length-replicate}
+use lib.ListN.{length, getD, replicate}
 use Rattle.bitvec.specs.Bits.{bit}
 use Rattle.engine.specs.Call.{Call}
 use Rattle.engine.specs.Call as c
@@ -20,31 +19,32 @@ use Rattle.call_list.specs.Operations.{isDeclare, declares-of}
 use Rattle.checker.specs.declared.CallList.{CallList}
 use Rattle.checker.specs.declared.CallList.the-variants.{WellFormed, Malformed}
 use Rattle.checker.specs.declared.Seen.{Seen}
-use Rattle.checker.specs.Tables.{checkedAs, isCheck, seenNext, noteSort, noteName, faultBy, pickList, atMost, wrongAs}
-use Rattle.checker.specs.TableLaws.{ReadTo, NamesTo, names-none, names-next, sorts-more, fault-none, fault-some}
+use Rattle.term_table.specs.Tables.{noteSort, notePlace}
+use Rattle.term_table.specs.Sorted.{ReadTo, read-start, sorts-more}
+use Rattle.term_table.specs.Placed.{Placed, placed-start, placed-more}
+use Rattle.name_table.specs.Names.{noteName}
+use Rattle.name_table.specs.Named.{NamesTo, names-none, names-next}
+use Rattle.checker.specs.Tables.{checkedAs, isCheck, seenNext, faultBy, wrongAs}
+use Rattle.checker.specs.TableLaws.{fault-none, fault-some}
 
--- The answer of the check, and the table of sorts that it leaves for a well-formed list.
-pub record Checked (w table : List ℕ) (answer : CallList) : Type 0 where
+-- The tables of a well-formed list: the places and sorts of its first terms, and its names of low indexes.
+pub record Tables (w places sorts names : List ℕ) (y : Context) : Type 0 where
+  pub read : ReadTo w (length w) y sorts (length (y .sorts))
+  pub placed : Placed w places (length (y .sorts))
+  pub named : NamesTo names (y .names)
+
+-- The answer of the check, and the tables that it leaves for a well-formed list.
+pub record Checked (w places sorts names : List ℕ) (answer : CallList) : Type 0 where
   pub is : answer ≡ checkedAs (outcome w)
-  pub tabled : (y : Context) → outcome w ≡ wellFormed y → ReadTo w (length w) y table (length (y .sorts))
-
--- Nothing is read at first.
-pub read-start : (w table : List ℕ) → ReadTo w 0 start table 0
-read-start w table = record {
-  records = 0;
-  passes = (refl, refl);
-  within = omega arith;
-  tabled = λ k h l. absurd (omega arith);
-  counts = refl;
-}
+  pub tabled : (y : Context) → outcome w ≡ wellFormed y → Tables w places sorts names y
 
 -- Between two records: what the calls so far leave, as the tables and counts have it, and what remains to be read.
-pub record Checking (w table names : List ℕ) (s : Seen) : Type 0 where
+pub record Checking (w places table names : List ℕ) (s : Seen) : Type 0 where
   pub context : Context
   pub fuel : ℕ
   pub read : ReadTo w (s .at) context table (s .terms)
+  pub placed : Placed w places (s .terms)
   pub named : NamesTo names (context .names)
-  pub room : 589824 ≤ length names
   pub declared : s .declared ≡ length (context .names)
   pub checked : s .checked ≡ context .checked
   pub enough : length w - s .at ≤ fuel
@@ -55,14 +55,13 @@ pub record Checking (w table names : List ℕ) (s : Seen) : Type 0 where
 abbrev pub nothingSeen : Seen
 nothingSeen = record { at = 0; terms = 0; declared = 0; checked = false }
 
-pub checking-start : (w table names : List ℕ) → 589824 ≤ length names → ((k : ℕ) → getD names k 0 ≡ 0)
-    → Checking w table names nothingSeen
-checking-start w table names room zeros = record {
+pub checking-start : (w places table names : List ℕ) → ((k : ℕ) → getD names k 0 ≡ 0) → Checking w places table names nothingSeen
+checking-start w places table names zeros = record {
   context = start;
   fuel = length w;
   read = read-start w table;
+  placed = placed-start w places;
   named = names-none names zeros;
-  room = room;
   declared = refl;
   checked = refl;
   enough = omega arith;
@@ -100,11 +99,7 @@ pub bit-low : (b : Bool) → bit b ≤ 1
 bit-low true = omega arith
 bit-low false = omega arith
 
-note-length : (b : Bool) (names : List ℕ) (i : ℕ) → length (pickList b (set names i 1) names) ≡ length names
-note-length true names i = length-set names i 1
-note-length false names i = refl
-
-module _ {w table names : List ℕ} {s : Seen} (k : Checking w table names s) (inside : s .at < length w) where
+module _ {w places table names : List ℕ} {s : Seen} (k : Checking w places table names s) (inside : s .at < length w) where
   some-fuel : {P : Type 0} → ((n : ℕ) → k .fuel ≡ suc n → P) → P
   some-fuel f = go (k .fuel) (k .enough) f
     where
@@ -130,7 +125,8 @@ module _ {w table names : List ℕ} {s : Seen} (k : Checking w table names s) (i
         ∙ fault-some (k .read) names (k .named) inside unchecked p n e)))
 
     pub record-right : faultBy table names w (s .terms) (s .at) ≡ none
-        → Checking w (noteSort table w (s .at) (s .terms)) (noteName names w (s .at)) (seenNext w s)
+        → Checking w (notePlace places w (s .at) (s .terms)) (noteSort table w (s .at) (s .terms)) (noteName names w (s .at))
+        (seenNext w s)
     record-right e =
         some-fuel (λ n f.
         let right = fault-none (k .read) names (k .named) inside unchecked e in
@@ -138,8 +134,8 @@ module _ {w table names : List ℕ} {s : Seen} (k : Checking w table names s) (i
           context = after (k .context) (callAt w (s .at));
           fuel = n;
           read = sorts-more (k .read) right;
-          named = names-next names w (s .at) (k .context) right (k .room) (k .named);
-          room = rw (note-length (isDeclare (operationAt w (s .at)) && atMost (getD w (s .at + 2) 0) 65535) names _) (k .room);
+          placed = placed-more (k .read) right places (k .placed);
+          named = names-next names w (s .at) (k .context) right (k .named);
           declared =
               ap₂ _+_ (k .declared) (ap bit (sym (declares-of (operationAt w (s .at)) (countAt w (s .at)) _)))
               ∙ sym (names-grow (k .context) (callAt w (s .at)));
@@ -153,23 +149,29 @@ module _ {w table names : List ℕ} {s : Seen} (k : Checking w table names s) (i
         })
 
 -- At the end.
-pub checked-end : {w table names : List ℕ} {s : Seen} → Checking w table names s → length w ≤ s .at
-    → Checked w table (WellFormed (s .terms) (s .declared))
-checked-end {w} {table} {names} {s} k end =
+pub checked-end : {w places table names : List ℕ} {s : Seen} → Checking w places table names s → length w ≤ s .at
+    → Checked w places table names (WellFormed (s .terms) (s .declared))
+checked-end {w} {places} {table} {names} {s} k end =
     let all : outcome w ≡ wellFormed (k .context) = k .rest ∙ read-end (k .fuel) w (s .at) (k .context) end in
     record {
       is = rw all (ap₂ WellFormed (k .read .counts) (k .declared));
       tabled = λ y e.
           let same : k .context ≡ y = cc in
           let at-end : s .at ≡ length w = omega (arith, k .read .within) in
-          subst (λ (z : Context). ReadTo w (length w) z table (length (z .sorts))) same
-          (subst (λ (n : ℕ). ReadTo w (length w) (k .context) table n) (k .read .counts)
-          (subst (λ (n : ℕ). ReadTo w n (k .context) table (s .terms)) at-end (k .read)));
+          subst (Tables w places table names) same
+          (record {
+            read =
+                subst (λ (n : ℕ). ReadTo w (length w) (k .context) table n) (k .read .counts)
+                (subst (λ (n : ℕ). ReadTo w n (k .context) table (s .terms)) at-end (k .read));
+            placed = subst (Placed w places) (k .read .counts) (k .placed);
+            named = k .named;
+          });
     }
 
--- A refusal says nothing of the table.
-pub checked-wrong : {w table : List ℕ} {p : ℕ} → Malformed p ≡ checkedAs (outcome w) → Checked w table (Malformed p)
-checked-wrong {w} {table} {p} e =
+-- A refusal says nothing of the tables.
+pub checked-wrong : {w places table names : List ℕ} {p : ℕ} → Malformed p ≡ checkedAs (outcome w)
+    → Checked w places table names (Malformed p)
+checked-wrong {w} {places} {table} {names} {p} e =
     record { is = e; tabled = λ y f. absurd (let z : Malformed p ≡ checkedAs (wellFormed y) = rw f at e in never y z) }
   where
     never : (y : Context) → Malformed p ≡ checkedAs (wellFormed y) → ⊥
@@ -185,9 +187,6 @@ wrong-none none e = refl
 wrong-none (some i) e = absurd (let z : _≡_ {A = ℕ} 0 1 = cc in omega arith)
 
 -- A table of zeros.
-pub zeros-room : (n : ℕ) → n ≤ length {A = ℕ} (replicate n 0)
-zeros-room n = rw (length-replicate {A = ℕ} n 0) (le-refl n)
-
 pub zeros-all : (n k : ℕ) → _≡_ {A = ℕ} (getD (replicate n 0) k 0) 0
 zeros-all zero k = refl
 zeros-all (suc n) zero = refl

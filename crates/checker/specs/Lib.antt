@@ -1,4 +1,3 @@
 pub mod Tables
-pub mod Sums
 pub mod TableLaws
 pub mod Checking

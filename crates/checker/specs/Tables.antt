@@ -1,29 +1,19 @@
--- The checker's tables: the sorts of the first terms and the names declared so far, and what it reads from them.
+-- What the checker reads from its tables: the sorts of words, the faults of a record, and how far it has come.
 use mathlib.Core.Bool.{Bool, true, false, not, cond, _&&_}
 use mathlib.Core.List.{List}
 use mathlib.Core.Option.{Option, some, none}
-use Prim.Native.Nat.{ℕ, _+_, _-_, _*_, min}
-use lib.ListN.{length, getD, set}
-use lib.Dec.{eqb, leb, ltb}
+use Prim.Native.Nat.{ℕ, _+_, _-_}
+use lib.ListN.{length, getD}
+use lib.Dec.{eqb, ltb}
 use Rattle.logic.specs.Word.{kindOf, payloadOf}
 use Rattle.engine.specs.Sorts.{Sort, noSort, start, after}
 use Rattle.bitvec.specs.Bits.{bit}
 use Rattle.checker.specs.declared.Seen.{Seen}
-use Rattle.engine.specs.Encode.{Op, makesTerm, operationAt, countAt, argumentAt, nextAt, callAt, callOf}
-use Rattle.engine.specs.WellFormed.{
-  isNumber,
-  countFits,
-  argumentOf,
-  admits,
-  declares,
-  firstFailing,
-  Outcome,
-  wellFormed,
-  malformed,
-  outcome,
-}
-use Rattle.engine.specs.Structure.{originOf, sortFrom, sortOfTerm, declaredBefore}
+use Rattle.engine.specs.Encode.{Op, makesTerm, operationAt, countAt, argumentAt, nextAt, callOf}
+use Rattle.engine.specs.WellFormed.{countFits, argumentOf, admits, firstFailing, Outcome, wellFormed, malformed}
+use Rattle.engine.specs.Structure.{sortOfTerm}
 use Rattle.call_list.specs.Operations.{isDeclare}
+use Rattle.name_table.specs.Names.{knownBy}
 use Rattle.checker.specs.declared.Wrong.{Wrong}
 use Rattle.checker.specs.declared.Wrong.the-variants.{None, At}
 use Rattle.checker.specs.declared.CallList.{CallList}
@@ -34,20 +24,12 @@ abbrev pub checkedAs : Outcome → CallList
 checkedAs (wellFormed x) = WellFormed (length (x .sorts)) (length (x .names))
 checkedAs (malformed at) = Malformed at
 
-abbrev pub pickList : Bool → List ℕ → List ℕ → List ℕ
-pickList true a b = a
-pickList false a b = b
-
 -- ---- sorts
 
 -- The sort of the term that a word refers to, of `terms` terms so far.
 abbrev pub wordSort : List ℕ → List ℕ → ℕ → ℕ → Sort
 wordSort table w terms word =
     cond (eqb (kindOf word) 4 && ltb (payloadOf word) terms) (sortOfTerm table w (payloadOf word)) noSort
-
--- The sort of the term that the record at a place makes.
-abbrev pub recordSort : List ℕ → List ℕ → ℕ → Sort
-recordSort table w at = sortFrom (sortOfTerm table w) (originOf (callAt w at))
 
 -- Argument i of the record at a place may stand there.
 abbrev pub standsBy : List ℕ → List ℕ → ℕ → ℕ → ℕ → Bool
@@ -64,35 +46,17 @@ wrongAs (some i) = At i
 
 -- ---- names
 
--- The place in the table of a name of an index below 65,536.
-abbrev pub slotOf : ℕ → ℕ → ℕ → ℕ
-slotOf letter index suffix = (letter * 3 + suffix) * 65536 + index
-
-abbrev pub atMost : ℕ → ℕ → Bool
-atMost word bound = isNumber word && leb (payloadOf word) bound
-
--- Three words spell a name declared before a place: from the table, beyond it by the records.
-abbrev pub knownBy : List ℕ → List ℕ → ℕ → ℕ → ℕ → ℕ → Bool
-knownBy names w at letter index suffix =
-    cond (atMost letter 2)
-    (cond (atMost suffix 2)
-    (cond (atMost index 65535)
-    (eqb (getD names (slotOf (payloadOf letter) (payloadOf index) (payloadOf suffix)) 0) 1)
-    (declaredBefore w (min at (length w)) letter index suffix))
-    false)
-    false
-
 abbrev pub againBy : List ℕ → List ℕ → ℕ → Bool
 againBy names w at =
     cond (isDeclare (operationAt w at))
-    (knownBy names w at (getD w (at + 1) 0) (getD w (at + 2) 0) (getD w (at + 3) 0)) false
+    (knownBy names w at (argumentAt w at 0) (argumentAt w at 1) (argumentAt w at 2)) false
 
 -- The head of the record at a place stands.
 abbrev pub headBy : List ℕ → List ℕ → ℕ → Bool
 headBy names w at =
     cond (eqb (kindOf (getD w at 0)) 2)
     (cond (ltb (countAt w at) (length w - at))
-    (cond (countFits (operationAt w at) (countAt w at) (getD w (at + 1) 0)) (not (againBy names w at)) false)
+    (cond (countFits (operationAt w at) (countAt w at) (argumentAt w at 0)) (not (againBy names w at)) false)
     false)
     false
 
@@ -108,21 +72,6 @@ pickPlace false a b = b
 abbrev pub faultBy : List ℕ → List ℕ → List ℕ → ℕ → ℕ → Option ℕ
 faultBy sorts names w terms at =
     pickPlace (headBy names w at) (onWrong (wrongBy sorts w terms at) (λ i. at + 1 + i)) (some at)
-
--- ---- what a record adds
-
--- The sort of its term, if it makes one.
-abbrev pub noteSort : List ℕ → List ℕ → ℕ → ℕ → List ℕ
-noteSort table w at terms =
-    pickList (makesTerm (operationAt w at)) (set table terms (recordSort table w at)) table
-
--- The name that it declares, of an index below 65,536.
-abbrev pub noteName : List ℕ → List ℕ → ℕ → List ℕ
-noteName names w at =
-    pickList (isDeclare (operationAt w at) && atMost (getD w (at + 2) 0) 65535)
-    (set names
-    (slotOf (payloadOf (getD w (at + 1) 0)) (payloadOf (getD w (at + 2) 0)) (payloadOf (getD w (at + 3) 0))) 1)
-    names
 
 -- Whether an operation is the check, or none that a list can have.
 abbrev pub isCheck : Op → Bool

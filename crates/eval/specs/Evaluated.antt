@@ -6,13 +6,14 @@ use mathlib.Core.Option.{Option, some, none}
 use Prim.Native.Nat.{ℕ, suc, _+_, _^_}
 use lib.ListN.{length}
 use lib.Dec.{eqb, leb, ltb}
-use Rattle.bitvec.specs.Bits.{bit, bv2nat, nat2bv}
+use Rattle.bitvec.specs.Bits.{nat2bv}
 use Rattle.engine.specs.Call.{Name, Call}
 use Rattle.engine.specs.Call as c
-use Rattle.engine.specs.Meaning.{Value, bool, bits, Assignment, valueAt, run}
+use Rattle.engine.specs.Meaning.{Value, Assignment, valueAt, run}
 use Rattle.engine.specs.Encode.{letterNumber, suffixNumber, decode}
 use Rattle.engine.specs.WellFormed.{Outcome, wellFormed, malformed, outcome}
 use Rattle.engine.specs.Emit.{overwrite}
+use Rattle.term_values.specs.Values.{valueNumber}
 use Rattle.logic.specs.declared.Fault.{Fault}
 use Rattle.eval.specs.declared.Evaluation.{Evaluation}
 use Rattle.eval.specs.declared.Evaluation.the-variants.{Evaluated, Refused}
@@ -31,11 +32,6 @@ assigned (c.declare n w ∷ cs) [] name = cond (sameName n name) (nat2bv w 0) (a
 assigned (c.declare n w ∷ cs) (b ∷ given) name = cond (sameName n name) (nat2bv w b) (assigned cs given name)
 assigned (c.assert k ∷ cs) given name = assigned cs given name
 assigned (c.check ∷ cs) given name = assigned cs given name
-
--- The number of a value: a Bool's is 0 or 1.
-abbrev pub valueNumber : Value → ℕ
-valueNumber (bool b) = bit b
-valueNumber (bits s) = bv2nat s
 
 -- How many assertions are false.
 unfoldable pub falseAssertions : (ℕ → Value) → List Call → ℕ

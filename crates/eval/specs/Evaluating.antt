@@ -18,8 +18,9 @@ use Rattle.engine.specs.Laws.{All-map, run-append, run-keeps, length-snoc, leng
 use Rattle.engine.specs.Sorts.{Sort, sortAt, sortOf, WellSorted, Context, start, after, Formed, OfSort}
 use Rattle.engine.specs.SortLaws.{Sorted, args-earlier, sorted-snoc, denote-sort, there}
 use Rattle.engine.specs.Emit.{overwrite, overwrite-append}
-use Rattle.eval.specs.Evaluated.{valueNumber, falseAssertions}
-use Rattle.eval.specs.Values.{andNumber, valueBy, value-is}
+use Rattle.term_values.specs.Values.{valueNumber}
+use Rattle.eval.specs.Evaluated.{falseAssertions}
+use Rattle.term_values.specs.Values.{andNumber, valueBy, value-is}
 
 -- Numbers and sorts of the arguments alone make the number of a term.
 and-ext : (v u : ℕ → ℕ) (args : List ℕ) → All (λ a. v a ≡ u a) args → andNumber v args ≡ andNumber u args

@@ -1,5 +1,4 @@
 pub mod Evaluated
-pub mod Values
 pub mod Records
 pub mod AssignedLaws
 pub mod Evaluating

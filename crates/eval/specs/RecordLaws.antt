@@ -25,13 +25,16 @@ use Rattle.engine.specs.SortLaws.{Sorted, run-sorted}
 use Rattle.engine.specs.Steps.{calls-end, calls-step, calls-enough}
 use Rattle.engine.specs.Reached.{right-read}
 use Rattle.call_list.specs.Operations.{isDeclare}
-use Rattle.terms.specs.Literal.{payloads}
-use Rattle.checker.specs.Tables.{pickList, pickPlace, noteSort}
-use Rattle.checker.specs.TableLaws.{ReadTo, term-sort-is, sorts-more}
-use Rattle.checker.specs.Checking.{bit-low, read-start}
+use Rattle.call_list.specs.Literal.{payloads}
+use Rattle.engine.specs.Reached.{Tabled}
+use Rattle.term_table.specs.Tables.{pickList}
+use Rattle.term_table.specs.Sorted.{ReadTo, read-start, term-sort-is, read-next, terms-next, tabled-before}
+use Rattle.checker.specs.Tables.{pickPlace}
+use Rattle.checker.specs.Checking.{bit-low}
 use Rattle.eval.specs.declared.Progress.{Progress}
-use Rattle.eval.specs.Evaluated.{assigned, valueNumber, falseAssertions, bitsFault, termValues}
-use Rattle.eval.specs.Values.{valueBy}
+use Rattle.term_values.specs.Values.{valueNumber}
+use Rattle.eval.specs.Evaluated.{assigned, falseAssertions, bitsFault, termValues}
+use Rattle.term_values.specs.Values.{valueBy}
 use Rattle.eval.specs.AssignedLaws.{first, rest, assigned-gives, assigned-fits}
 use Rattle.eval.specs.Evaluating.{
   Evaluating,
@@ -42,7 +45,8 @@ use Rattle.eval.specs.Evaluating.{
   evaluating-check,
   evaluating-end,
 }
-use Rattle.eval.specs.Records.{numberIn, sortBelow, bitsWrong, wrongBits, record-value, falseOf, falseBy, valuesNext, progressNext}
+use Rattle.term_values.specs.Records.{numberIn, sortBelow, record-value}
+use Rattle.eval.specs.Records.{bitsWrong, wrongBits, falseOf, falseBy, valuesNext, progressNext}
 
 -- Nothing is done at first.
 abbrev pub nothingDone : Progress
@@ -222,6 +226,7 @@ pub record EvaluatedTo (w bits slice₀ table slice : List ℕ) (done : Progress
       Evaluating (decode w) (assigned (decode w) bits) slice₀ slice (drop (done .declared) bits) (callsFrom fuel w (done .at))
       (done .terms) (done .falses) context
   pub read : ReadTo w (done .at) context table (done .terms)
+  pub tabled : Tabled table (leaving .sorts)
   pub enough : length w - done .at ≤ fuel
   pub rest : readFrom fuel w (done .at) context ≡ wellFormed leaving
   pub fits : bitsFault (done .terms) (callsFrom fuel w (done .at)) (drop (done .declared) bits) ≡ none
@@ -236,7 +241,7 @@ module _ {w bits slice₀ table slice : List ℕ} {done : Progress} (k : Evaluat
 
   -- One record more.
   pub evaluated-next : done .at < length w
-      → EvaluatedTo w bits slice₀ (noteSort table w (done .at) (done .terms))
+      → EvaluatedTo w bits slice₀ table
       (valuesNext table slice w (done .terms) (getD bits (done .declared) 0) (done .at))
       (progressNext w done (done .falses + falseBy slice w (done .at)))
   evaluated-next inside = go (k .fuel) (k .enough) (k .evaluating) (k .rest) (k .fits)
@@ -246,7 +251,7 @@ module _ {w bits slice₀ table slice : List ℕ} {done : Progress} (k : Evaluat
           (done .terms) (done .falses) (k .context)
           → readFrom fuel w (done .at) (k .context) ≡ wellFormed (k .leaving)
           → bitsFault (done .terms) (callsFrom fuel w (done .at)) (drop (done .declared) bits) ≡ none
-          → EvaluatedTo w bits slice₀ (noteSort table w (done .at) (done .terms))
+          → EvaluatedTo w bits slice₀ table
           (valuesNext table slice w (done .terms) (getD bits (done .declared) 0) (done .at))
           (progressNext w done (done .falses + falseBy slice w (done .at)))
       go zero enough e rest fits = absurd (omega arith)
@@ -268,7 +273,11 @@ module _ {w bits slice₀ table slice : List ℕ} {done : Progress} (k : Evaluat
             context = after (k .context) (callAt w (done .at));
             fuel = n;
             evaluating = rw (value, ← given) next;
-            read = sorts-more (k .read) (right .0);
+            read =
+                read-next (k .read) (right .0) table _
+                (tabled-before n table w (nextAt w (done .at)) (after (k .context) (callAt w (done .at))) (k .leaving) (right .1) (k .tabled))
+                (terms-next (k .read) (right .0));
+            tabled = k .tabled;
             enough = omega arith;
             rest = right .1;
             fits = clear .1;
@@ -287,14 +296,15 @@ values-sorted w bits y e =
     (record { many = refl; each = λ k h. absurd (omega arith) }))
 
 -- What evaluating record by record asks: a well-formed list, bits that fit, and room for its terms.
-pub record Evaluable (w bits slice : List ℕ) : Type 0 where
+pub record Evaluable (w bits slice table : List ℕ) : Type 0 where
   pub leaving : Context
   pub formed : outcome w ≡ wellFormed leaving
   pub fits : bitsFault 0 (decode w) bits ≡ none
   pub room : length (leaving .sorts) ≤ length slice
+  pub tabled : Tabled table (leaving .sorts)
 
-pub evaluated-start : {w bits slice : List ℕ} (table : List ℕ) → Evaluable w bits slice → EvaluatedTo w bits slice table slice nothingDone
-evaluated-start {w} {bits} {slice} table k =
+pub evaluated-start : {w bits slice table : List ℕ} → Evaluable w bits slice table → EvaluatedTo w bits slice table slice nothingDone
+evaluated-start {w} {bits} {slice} {table} k =
     let formed = decode-formed w (k .leaving) (k .formed) .formed in
     record {
       leaving = k .leaving;
@@ -303,6 +313,7 @@ evaluated-start {w} {bits} {slice} table k =
       evaluating =
           evaluating-start (decode w) (assigned (decode w) bits) slice bits formed (assigned-gives start (decode w) formed bits);
       read = read-start w table;
+      tabled = k .tabled;
       enough = omega arith;
       rest = k .formed;
       fits = k .fits;

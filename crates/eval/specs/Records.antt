@@ -1,100 +1,17 @@
--- The evaluator, record by record: the number of the term that a record makes, from the numbers written so far, and what the
--- record adds to what is written and counted.
-use mathlib.Core.Path.{_≡_, refl, ap, _∙_, subst}
+-- The evaluator, record by record: what a record asks, and what it adds to what is written and counted.
 use mathlib.Core.Bool.{Bool, true, false, not, cond}
 use mathlib.Core.List.{List}
-use mathlib.Core.Option.{Option, some, none}
-use Prim.Native.Nat.{ℕ, zero, suc, _+_, _-_, _^_}
-use native.Mathlib.Omega.{arith}
+use Prim.Native.Nat.{ℕ, _+_, _^_}
 use lib.ListN.{length, getD, set}
 use lib.Dec.{eqb, ltb}
-use Rattle.logic.specs.Table.{tab}
-use Rattle.bitvec.specs.Bits.{bit, bv2nat, nat2bv}
-use Rattle.bitvec.specs.Laws.{length-nat2bv}
-use Rattle.bitvec.specs.Words.{atWidth}
-use Rattle.bitvec.specs.WordLaws.{at-width}
-use Rattle.engine.specs.Call as c
-use Rattle.engine.specs.Sorts.{Sort, noSort, IsVector, Context, Allowed}
-use Rattle.engine.specs.Encode.{Op, makesTerm, operationAt, countAt, nextAt, callAt}
+use Rattle.bitvec.specs.Bits.{bit}
+use Rattle.engine.specs.Encode.{Op, makesTerm, operationAt, nextAt}
 use Rattle.engine.specs.Encode as o
-use Rattle.engine.specs.WellFormed.{firstFailing}
-use Rattle.engine.specs.Structure.{sortOfTerm}
-use Rattle.engine.specs.ReadBack.{reads-at}
-use Rattle.engine.specs.Reached.{Right}
 use Rattle.call_list.specs.Operations.{isDeclare}
-use Rattle.terms.specs.Literal.{payloads}
-use Rattle.terms.specs.Literal.{fourDigits, literalNumber, four-digits, literal-fits}
-use Rattle.checker.specs.Tables.{pickList, pickPlace}
+use Rattle.call_list.specs.Literal.{payloads}
+use Rattle.term_table.specs.Tables.{pickList}
+use Rattle.term_values.specs.Records.{numberIn, recordValue}
 use Rattle.eval.specs.declared.Progress.{Progress}
-use Rattle.eval.specs.Values.{andNumber, valueBy, valueOf, value-of}
-
--- The numbers written so far.
-abbrev pub numberIn : List ℕ → ℕ → ℕ
-numberIn slice k = getD slice k 0
-
--- The sort of term k, of `terms` terms so far.
-abbrev pub sortBelow : List ℕ → List ℕ → ℕ → ℕ → Sort
-sortBelow table w terms k = cond (ltb k terms) (sortOfTerm table w k) noSort
-
--- ---- an and: 1 if no argument's number is other than 1
-
-abbrev pub isOne : List ℕ → List ℕ → ℕ → ℕ → Bool
-isOne slice w at i = eqb (numberIn slice (payloads w at i)) 1
-
-abbrev pub allOnes : Option ℕ → ℕ
-allOnes none = 1
-allOnes (some i) = 0
-
-and-from : (v p q : ℕ → ℕ) (i n : ℕ) → ((j : ℕ) → q j ≡ p (i + j))
-    → andNumber v (tab n q) ≡ allOnes (firstFailing (λ k. eqb (v (p k)) 1) i n)
-unfolding tab firstFailing
-and-from v p q i zero e = refl
-and-from v p q i (suc n) e =
-    let here : q 0 ≡ p i = e 0 ∙ ap p (omega arith) in
-    rw here (go (eqb (v (p i)) 1) (and-from v p (λ j. q (suc j)) (suc i) n (λ j. e (suc j) ∙ ap p (omega arith))))
-  where
-    go : (b : Bool) → andNumber v (tab n (λ j. q (suc j))) ≡ allOnes (firstFailing (λ k. eqb (v (p k)) 1) (suc i) n)
-        → cond b (andNumber v (tab n (λ j. q (suc j)))) 0
-        ≡ allOnes (pickPlace b (firstFailing (λ k. eqb (v (p k)) 1) (suc i) n) (some i))
-    go true h = h
-    go false h = refl
-
-pub and-scan : (slice w : List ℕ) (at n : ℕ) → andNumber (numberIn slice) (tab n (payloads w at)) ≡ allOnes (firstFailing (isOne slice w at) 0 n)
-and-scan slice w at n =
-    and-from (numberIn slice) (payloads w at) (payloads w at) 0 n (λ j. ap (payloads w at) (omega arith))
-
--- ---- the number of a record's term
-
--- A literal's number.
-abbrev pub literalValue : List ℕ → ℕ → ℕ
-literalValue w at = atWidth (payloads w at 0) (nat2bv (payloads w at 0) (fourDigits w at))
-
-abbrev pub recordValue : List ℕ → List ℕ → List ℕ → ℕ → ℕ → ℕ → ℕ
-recordValue table slice w terms given at =
-    let p = payloads w at in
-    let v = numberIn slice in
-    let s = sortBelow table w terms in
-    valueOf (operationAt w at) (andNumber v (tab (countAt w at) p)) (literalValue w at) given (p 0) (p 1) (v (p 0)) (v (p 1))
-    (v (p 2)) (s (p 0)) (s (p 1)) (s (p 2))
-
--- A vector's literal.
-literal-value : (w : List ℕ) (at : ℕ) (x : Context) → Right w at x → operationAt w at ≡ o.lit
-    → literalValue w at ≡ bv2nat (nat2bv (payloads w at 0) (literalNumber w at))
-literal-value w at x right is-lit =
-    let allowed : Allowed x (o.callOf o.lit (countAt w at) (payloads w at)) =
-    rw is-lit at (reads-at x w at (right .head) (right .arguments) .allowed) in
-    let vector : IsVector (payloads w at 0) = subst IsVector (length-nat2bv (payloads w at 0) (literalNumber w at)) (allowed .0) in
-    at-width (payloads w at 0) (nat2bv (payloads w at 0) (fourDigits w at)) (vector .0) (vector .1)
-    ∙ ap (λ (n : ℕ). bv2nat (nat2bv (payloads w at 0) n)) (four-digits w at (literal-fits w at x right is-lit))
-
--- The number of a right record's term is that of its call.
-pub record-value : (table slice w : List ℕ) (terms given at : ℕ) (x : Context) → Right w at x
-    → recordValue table slice w terms given at ≡ valueBy (sortBelow table w terms) (numberIn slice) given (callAt w at)
-record-value table slice w terms given at x right =
-    value-of (sortBelow table w terms) (numberIn slice) given (operationAt w at) (countAt w at) (payloads w at) (literalValue w at)
-    (literal-value w at x right)
-
--- ---- what a record asks and adds
 
 -- The bits of a declaration are missing or above its width.
 abbrev pub bitsWrong : List ℕ → ℕ → ℕ → Bool

@@ -21,7 +21,8 @@ use Rattle.engine.specs.Encode.{decode}
 use Rattle.engine.specs.WellFormed.{Outcome, wellFormed, malformed, outcome}
 use Rattle.engine.specs.ReadBack.{decode-formed}
 use Rattle.eval.specs.declared.Evaluation.the-variants.{Evaluated}
-use Rattle.eval.specs.Evaluated.{assigned, valueNumber, falseAssertions, bitsFault, termValues, refused, onBits, withRoom, judged, answer}
+use Rattle.term_values.specs.Values.{valueNumber}
+use Rattle.eval.specs.Evaluated.{assigned, falseAssertions, bitsFault, termValues, refused, onBits, withRoom, judged, answer}
 use Rattle.eval.specs.AssignedLaws.{rest, Gives, assigned-gives, assigned-fits}
 use Rattle.eval.specs.RecordLaws.{values-sorted}
 

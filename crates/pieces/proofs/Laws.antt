@@ -2,12 +2,12 @@
 use mathlib.Core.Path.{_≡_, refl, sym, ap, _∙_}
 use mathlib.Core.Bool.{Bool, true, false, cond}
 use mathlib.Core.List.{List, [], _∷_, _++_, append-assoc, append-nil}
-use Prim.Native.Nat.{ℕ, zero, suc, _+_, _-_, _/_, _%_}
+use Prim.Native.Nat.{ℕ, zero, suc, _+_, _-_, _/_, _%_, _<_, _≤_}
 use native.Mathlib.Numerals.{add-one, sub-one}
 use native.Mathlib.Omega.{arith}
 use lib.Dec.{eqb}
 use lib.ListN.{getD}
-use borrow.Author.Tests.{ne-eqb, eqb-true, eqb-false}
+use borrow.Author.Tests.{ne-eqb, eqb-true, eqb-false, lt-ltb, le-ltb}
 use Rattle.logic.specs.Word.{payloadOf}
 use Rattle.logic.specs.Table.{tab}
 use Rattle.bitvec.specs.Bits.{bit, odd, nat2bv}
@@ -16,11 +16,11 @@ use Rattle.engine.specs.Encode.{Op, callOf, opOf, letters, suffixes, operationA
 use Rattle.engine.specs.Encode as o
 use Rattle.text.specs.Bytes.{ascii, decimal}
 use Rattle.text.specs.Names.{nameText}
-use Rattle.terms.specs.declared.Found.the-variants as found
-use Rattle.terms.specs.Find.{firstCalls, FoundIn}
-use Rattle.terms.specs.Literal.{payloads}
-use Rattle.pieces.specs.Text.{numbered, spelledAs, reference, sortText, bitsText, spaced, applied, conjunction}
+use Rattle.call_list.specs.Literal.{payloads}
+use Rattle.term_table.specs.Tables.{placeBy}
+use Rattle.pieces.specs.Text.{numbered, spelledAs, sortText, bitsText, spaced, applied, conjunction}
 use Rattle.pieces.specs.Shape.{shapeOf, shapeAt, nameOf}
+use Rattle.pieces.specs.Arguments.{referenceBy}
 
 -- The shape as the code finds it.
 pub shape-at : (w : List ℕ) (head : ℕ) {op shape : ℕ} → op ≡ payloadOf (getD w head 0) % 32 → shape ≡ shapeOf (opOf op) → shapeAt w head ≡ shape
@@ -58,19 +58,19 @@ suffix-none (suc zero) one two = absurd (one refl)
 suffix-none (suc (suc zero)) one two = absurd (two refl)
 suffix-none (suc (suc (suc n))) one two = refl
 
--- How a term that was searched for is written.
-module _ (w : List ℕ) (records term : ℕ) where
-  pub reference-none : FoundIn w records term found.Nothing → reference (firstCalls w records) term ≡ numbered term
-  reference-none f = rw (f .0)
+-- How a term is written by its record.
+module _ (places w : List ℕ) (terms term : ℕ) where
+  pub reference-past : terms ≤ term → referenceBy places w terms term ≡ numbered term
+  reference-past h = rw (le-ltb term terms h)
 
-  module _ (at : ℕ) {earlier op : ℕ} (f : FoundIn w records term (found.At at earlier)) (is-op : op ≡ payloadOf (getD w at 0) % 32) where
-    by-shape : reference (firstCalls w records) term ≡ cond (eqb (shapeOf (opOf op)) 5) (nameText (nameOf (payloads w at))) (numbered term)
-    by-shape = rw (f .1, is-op) (spelled-by (operationAt w at) (countAt w at) (payloads w at) term)
+  module _ (low : term < terms) {at op : ℕ} (found : at ≡ placeBy places w term) (is-op : op ≡ payloadOf (getD w at 0) % 32) where
+    by-shape : referenceBy places w terms term ≡ cond (eqb (shapeOf (opOf op)) 5) (nameText (nameOf (payloads w at))) (numbered term)
+    by-shape = rw (lt-ltb term terms low, ← found, is-op) (spelled-by (operationAt w at) (countAt w at) (payloads w at) term)
 
-    pub reference-declared : shapeOf (opOf op) ≡ 5 → reference (firstCalls w records) term ≡ nameText (nameOf (payloads w at))
+    pub reference-declared : shapeOf (opOf op) ≡ 5 → referenceBy places w terms term ≡ nameText (nameOf (payloads w at))
     reference-declared e = by-shape ∙ rw e
 
-    pub reference-numbered : (shapeOf (opOf op) ≡ 5 → ⊥) → reference (firstCalls w records) term ≡ numbered term
+    pub reference-numbered : (shapeOf (opOf op) ≡ 5 → ⊥) → referenceBy places w terms term ≡ numbered term
     reference-numbered e = by-shape ∙ rw (ne-eqb _ 5 e)
 
 -- Texts after others, and one text.

@@ -1,16 +1,23 @@
--- What the writer writes of a record's arguments, after some records.
+-- What the writer writes of a record's arguments, with a table of the places of terms.
+use mathlib.Core.Bool.{cond}
 use mathlib.Core.List.{List, [], _∷_}
 use Prim.Native.Nat.{ℕ}
+use lib.Dec.{ltb}
 use Rattle.logic.specs.Table.{tab}
-use Rattle.terms.specs.Find.{firstCalls}
-use Rattle.terms.specs.Literal.{payloads}
-use Rattle.pieces.specs.Text.{reference, extractText, applied}
+use Rattle.engine.specs.Encode.{callAt}
+use Rattle.call_list.specs.Literal.{payloads}
+use Rattle.term_table.specs.Tables.{placeBy}
+use Rattle.pieces.specs.Text.{numbered, spelledAs, extractText, applied}
+
+-- How term k is written, of so many terms so far, by the record that the table and the records give for it.
+abbrev pub referenceBy : List ℕ → List ℕ → ℕ → ℕ → List ℕ
+referenceBy places w terms k = cond (ltb k terms) (spelledAs k (callAt w (placeBy places w k))) (numbered k)
 
 -- The arguments of a record as the script has them.
-abbrev pub argumentTexts : List ℕ → ℕ → ℕ → ℕ → List (List ℕ)
-argumentTexts w records head n = tab n (λ i. reference (firstCalls w records) (payloads w head i))
+abbrev pub argumentTexts : List ℕ → List ℕ → ℕ → ℕ → ℕ → List (List ℕ)
+argumentTexts places w terms head n = tab n (λ i. referenceBy places w terms (payloads w head i))
 
 -- What a record takes out of a vector.
-abbrev pub extractionText : List ℕ → ℕ → ℕ → List ℕ
-extractionText w records head =
-    applied (extractText (payloads w head 0) (payloads w head 1)) (reference (firstCalls w records) (payloads w head 2) ∷ [])
+abbrev pub extractionText : List ℕ → List ℕ → ℕ → ℕ → List ℕ
+extractionText places w terms head =
+    applied (extractText (payloads w head 0) (payloads w head 1)) (referenceBy places w terms (payloads w head 2) ∷ [])

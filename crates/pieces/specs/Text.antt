@@ -7,7 +7,7 @@ use Rattle.bitvec.specs.Bits.{Bits, bit}
 use Rattle.engine.specs.Call.{BinaryOp, Compare, Call}
 use Rattle.engine.specs.Call as c
 use Rattle.engine.specs.Sorts.{Sort}
-use Rattle.terms.specs.Made.{made}
+use Rattle.call_list.specs.Made.{made}
 use Rattle.text.specs.Bytes.{ascii, decimal}
 use Rattle.text.specs.Names.{nameText}
 

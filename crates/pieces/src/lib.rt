@@ -1,6 +1,6 @@
 // The pieces of a script's lines: terms, sorts and applications as SMT-LIB text in a lent slice of bytes. Each function writes a piece from
 // a place on and gives the next place; past the slice's end it only counts.
-use terms::Found;
+use logic::Term;
 ghost use mathlib.Core.Path.{_≡_};
 ghost use mathlib.Core.List.{_∷_, [], _++_};
 ghost use Prim.Native.Nat.{_-_, _≤_};
@@ -12,11 +12,10 @@ ghost use Rattle.engine.specs.Encode.{opOf, letters, suffixes};
 ghost use Rattle.text.specs.Bytes.{ascii};
 ghost use Rattle.text.specs.Names.{letterText, suffixText, nameText};
 ghost use Rattle.text.specs.Write.{Wrote};
-ghost use Rattle.terms.specs.Find.{firstCalls};
-ghost use Rattle.terms.specs.Literal.{payloads};
-ghost use Rattle.pieces.specs.Text.{numbered, reference, sortText, boolText, bitsText, extractText, spaced, applied, conjunction};
+ghost use Rattle.call_list.specs.Literal.{payloads};
+ghost use Rattle.pieces.specs.Text.{numbered, sortText, boolText, bitsText, extractText, spaced, applied, conjunction};
 ghost use Rattle.pieces.specs.Shape.{shapeOf, arityOf, nameOf, operationText};
-ghost use Rattle.pieces.specs.Arguments.{argumentTexts, extractionText};
+ghost use Rattle.pieces.specs.Arguments.{referenceBy, argumentTexts, extractionText};
 
 // The shape of each operation's line: an application (0), a Bool (1), an and (2), a literal (3), an extract (4), a declaration (5), an
 // assertion (6), check (7).
@@ -117,9 +116,13 @@ fn put_suffix(text: &mut [u8], at: usize, suffix: u32) -> usize
 pub fn put_declared(text: &mut [u8], at: usize, calls: &[u32], head: usize) -> usize
     ensures { λ r. ⌜ Wrote (now (text .entry)) (now (text .exit)) at r (nameText (nameOf (payloads (now (calls .entry)) head))) ⌝ }
 {
-    let index = text::put_byte(text, at, letter_byte(terms::argument(calls, head, 0)));
-    let suffix = text::put_number(text, index, terms::term_argument(calls, head, 1));
-    put_suffix(text, suffix, terms::argument(calls, head, 2))
+    let index = text::put_byte(
+        text,
+        at,
+        letter_byte(call_list::argument_at(calls, head, 0)),
+    );
+    let suffix = text::put_number(text, index, call_list::argument_at(calls, head, 1) as usize);
+    put_suffix(text, suffix, call_list::argument_at(calls, head, 2))
 }
 
 // Writes k and a term's number.
@@ -130,25 +133,26 @@ pub fn put_numbered(text: &mut [u8], at: usize, term: usize) -> usize
     text::put_number(text, number, term)
 }
 
-// Writes a term of the first records: a declared one by its name, any other by its number.
+// Writes a term, of so many so far: a declared one by its name, any other by its number.
 pub fn put_reference(
     text: &mut [u8],
     at: usize,
     calls: &[u32],
-    records: usize,
-    term: usize,
+    places: &[u32],
+    terms: usize,
+    term: Term,
 ) -> usize
-    ensures { λ r. ⌜ Wrote (now (text .entry)) (now (text .exit)) at r (reference (firstCalls (now (calls .entry)) records) term) ⌝ }
+    ensures { λ r. ⌜ Wrote (now (text .entry)) (now (text .exit)) at r (referenceBy (now (places .entry)) (now (calls .entry)) terms (term .0)) ⌝ }
 {
-    match terms::find_term(calls, records, term) {
-        Found::Nothing => put_numbered(text, at, term),
-        Found::At(head, _) => {
-            if shape(terms::operation(calls, head)) == 5 {
-                return put_declared(text, at, calls, head);
-            }
-            put_numbered(text, at, term)
-        }
+    let k = term.0 as usize;
+    if terms <= k {
+        return put_numbered(text, at, k);
     }
+    let head = term_table::term_place(calls, places, term);
+    if shape(call_list::operation_number(calls, head)) == 5 {
+        return put_declared(text, at, calls, head);
+    }
+    put_numbered(text, at, k)
 }
 
 // Writes the part of a list of bytes between two places.
@@ -203,11 +207,18 @@ fn put_operation(text: &mut [u8], at: usize, op: u32) -> usize
 }
 
 // Writes a space and a term.
-fn put_argument(text: &mut [u8], at: usize, calls: &[u32], records: usize, term: usize) -> usize
-    ensures { λ r. ⌜ Wrote (now (text .entry)) (now (text .exit)) at r (ascii " " ++ reference (firstCalls (now (calls .entry)) records) term) ⌝ }
+fn put_argument(
+    text: &mut [u8],
+    at: usize,
+    calls: &[u32],
+    places: &[u32],
+    terms: usize,
+    term: Term,
+) -> usize
+    ensures { λ r. ⌜ Wrote (now (text .entry)) (now (text .exit)) at r (ascii " " ++ referenceBy (now (places .entry)) (now (calls .entry)) terms (term .0)) ⌝ }
 {
     let next = text::put_byte(text, at, b' ');
-    put_reference(text, next, calls, records, term)
+    put_reference(text, next, calls, places, terms, term)
 }
 
 // Writes the first arguments of a record, each after a space.
@@ -215,22 +226,18 @@ fn put_arguments(
     text: &mut [u8],
     start: usize,
     calls: &[u32],
-    records: usize,
+    places: &[u32],
+    terms: usize,
     head: usize,
     n: u32,
 ) -> usize
-    ensures { λ r. ⌜ Wrote (now (text .entry)) (now (text .exit)) start r (spaced (argumentTexts (now (calls .entry)) records head n)) ⌝ }
+    ensures { λ r. ⌜ Wrote (now (text .entry)) (now (text .exit)) start r (spaced (argumentTexts (now (places .entry)) (now (calls .entry)) terms head n)) ⌝ }
 {
     let mut at = start;
     let mut i = 0;
     while i < n {
-        at = put_argument(
-            text,
-            at,
-            calls,
-            records,
-            terms::term_argument(calls, head, i),
-        );
+        let term = Term(call_list::argument_at(calls, head, i as usize));
+        at = put_argument(text, at, calls, places, terms, term);
         i += 1;
     }
     at
@@ -241,16 +248,17 @@ pub fn put_application(
     text: &mut [u8],
     at: usize,
     calls: &[u32],
-    records: usize,
+    places: &[u32],
+    terms: usize,
     head: usize,
     op: u32,
     n: u32,
 ) -> usize
-    ensures { λ r. ⌜ Wrote (now (text .entry)) (now (text .exit)) at r (applied (operationText (opOf op)) (argumentTexts (now (calls .entry)) records head n)) ⌝ }
+    ensures { λ r. ⌜ Wrote (now (text .entry)) (now (text .exit)) at r (applied (operationText (opOf op)) (argumentTexts (now (places .entry)) (now (calls .entry)) terms head n)) ⌝ }
 {
     let operation = text::put_byte(text, at, b'(');
     let arguments = put_operation(text, operation, op);
-    let closing = put_arguments(text, arguments, calls, records, head, n);
+    let closing = put_arguments(text, arguments, calls, places, terms, head, n);
     text::put_byte(text, closing, b')')
 }
 
@@ -259,22 +267,18 @@ pub fn put_conjunction(
     text: &mut [u8],
     at: usize,
     calls: &[u32],
-    records: usize,
+    places: &[u32],
+    terms: usize,
     head: usize,
     n: u32,
 ) -> usize
-    ensures { λ r. ⌜ Wrote (now (text .entry)) (now (text .exit)) at r (conjunction (argumentTexts (now (calls .entry)) records head n)) ⌝ }
+    ensures { λ r. ⌜ Wrote (now (text .entry)) (now (text .exit)) at r (conjunction (argumentTexts (now (places .entry)) (now (calls .entry)) terms head n)) ⌝ }
 {
     if n == 1 {
-        return put_reference(
-            text,
-            at,
-            calls,
-            records,
-            terms::term_argument(calls, head, 0),
-        );
+        let term = Term(call_list::argument_at(calls, head, 0));
+        return put_reference(text, at, calls, places, terms, term);
     }
-    put_application(text, at, calls, records, head, 3, n)
+    put_application(text, at, calls, places, terms, head, 3, n)
 }
 
 // Writes a Bool, by its number.
@@ -314,21 +318,18 @@ pub fn put_extraction(
     text: &mut [u8],
     at: usize,
     calls: &[u32],
-    records: usize,
+    places: &[u32],
+    terms: usize,
     head: usize,
 ) -> usize
-    ensures { λ r. ⌜ Wrote (now (text .entry)) (now (text .exit)) at r (extractionText (now (calls .entry)) records head) ⌝ }
+    ensures { λ r. ⌜ Wrote (now (text .entry)) (now (text .exit)) at r (extractionText (now (places .entry)) (now (calls .entry)) terms head) ⌝ }
 {
     let operation = text::put_byte(text, at, b'(');
-    let high = terms::term_argument(calls, head, 0);
-    let argument = put_extract(text, operation, high, terms::term_argument(calls, head, 1));
-    let closing = put_argument(
-        text,
-        argument,
-        calls,
-        records,
-        terms::term_argument(calls, head, 2),
-    );
+    let high = call_list::argument_at(calls, head, 0) as usize;
+    let low = call_list::argument_at(calls, head, 1) as usize;
+    let argument = put_extract(text, operation, high, low);
+    let term = Term(call_list::argument_at(calls, head, 2));
+    let closing = put_argument(text, argument, calls, places, terms, term);
     text::put_byte(text, closing, b')')
 }
 

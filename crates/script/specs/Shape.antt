@@ -12,7 +12,7 @@ use Rattle.engine.specs.Encode.{Op, callOf, fromDigits}
 use Rattle.engine.specs.Encode as o
 use Rattle.text.specs.Bytes.{ascii}
 use Rattle.text.specs.Names.{nameText}
-use Rattle.terms.specs.Made.{made, sortsOf, sortOfCall}
+use Rattle.call_list.specs.Made.{made, sortsOf, sortOfCall}
 use Rattle.pieces.specs.Text.{numbered, reference, sortText, boolText, literalText, extractText, applied, conjunction}
 use Rattle.pieces.specs.Shape.{shapeOf, arityOf, operationText, nameOf}
 use Rattle.script.specs.Text.{line}

@@ -7,7 +7,7 @@ use lib.ListN.{length}
 use Rattle.engine.specs.Call.{Name, Term, Call}
 use Rattle.engine.specs.Call as c
 use Rattle.engine.specs.Sorts.{sortOf, start, leaves}
-use Rattle.terms.specs.Made.{made, sortsOf}
+use Rattle.call_list.specs.Made.{made, sortsOf}
 use Rattle.text.specs.Bytes.{ascii}
 use Rattle.text.specs.Names.{nameText}
 use Rattle.pieces.specs.Text.{

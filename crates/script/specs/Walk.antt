@@ -1,11 +1,14 @@
 -- Going through a well-formed call list record by record: at each place the record is one that the writer can write.
-use mathlib.Core.Path.{_≡_, refl, sym, ap, _∙_}
+use mathlib.Core.Path.{_≡_, refl, sym, ap, _∙_, fun-ext}
+use mathlib.Core.Bool.{Bool, true, false, cond}
 use mathlib.Core.List.{List, [], _∷_, _++_, append-nil}
 use Prim.Native.Nat.{ℕ, suc, _+_, _-_, _<_, _≤_}
 use native.Mathlib.Nat.{sub-zero}
 use native.Mathlib.Numerals.{add-one}
 use native.Mathlib.Omega.{arith}
-use lib.ListN.{length}
+use lib.ListN.{length, getD, length-append, List·getD-append}
+use lib.Dec.{ltb}
+use borrow.Author.Tests.{ltb-true, ltb-false}
 use Rattle.engine.specs.Call.{Call}
 use Rattle.engine.specs.Call as c
 use Rattle.engine.specs.Sorts.{sortAt, Context, start, after, Allowed, leaves}
@@ -14,17 +17,20 @@ use Rattle.engine.specs.Encode as o
 use Rattle.engine.specs.WellFormed.{wellFormed, readFrom, outcome}
 use Rattle.engine.specs.Steps.{calls-end}
 use Rattle.engine.specs.ReadBack.{reads-at}
-use Rattle.engine.specs.Structure.{originOf, sortFrom}
+use Rattle.engine.specs.Structure.{originOf, sortFrom, placeOfTerm}
 use Rattle.engine.specs.StructureLaws.{Below}
-use Rattle.engine.specs.Reached.{Right, right-read, said}
-use Rattle.checker.specs.Tables.{recordSort, noteSort}
-use Rattle.checker.specs.TableLaws.{ReadTo, record-sort-said, sorts-more}
-use Rattle.checker.specs.Checking.{read-start}
-use Rattle.terms.specs.Made.{sortsOf, sortOfCall, leaves-append}
-use Rattle.terms.specs.Find.{firstCalls, Reached, reached-start, reached-next, first-more, split, madeAt, made-at}
+use Rattle.engine.specs.Reached.{Right, right-read, said, Tabled}
+use Rattle.term_table.specs.Tables.{recordSort, placeBy}
+use Rattle.term_table.specs.Sorted.{ReadTo, read-start, record-sort-said, read-next, terms-next, tabled-before, sorts-kept}
+use Rattle.term_table.specs.Placed.{Placed, place-is}
+use Rattle.name_table.specs.Named.{NamesTo}
+use Rattle.call_list.specs.Made.{made, made-append, made-past, sortsOf, sortOfCall, leaves-append}
+use Rattle.call_list.specs.Records.{firstCalls, Reached, reached-start, reached-next, first-more, split, madeAt, made-at, made-place}
 use Rattle.pieces.specs.Shape.{shapeOf}
-use Rattle.terms.specs.Literal.{literal-fits}
-use Rattle.script.specs.Record.{Ready, lineAt}
+use Rattle.call_list.specs.Literal.{literal-fits}
+use Rattle.pieces.specs.Text.{numbered, spelledAs, reference}
+use Rattle.pieces.specs.Arguments.{referenceBy}
+use Rattle.script.specs.Record.{Ready, Writable, lineAt}
 use Rattle.script.specs.Text.{line, lines, lines-more}
 
 -- What an allowed call says of the sort of its term is that sort.
@@ -58,13 +64,17 @@ lit-shape o.unknown e = absurd (omega arith)
 ready : (w : List ℕ) (at : ℕ) (x : Context) → Right w at x → Ready w at
 ready w at x right shape = literal-fits w at x right (lit-shape (operationAt w at) shape)
 
--- A list of words is a well-formed call list.
-pub record IsWellFormed (w : List ℕ) : Type 0 where
+-- Tables of a well-formed call list: the places and sorts of its first terms, and its names of low indexes.
+pub record HasTables (w places sorts : List ℕ) : Type 0 where
   pub leaving : Context
   pub formed : outcome w ≡ wellFormed leaving
+  pub placed : Placed w places (length (leaving .sorts))
+  pub tabled : Tabled sorts (leaving .sorts)
 
--- The walk has come to a place, past some records that make some terms, whose sorts the table has; from there on the list is
--- well formed.
+abbrev pub HasNames : List ℕ → List ℕ → Type 0
+HasNames w names = NamesTo names (leaves start (decode w) .names)
+
+-- The walk has come to a place, past some records that make some terms; from there on the list is well formed.
 pub record Walked (w table : List ℕ) (y : Context) (records at terms : ℕ) : Type 0 where
   pub read : ReadTo w at (leaves start (firstCalls w records)) table terms
   pub reached : Reached w records at terms
@@ -83,11 +93,37 @@ walked-start w table y e = record {
 }
 
 module _ {w table : List ℕ} {y : Context} {i at k : ℕ} (here : Walked w table y i at k) where
-  pub walked-end : length w ≤ at → firstCalls w i ≡ decode w
-  walked-end past =
+  -- The records so far are the first of the list's.
+  all-calls : decode w ≡ firstCalls w i ++ callsFrom (length w - i) w at
+  all-calls =
       let sum : i + (length w - i) ≡ length w = omega (arith, here .within) in
-      sym (ap (λ (n : ℕ). callsFrom n w 0) (sym sum) ∙ split i (length w - i) w 0
-      ∙ rw (← here .reached .place, calls-end (length w - i) w at past, append-nil))
+      ap (λ (n : ℕ). callsFrom n w 0) (sym sum) ∙ split i (length w - i) w 0 ∙ rw (← here .reached .place)
+
+  pub walked-end : length w ≤ at → firstCalls w i ≡ decode w
+  walked-end past = sym (all-calls ∙ rw (calls-end (length w - i) w at past, append-nil))
+
+  -- How the terms so far are written, by the table of places.
+  pub walked-references : (places : List ℕ) → Placed w places (length (y .sorts)) → referenceBy places w k ≡ reference (firstCalls w i)
+  walked-references places placed = fun-ext (λ j. go j (ltb j k) refl)
+    where
+      go : (j : ℕ) (b : Bool) → ltb j k ≡ b
+          → cond (ltb j k) (spelledAs j (callAt w (placeBy places w j))) (numbered j)
+          ≡ spelledAs j (getD (made (firstCalls w i)) j c.check)
+      go j true e =
+          let low : j < k = ltb-true j k e in
+          let few : j < length (made (firstCalls w i)) = omega (arith, here .reached .many) in
+          let more : j < length (made (decode w)) =
+          (rw (all-calls, made-append, length-append) (omega arith)) in
+          let inside : j < length (leaves start (firstCalls w i) .sorts) = omega (arith, here .read .counts) in
+          let kept = sorts-kept (length w - i) w at (leaves start (firstCalls w i)) y (here .left) j inside in
+          let place = place-is w places (length (y .sorts)) j placed (kept .0) in
+          let made-by : callAt w (placeOfTerm w j) ≡ getD (made (firstCalls w i)) j c.check =
+          (made-place (length w) w 0 j more ∙ ap (λ (l : List Call). getD (made l) j c.check) all-calls
+          ∙ rw made-append (List·getD-append (made (firstCalls w i)) _ c.check j few)) in
+          rw e (ap (λ (p : ℕ). spelledAs j (callAt w p)) place ∙ ap (spelledAs j) made-by)
+      go j false e =
+          let past : length (made (firstCalls w i)) ≤ j = omega (arith, ltb-false j k e, here .reached .many) in
+          rw e (sym (ap (spelledAs j) (made-past (firstCalls w i) j past)))
 
   module _ (inside : at < length w) where
     next : Right w at (leaves start (firstCalls w i))
@@ -96,15 +132,20 @@ module _ {w table : List ℕ} {y : Context} {i at k : ℕ} (here : Walked w tabl
         let fuel : length w - i ≡ suc (length w - (i + 1)) = omega (arith, here .few) in
         right-read (length w - (i + 1)) w at (leaves start (firstCalls w i)) y inside (rw fuel at (here .left))
 
-    pub walked-ready : Ready w at
-    walked-ready = ready w at (leaves start (firstCalls w i)) (next .0)
-
     -- The sort of the record's term, by the table.
-    pub walked-sort : recordSort table w at ≡ sortOfCall (sortsOf (firstCalls w i)) (callAt w at)
+    walked-sort : recordSort table w at ≡ sortOfCall (sortsOf (firstCalls w i)) (callAt w at)
     walked-sort =
         let x = leaves start (firstCalls w i) in
         let sort = said-sort x (callAt w at) (reads-at x w at (next .0 .head) (next .0 .arguments) .allowed) in
         record-sort-said (here .read) (next .0) (sort .1) ∙ sort .0
+
+    pub walked-writable : (places : List ℕ) → Placed w places (length (y .sorts)) → Writable w places table i k at
+    walked-writable places placed = record {
+      ready = ready w at (leaves start (firstCalls w i)) (next .0);
+      many = here .reached .many;
+      sort = walked-sort;
+      references = walked-references places placed;
+    }
 
     leaves-more : leaves start (firstCalls w (i + 1)) ≡ after (leaves start (firstCalls w i)) (callAt w at)
     unfolding leaves
@@ -112,14 +153,17 @@ module _ {w table : List ℕ} {y : Context} {i at k : ℕ} (here : Walked w tabl
         ap (λ (n : ℕ). leaves start (firstCalls w n)) (add-one i) ∙ ap (leaves start) (first-more (here .reached) inside)
         ∙ leaves-append start (firstCalls w i) (callAt w at ∷ [])
 
-    pub walked-next : Walked w (noteSort table w at k) y (i + 1) (nextAt w at) (k + madeAt w at)
-    walked-next = record {
-      read = rw (leaves-more, made-at w at) (sorts-more (here .read) (next .0));
-      reached = reached-next (here .reached) inside;
-      few = omega (arith, here .few);
-      within = omega (arith, here .few);
-      left = ap (λ (x : Context). readFrom (length w - (i + 1)) w (nextAt w at) x) leaves-more ∙ next .1;
-    }
+    pub walked-next : Tabled table (y .sorts) → Walked w table y (i + 1) (nextAt w at) (k + madeAt w at)
+    walked-next tabled =
+        let x = leaves start (firstCalls w i) in
+        let before = tabled-before (length w - (i + 1)) table w (nextAt w at) (after x (callAt w at)) y (next .1) tabled in
+        record {
+          read = rw (leaves-more, made-at w at) (read-next (here .read) (next .0) table _ before (terms-next (here .read) (next .0)));
+          reached = reached-next (here .reached) inside;
+          few = omega (arith, here .few);
+          within = omega (arith, here .few);
+          left = ap (λ (x : Context). readFrom (length w - (i + 1)) w (nextAt w at) x) leaves-more ∙ next .1;
+        }
 
     -- One record more is one line more.
     pub walked-line : lines [] (firstCalls w (i + 1)) ≡ lines [] (firstCalls w i) ++ lineAt w i at

@@ -1,5 +1,5 @@
 -- Document 01, the writer: 19, then 2, then 15 at the room needed; on refusal nothing is written, on success nothing past the text.
-use mathlib.Core.Path.{_≡_, refl, ap, _∙_}
+use mathlib.Core.Path.{_≡_, refl, sym, ap, _∙_, subst}
 use mathlib.Core.Bool.{cond}
 use mathlib.Core.List.{List, _++_}
 use mathlib.Core.Option.{Option, some, none}
@@ -21,7 +21,10 @@ use Rattle.script.specs.declared.Written.{Written}
 use Rattle.script.specs.declared.Written.the-variants.{Bytes, Refused}
 use Rattle.script.specs.Text.{script}
 use Rattle.asked.specs.Marks.{badMark}
-use Rattle.script.specs.Walk.{IsWellFormed}
+use Rattle.engine.specs.ReadBack.{decode-formed}
+use Rattle.name_table.specs.Named.{NamesTo}
+use Rattle.checker.specs.Checking.{Checked}
+use Rattle.script.specs.Walk.{HasTables, HasNames}
 
 -- The script of a list of words and its recorded marks.
 abbrev pub scriptOf : List ℕ → List ℕ → List ℕ
@@ -95,12 +98,20 @@ checked-malformed : (o : Outcome) {place : ℕ} → checkedAs o ≡ Malformed pl
 checked-malformed (wellFormed y) e = let z : _≡_ {A = ℕ} 0 1 = cc in absurd (omega arith)
 checked-malformed (malformed at) {place} e = let same : at ≡ place = cc in ap some same
 
-pub is-formed : (w : List ℕ) {terms declared : ℕ} → checkedAs (outcome w) ≡ WellFormed terms declared → IsWellFormed w
-is-formed w e = let f = checked-formed (outcome w) e in record { leaving = f .0; formed = f .1 }
+-- The tables that the check leaves.
+pub has-tables : {w places sorts names : List ℕ} {terms declared : ℕ} → Checked w places sorts names (WellFormed terms declared)
+    → HasTables w places sorts × HasNames w names
+has-tables {w} {places} {sorts} {names} k =
+    let f = checked-formed (outcome w) (sym (k .is)) in
+    let tables = k .tabled (f .0) (f .1) in
+    let left = decode-formed w (f .0) (f .1) .left in (
+      record { leaving = f .0; formed = f .1; placed = tables .placed; tabled = tables .read .tabled },
+      subst (λ (x : Context). NamesTo names (x .names)) (sym left) (tables .named),
+    )
 
-pub written-formed : (w marks : List ℕ) (room : ℕ) → IsWellFormed w → written w marks room ≡ marked w marks room
+pub written-formed : (w marks : List ℕ) (room : ℕ) {y : Context} → outcome w ≡ wellFormed y → written w marks room ≡ marked w marks room
 unfolding written
-written-formed w marks room f = rw (f .formed)
+written-formed w marks room e = rw e
 
 pub written-malformed : (w marks : List ℕ) (room : ℕ) {place : ℕ} → checkedAs (outcome w) ≡ Malformed place → written w marks room ≡ refuse 19 place
 unfolding written

@@ -3,23 +3,21 @@
 use asked::Mark;
 use checker::CallList;
 use logic::Fault;
+use logic::Term;
 ghost use mathlib.Core.Path.{_≡_};
 ghost use mathlib.Core.List.{[]};
 ghost use Prim.Native.Nat.{_+_};
 ghost use lib.ListN.{length};
 ghost use Rattle.bitvec.specs.Bits.{nat2bv};
-ghost use Rattle.engine.specs.Encode.{callAt, decode};
-ghost use Rattle.checker.specs.Tables.{recordSort};
+ghost use Rattle.engine.specs.Encode.{decode};
 ghost use Rattle.text.specs.Names.{asked};
 ghost use Rattle.text.specs.Write.{Wrote, capped};
-ghost use Rattle.terms.specs.Find.{firstCalls};
-ghost use Rattle.terms.specs.Literal.{LiteralFits, literalNumber, payloads};
-ghost use Rattle.terms.specs.Made.{made, sortsOf, sortOfCall};
+ghost use Rattle.call_list.specs.Literal.{LiteralFits, literalNumber, payloads};
 ghost use Rattle.pieces.specs.Text.{literalText};
 ghost use Rattle.script.specs.Text.{lines, script};
-ghost use Rattle.script.specs.Record.{bodyAt, defineAt, declareAt, assertAt, lineAt, Ready};
-ghost use Rattle.script.specs.Walk.{IsWellFormed};
-ghost use Rattle.script.specs.Written.{scriptOf, marked, written, Scripted};
+ghost use Rattle.script.specs.Record.{bodyAt, defineAt, declareAt, assertAt, lineAt, Ready, Writable};
+ghost use Rattle.script.specs.Walk.{HasTables, HasNames};
+ghost use Rattle.script.specs.Written.{scriptOf, roomFor, marked, written, Scripted};
 
 // What the writer answers: how many bytes it wrote, or a refusal with document 01's number and place.
 pub enum Written {
@@ -36,45 +34,58 @@ fn put_literal(text: &mut [u8], at: usize, calls: &[u32], head: usize) -> usize
     pieces::put_bits(
         text,
         digits,
-        terms::literal_number(calls, head),
-        terms::argument(calls, head, 0),
+        call_list::literal_number(calls, head),
+        call_list::argument_at(calls, head, 0),
     )
 }
 
-// Writes the term that a record makes, by its shape.
-fn put_body(text: &mut [u8], at: usize, calls: &[u32], records: usize, head: usize) -> usize
+// Writes the term that a record makes, by its shape, after so many terms.
+fn put_body(
+    text: &mut [u8],
+    at: usize,
+    calls: &[u32],
+    places: &[u32],
+    terms: usize,
+    head: usize,
+) -> usize
     requires { ⌜ Ready (now calls) head ⌝ }
-    ensures { λ r. ⌜ Wrote (now (text .entry)) (now (text .exit)) at r (bodyAt (now (calls .entry)) records head) ⌝ }
+    ensures { λ r. ⌜ Wrote (now (text .entry)) (now (text .exit)) at r (bodyAt (now (places .entry)) (now (calls .entry)) terms head) ⌝ }
 {
-    let op = terms::operation(calls, head);
+    let op = call_list::operation_number(calls, head);
     match pieces::shape(op) {
-        1 => pieces::put_bool(text, at, terms::argument(calls, head, 0)),
-        2 => pieces::put_conjunction(text, at, calls, records, head, terms::count(calls, head)),
+        1 => pieces::put_bool(text, at, call_list::argument_at(calls, head, 0)),
+        2 => {
+            let n = call_list::count_at(calls, head);
+            pieces::put_conjunction(text, at, calls, places, terms, head, n)
+        }
         3 => put_literal(text, at, calls, head),
-        4 => pieces::put_extraction(text, at, calls, records, head),
-        _ => pieces::put_application(text, at, calls, records, head, op, pieces::arity(op) as u32),
+        4 => pieces::put_extraction(text, at, calls, places, terms, head),
+        _ => {
+            let n = pieces::arity(op) as u32;
+            pieces::put_application(text, at, calls, places, terms, head, op, n)
+        }
     }
 }
 
-// Writes the line that defines the term of a record.
+// Writes the line that defines a term, the next after so many, of a sort.
 fn put_define(
     text: &mut [u8],
     at: usize,
     calls: &[u32],
-    records: usize,
+    places: &[u32],
+    terms: usize,
     head: usize,
-    term: usize,
     sort: u32,
 ) -> usize
-    requires { ⌜ Ready (now calls) head × (sort ≡ sortOfCall (sortsOf (firstCalls (now calls) records)) (callAt (now calls) head)) ⌝ }
-    ensures { λ r. ⌜ Wrote (now (text .entry)) (now (text .exit)) at r (defineAt (now (calls .entry)) records head term) ⌝ }
+    requires { ⌜ Ready (now calls) head ⌝ }
+    ensures { λ r. ⌜ Wrote (now (text .entry)) (now (text .exit)) at r (defineAt (now (places .entry)) (now (calls .entry)) terms head sort) ⌝ }
 {
     let name = text::put_bytes(text, at, b"(define-fun ");
-    let parameters = pieces::put_numbered(text, name, term);
+    let parameters = pieces::put_numbered(text, name, terms);
     let width = text::put_bytes(text, parameters, b" () ");
     let space = pieces::put_sort(text, width, sort);
     let body = text::put_byte(text, space, b' ');
-    let closing = put_body(text, body, calls, records, head);
+    let closing = put_body(text, body, calls, places, terms, head);
     text::put_bytes(text, closing, b")\n")
 }
 
@@ -85,72 +96,79 @@ fn put_declare(text: &mut [u8], at: usize, calls: &[u32], head: usize) -> usize
     let name = text::put_bytes(text, at, b"(declare-const ");
     let space = pieces::put_declared(text, name, calls, head);
     let sort = text::put_byte(text, space, b' ');
-    let closing = pieces::put_sort(text, sort, terms::argument(calls, head, 3));
+    let closing = pieces::put_sort(text, sort, call_list::argument_at(calls, head, 3));
     text::put_bytes(text, closing, b")\n")
 }
 
-// Writes the line of an assertion.
-fn put_assert(text: &mut [u8], at: usize, calls: &[u32], records: usize, head: usize) -> usize
-    ensures { λ r. ⌜ Wrote (now (text .entry)) (now (text .exit)) at r (assertAt (now (calls .entry)) records head) ⌝ }
+// Writes the line of an assertion, after so many terms.
+fn put_assert(
+    text: &mut [u8],
+    at: usize,
+    calls: &[u32],
+    places: &[u32],
+    terms: usize,
+    head: usize,
+) -> usize
+    ensures { λ r. ⌜ Wrote (now (text .entry)) (now (text .exit)) at r (assertAt (now (places .entry)) (now (calls .entry)) terms head) ⌝ }
 {
-    let term = text::put_bytes(text, at, b"(assert ");
-    let closing = pieces::put_reference(
-        text,
-        term,
-        calls,
-        records,
-        terms::term_argument(calls, head, 0),
-    );
+    let place = text::put_bytes(text, at, b"(assert ");
+    let term = Term(call_list::argument_at(calls, head, 0));
+    let closing = pieces::put_reference(text, place, calls, places, terms, term);
     text::put_bytes(text, closing, b")\n")
 }
 
-// Writes the line of the record at a place, after some records that make some terms.
+// Writes the line of the record at a place, after some records that make so many terms.
 fn put_record(
     text: &mut [u8],
     at: usize,
     calls: &[u32],
+    places: &[u32],
     sorts: &[u8],
     records: usize,
+    terms: usize,
     head: usize,
-    term: usize,
 ) -> usize
-    requires { ⌜ Ready (now calls) head × (term ≡ length (made (firstCalls (now calls) records)))
-        × (recordSort (now sorts) (now calls) head ≡ sortOfCall (sortsOf (firstCalls (now calls) records)) (callAt (now calls) head)) ⌝ }
+    requires { ⌜ Writable (now calls) (now places) (now sorts) records terms head ⌝ }
     ensures { λ r. ⌜ Wrote (now (text .entry)) (now (text .exit)) at r (lineAt (now (calls .entry)) records head) ⌝ }
 {
-    match pieces::shape(terms::operation(calls, head)) {
+    match pieces::shape(call_list::operation_number(calls, head)) {
         5 => put_declare(text, at, calls, head),
-        6 => put_assert(text, at, calls, records, head),
+        6 => put_assert(text, at, calls, places, terms, head),
         7 => text::put_bytes(text, at, b"(check-sat)\n"),
         _ => {
-            let sort = checker::record_sort(calls, sorts, head);
-            put_define(text, at, calls, records, head, term, sort)
+            let sort = term_table::record_sort(calls, sorts, head);
+            put_define(text, at, calls, places, terms, head, sort)
         }
     }
 }
 
-// Writes the lines of a well-formed call list, with a table of the sorts of its first terms.
-fn put_records(text: &mut [u8], start: usize, calls: &[u32], sorts: &mut [u8]) -> usize
-    requires { ⌜ IsWellFormed (now calls) ⌝ }
+// Writes the lines of a well-formed call list, with tables of the places and sorts of its first terms.
+fn put_records(text: &mut [u8], start: usize, calls: &[u32], places: &[u32], sorts: &[u8]) -> usize
+    requires { ⌜ HasTables (now calls) (now places) (now sorts) ⌝ }
     ensures { λ r. ⌜ Wrote (now (text .entry)) (now (text .exit)) start r (lines [] (decode (now (calls .entry)))) ⌝ }
 {
     let mut at = start;
     let mut head = 0;
     let mut records = 0;
-    let mut term = 0;
+    let mut terms = 0;
     while head < calls.len() {
-        at = put_record(text, at, calls, sorts, records, head, term);
-        checker::note_sort(calls, sorts, head, term);
-        term = terms::terms_after(calls, head, term);
-        head = terms::next_record(calls, head);
+        at = put_record(text, at, calls, places, sorts, records, terms, head);
+        terms = call_list::terms_after(calls, head, terms);
+        head = call_list::next_record(calls, head);
         records += 1;
     }
     at
 }
 
 // Writes the script of a well-formed call list.
-fn put_script(text: &mut [u8], calls: &[u32], recorded: &[u8]) -> usize
-    requires { ⌜ IsWellFormed (now calls) ⌝ }
+fn put_script(
+    text: &mut [u8],
+    calls: &[u32],
+    places: &[u32],
+    sorts: &[u8],
+    recorded: &[u8],
+) -> usize
+    requires { ⌜ HasTables (now calls) (now places) (now sorts) ⌝ }
     ensures { λ r. ⌜ Wrote (now (text .entry)) (now (text .exit)) 0 r (script (decode (now (calls .entry))) (asked (now (recorded .entry)))) ⌝ }
 {
     let lines = text::put_bytes(
@@ -158,40 +176,79 @@ fn put_script(text: &mut [u8], calls: &[u32], recorded: &[u8]) -> usize
         0,
         b"(set-option :produce-models true)\n(set-logic QF_BV)\n",
     );
-    let mut sorts = [0u8; 524288];
-    let ending = put_records(text, lines, calls, &mut sorts);
+    let ending = put_records(text, lines, calls, places, sorts);
     asked::put_ending(text, ending, calls, recorded)
 }
 
 // How many bytes a script has: it is written into a text of one byte, past which writing only counts.
-fn script_length(calls: &[u32], recorded: &[u8]) -> usize
-    requires { ⌜ IsWellFormed (now calls) ⌝ }
+fn script_length(calls: &[u32], places: &[u32], sorts: &[u8], recorded: &[u8]) -> usize
+    requires { ⌜ HasTables (now calls) (now places) (now sorts) ⌝ }
     ensures { λ r. ⌜ r ≡ capped (0 + length (scriptOf (now (calls .entry)) (now (recorded .entry)))) ⌝ }
 {
     let mut trial = [0u8; 1];
-    put_script(&mut trial, calls, recorded)
+    put_script(&mut trial, calls, places, sorts, recorded)
+}
+
+// Writes the script of a well-formed call list whose marks stand, if the text has room.
+fn write_fitting(
+    calls: &[u32],
+    places: &[u32],
+    sorts: &[u8],
+    recorded: &[u8],
+    text: &mut [u8],
+) -> Written
+    requires { ⌜ HasTables (now calls) (now places) (now sorts) ⌝ }
+    ensures { λ r. ⌜ Scripted (now (calls .entry)) (now (recorded .entry)) (now (text .entry)) (now (text .exit)) r (roomFor (length (scriptOf (now (calls .entry)) (now (recorded .entry)))) (length (now (text .entry)))) ⌝ }
+{
+    let needed = script_length(calls, places, sorts, recorded);
+    if text.len() < needed {
+        return Written::Refused(Fault {
+            number: 15,
+            place: needed,
+        });
+    }
+    Written::Bytes(put_script(text, calls, places, sorts, recorded))
 }
 
 // Writes the script of a well-formed call list, if its marks stand and the text has room.
-fn write_marked(calls: &[u32], recorded: &[u8], text: &mut [u8]) -> Written
-    requires { ⌜ IsWellFormed (now calls) ⌝ }
+fn write_marked(
+    calls: &[u32],
+    places: &[u32],
+    sorts: &[u8],
+    names: &[u8],
+    recorded: &[u8],
+    text: &mut [u8],
+) -> Written
+    requires { ⌜ HasTables (now calls) (now places) (now sorts) × HasNames (now calls) (now names) ⌝ }
     ensures { λ r. ⌜ Scripted (now (calls .entry)) (now (recorded .entry)) (now (text .entry)) (now (text .exit)) r (marked (now (calls .entry)) (now (recorded .entry)) (length (now (text .entry)))) ⌝ }
 {
-    match asked::bad_mark(calls, recorded) {
+    match asked::bad_mark(calls, names, recorded) {
         Mark::Bad(slot) => Written::Refused(Fault {
             number: 2,
             place: slot,
         }),
-        Mark::Fine => {
-            let needed = script_length(calls, recorded);
-            if text.len() < needed {
-                return Written::Refused(Fault {
-                    number: 15,
-                    place: needed,
-                });
-            }
-            Written::Bytes(put_script(text, calls, recorded))
-        }
+        Mark::Fine => write_fitting(calls, places, sorts, recorded, text),
+    }
+}
+
+// Writes the script of a call list and its recorded marks into a lent text: 19 for a malformed list, then 2, then 15 at the room needed.
+// The caller lends tables for the places and sorts of the first terms and the names of low indexes; what they hold afterwards is free.
+pub fn write_script_with(
+    calls: &[u32],
+    recorded: &[u8],
+    text: &mut [u8],
+    places: &mut [u32],
+    sorts: &mut [u8],
+    names: &mut [u8],
+) -> Written
+    ensures { λ r. ⌜ Scripted (now (calls .entry)) (now (recorded .entry)) (now (text .entry)) (now (text .exit)) r (written (now (calls .entry)) (now (recorded .entry)) (length (now (text .entry)))) ⌝ }
+{
+    match checker::check_with(calls, places, sorts, names) {
+        CallList::Malformed(place) => Written::Refused(Fault { number: 19, place }),
+        CallList::WellFormed {
+            terms: _,
+            declared: _,
+        } => write_marked(calls, places, sorts, names, recorded, text),
     }
 }
 
@@ -199,11 +256,8 @@ fn write_marked(calls: &[u32], recorded: &[u8], text: &mut [u8]) -> Written
 pub fn write_script(calls: &[u32], recorded: &[u8], text: &mut [u8]) -> Written
     ensures { λ r. ⌜ Scripted (now (calls .entry)) (now (recorded .entry)) (now (text .entry)) (now (text .exit)) r (written (now (calls .entry)) (now (recorded .entry)) (length (now (text .entry)))) ⌝ }
 {
-    match checker::check(calls) {
-        CallList::Malformed(place) => Written::Refused(Fault { number: 19, place }),
-        CallList::WellFormed {
-            terms: _,
-            declared: _,
-        } => write_marked(calls, recorded, text),
-    }
+    let mut places = [0u32; 8192];
+    let mut sorts = [0u8; 8192];
+    let mut names = [0u8; 36864];
+    write_script_with(calls, recorded, text, &mut places, &mut sorts, &mut names)
 }

@@ -6,16 +6,17 @@ use mathlib.Core.Path.{_≡_, refl, sym, _∙_}
 use lib.ListN.{length, drop}
 use borrow.Author.Tests.{not-true, not-false}
 use Rattle.engine.specs.Encode.{decode}
-use Rattle.asked.specs.Marks.{badMark}
-use Rattle.asked.proofs.Marks.{mark-bad, mark-fine, marks-done}
+use Rattle.asked.specs.Marks.{declaredBy, standsBy, badBy}
+use Rattle.asked.proofs.Marks.{by-bad, by-fine, by-done}
 use Rattle.asked.proofs.bad_mark.Statement.{statement}
 use Rattle.asked.proofs.bad_mark.Tie as tie
 
 abbrev Inv-loop : tie.InvT-loop
-Inv-loop calls recorded slot₀ slot = badMark (decode calls) 0 recorded ≡ badMark (decode calls) slot (drop slot recorded)
+Inv-loop calls names recorded slot₀ slot =
+    badBy (standsBy (declaredBy names (decode calls))) 0 recorded ≡ badBy (standsBy (declaredBy names (decode calls))) slot (drop slot recorded)
 
 abbrev μ-loop : tie.MeasureT-loop
-μ-loop calls recorded slot₀ slot = length recorded - slot
+μ-loop calls names recorded slot₀ slot = length recorded - slot
 
 loop-holds : tie.Need-loop-holds Inv-loop μ-loop
 loop-holds c = refl
@@ -31,7 +32,7 @@ returns c =
     let tested = c .before in
     let turn = tested .before .before in
     let looped = turn .before in
-    sym (looped .loop .inv ∙ mark-bad _ _ _ (turn .loop-test .taken) (sym (tested .mark-stands .ensures) ∙ not-true _ (c .if1 .taken)))
+    sym (looped .loop .inv ∙ by-bad _ _ _ (turn .loop-test .taken) (sym (tested .mark-stands .ensures) ∙ not-true _ (c .if1 .taken)))
 
 add-slot : tie.Need-add-slot Inv-loop μ-loop
 add-slot c = search needs
@@ -44,10 +45,10 @@ loop-again c =
     let tested = c .before in
     let turn = tested .before .before in
     let looped = turn .before in
-    looped .loop .inv ∙ mark-fine _ _ _ (turn .loop-test .taken) (sym (tested .mark-stands .ensures) ∙ not-false _ (c .if1 .left))
+    looped .loop .inv ∙ by-fine _ _ _ (turn .loop-test .taken) (sym (tested .mark-stands .ensures) ∙ not-false _ (c .if1 .left))
 
 returns-2 : tie.Need-returns-2 Inv-loop μ-loop
-returns-2 c = sym (c .before .loop .inv ∙ marks-done _ _ _ (c .loop-test .left))
+returns-2 c = sym (c .before .loop .inv ∙ by-done _ _ _ (c .loop-test .left))
 
 pub bad-mark-spec : {M : Type 1} → statement M
 bad-mark-spec =

@@ -22,8 +22,8 @@ abbrev μ-loop : tie.MeasureT-loop
 loop-holds : tie.Need-loop-holds Inv-loop μ-loop
 loop-holds c = (0, 0, none-start _ _)
 
-operation-requires : tie.Need-operation-requires Inv-loop μ-loop
-operation-requires c κs = search needs
+operation-number-requires : tie.Need-operation-number-requires Inv-loop μ-loop
+operation-number-requires c κs = search needs
 
 shape-requires : tie.Need-shape-requires Inv-loop μ-loop
 shape-requires c κs = search needs
@@ -34,7 +34,7 @@ returns c =
     let turn = shaped .before .before in
     let looped = turn .before in
     let start = looped .before .before in
-    let shape = shape-at (start .args .calls .now) (looped .loop .head) (shaped .before .operation .ensures) (shaped .shape .ensures) in
+    let shape = shape-at (start .args .calls .now) (looped .loop .head) (shaped .before .operation-number .ensures) (shaped .shape .ensures) in
     let check = checks-at (start .args .calls .now) (looped .loop .head) ∙ eq-eqb _ 7 (shape ∙ c .if1 .taken) in
     sym (checked-any _ ∙ some-here (looped .loop .inv .2) (turn .loop-test .taken) check)
 
@@ -54,7 +54,7 @@ loop-again c =
     let turn = shaped .before .before in
     let looped = turn .before in
     let start = looped .before .before in
-    let shape = shape-at (start .args .calls .now) (looped .loop .head) (shaped .before .operation .ensures) (shaped .shape .ensures) in
+    let shape = shape-at (start .args .calls .now) (looped .loop .head) (shaped .before .operation-number .ensures) (shaped .shape .ensures) in
     let inside = turn .loop-test .taken in
     let short = start .good .0 in
     let next : nextAt (start .args .calls .now) (looped .loop .head) ≡ c .next-record .result =
@@ -73,7 +73,7 @@ has-check-spec =
     Inv-loop
     μ-loop
     loop-holds
-    operation-requires
+    operation-number-requires
     shape-requires
     returns
     next-record-requires

@@ -3,18 +3,18 @@ use borrow.Author.Needs.{needs}
 use Rattle.asked.proofs.is_pair_declared.Statement.{statement}
 use Rattle.asked.proofs.is_pair_declared.Tie as tie
 
-is-declared-requires : tie.Need-is-declared-requires
-is-declared-requires c κs = search needs
+is-known-requires : tie.Need-is-known-requires
+is-known-requires c κs = search needs
 
-is-declared-requires-2 : tie.Need-is-declared-requires-2
-is-declared-requires-2 c κs = search needs
+is-known-requires-2 : tie.Need-is-known-requires-2
+is-known-requires-2 c κs = search needs
 
 returns : tie.Need-returns
-returns c = rw (← c .before .before .is-declared .ensures, c .before .if1 .taken) (c .is-declared2 .ensures)
+returns c = rw (← c .before .before .is-known .ensures, c .before .if1 .taken) (c .is-known2 .ensures)
 
 returns-2 : tie.Need-returns-2
-returns-2 c = rw (← c .before .is-declared .ensures, c .if1 .left)
+returns-2 c = rw (← c .before .is-known .ensures, c .if1 .left)
 
 pub is-pair-declared-spec : {M : Type 1} → statement M
 is-pair-declared-spec =
-    tie.close (tie.spec is-declared-requires is-declared-requires-2 returns returns-2)
+    tie.close (tie.spec is-known-requires is-known-requires-2 returns returns-2)

@@ -5,7 +5,7 @@ use mathlib.Core.Path.{_≡_, refl, sym, ap, _∙_}
 use borrow.Author.Needs.{needs}
 use native.Mathlib.Omega.{arith}
 use lib.ListN.{length}
-use Rattle.engine.specs.Encode.{makesTerm}
+use Rattle.engine.specs.Encode.{makesTerm, nextAt}
 use Rattle.engine.specs.Structure.{termPlace}
 use Rattle.engine.specs.StructureLaws.{place-end, place-here, place-next, place-skip}
 use Rattle.call_list.proofs.place_of_term.Statement.{statement}
@@ -40,17 +40,8 @@ returns c =
 sub-left : tie.Need-sub-left Inv-loop μ-loop
 sub-left c = search needs
 
-add-at : tie.Need-add-at Inv-loop μ-loop
-add-at c = search needs
-
-count-at-requires : tie.Need-count-at-requires Inv-loop μ-loop
-count-at-requires c κs = search needs
-
-cast-at : tie.Need-cast-at Inv-loop μ-loop
-cast-at c = search needs
-
-add-at-2 : tie.Need-add-at-2 Inv-loop μ-loop
-add-at-2 c = search needs
+next-record-requires : tie.Need-next-record-requires Inv-loop μ-loop
+next-record-requires c κs = search needs
 
 loop-less : tie.Need-loop-less Inv-loop μ-loop
 loop-less c = omega arith
@@ -63,24 +54,15 @@ loop-again c =
     let w = turn .before .before .before .args .calls .now in
     let inv = state .inv in
     let makes = sym (made .makes-term .ensures ∙ ap makesTerm (made .before .operation-at .ensures)) ∙ c .before .before .if1 .taken in
-    let next = ap (λ (n : ℕ). state .at + 1 + n) (c .count-at .ensures) in (
+    let next : c .next-record .result ≡ nextAt w (state .at) = omega (arith, c .next-record .ensures, turn .loop-test .taken) in (
       inv .0 - 1,
       omega arith,
       inv .2 ∙ place-next w (state .at) (state .left) (turn .loop-test .taken) (inv .0) (omega arith) makes (c .before .if2 .left)
           ∙ ap (λ (k : ℕ). termPlace (inv .0 - 1) w k (state .left - 1)) (sym next),
     )
 
-add-at-3 : tie.Need-add-at-3 Inv-loop μ-loop
-add-at-3 c = search needs
-
-count-at-requires-2 : tie.Need-count-at-requires-2 Inv-loop μ-loop
-count-at-requires-2 c κs = search needs
-
-cast-at-2 : tie.Need-cast-at-2 Inv-loop μ-loop
-cast-at-2 c = search needs
-
-add-at-4 : tie.Need-add-at-4 Inv-loop μ-loop
-add-at-4 c = search needs
+next-record-requires-2 : tie.Need-next-record-requires-2 Inv-loop μ-loop
+next-record-requires-2 c κs = search needs
 
 loop-less-2 : tie.Need-loop-less-2 Inv-loop μ-loop
 loop-less-2 c = omega arith
@@ -93,7 +75,7 @@ loop-again-2 c =
     let w = turn .before .before .before .args .calls .now in
     let inv = state .inv in
     let makes = sym (made .makes-term .ensures ∙ ap makesTerm (made .before .operation-at .ensures)) ∙ c .before .if1 .left in
-    let next = ap (λ (n : ℕ). state .at + 1 + n) (c .count-at2 .ensures) in (
+    let next : c .next-record2 .result ≡ nextAt w (state .at) = omega (arith, c .next-record2 .ensures, turn .loop-test .taken) in (
       inv .0 - 1,
       omega arith,
       inv .2 ∙ place-skip w (state .at) (state .left) (turn .loop-test .taken) (inv .0) (omega arith) makes
@@ -117,16 +99,10 @@ place-of-term-spec =
     makes-term-requires
     returns
     sub-left
-    add-at
-    count-at-requires
-    cast-at
-    add-at-2
+    next-record-requires
     loop-less
     loop-again
-    add-at-3
-    count-at-requires-2
-    cast-at-2
-    add-at-4
+    next-record-requires-2
     loop-less-2
     loop-again-2
     returns-2)

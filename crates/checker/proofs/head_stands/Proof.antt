@@ -13,11 +13,8 @@ kind-requires c κs = search needs
 sub-if2 : tie.Need-sub-if2
 sub-if2 c = search needs
 
-add-word-at : tie.Need-add-word-at
-add-word-at c = search needs
-
-word-at-requires-2 : tie.Need-word-at-requires-2
-word-at-requires-2 c κs = search needs
+argument-word-requires : tie.Need-argument-word-requires
+argument-word-requires c κs = search needs
 
 count-fits-requires : tie.Need-count-fits-requires
 count-fits-requires c κs = search needs
@@ -28,8 +25,8 @@ declares-again-requires c κs = search needs
 returns : tie.Need-returns
 returns c =
     let at-count-fits = c .before .before .before in
-    let at-word-at2 = at-count-fits .before in
-    let at-if2 = at-word-at2 .before in
+    let at-argument-word = at-count-fits .before in
+    let at-if2 = at-argument-word .before in
     let at-if1 = at-if2 .before in
     let at-kind = at-if1 .before in
     let at-word-at = at-kind .before in
@@ -42,7 +39,7 @@ returns c =
       ← at-kind .kind .ensures,
       eq-eqb _ _ (at-if1 .if1 .taken),
       lt-ltb _ _ (at-if2 .if2 .taken),
-      ← at-word-at2 .word-at2 .ensures,
+      ← at-argument-word .argument-word .ensures,
       ← at-count-fits .count-fits .ensures,
       c .before .before .if3 .taken,
       c .if4 .taken,
@@ -51,8 +48,8 @@ returns c =
 returns-2 : tie.Need-returns-2
 returns-2 c =
     let at-count-fits = c .before .before .before in
-    let at-word-at2 = at-count-fits .before in
-    let at-if2 = at-word-at2 .before in
+    let at-argument-word = at-count-fits .before in
+    let at-if2 = at-argument-word .before in
     let at-if1 = at-if2 .before in
     let at-kind = at-if1 .before in
     let at-word-at = at-kind .before in
@@ -65,7 +62,7 @@ returns-2 c =
       ← at-kind .kind .ensures,
       eq-eqb _ _ (at-if1 .if1 .taken),
       lt-ltb _ _ (at-if2 .if2 .taken),
-      ← at-word-at2 .word-at2 .ensures,
+      ← at-argument-word .argument-word .ensures,
       ← at-count-fits .count-fits .ensures,
       c .before .before .if3 .taken,
       c .if4 .left,
@@ -85,7 +82,7 @@ returns-3 c =
       ← at-kind .kind .ensures,
       eq-eqb _ _ (at-if1 .if1 .taken),
       lt-ltb _ _ (at-if2 .if2 .taken),
-      ← c .before .before .word-at2 .ensures,
+      ← c .before .before .argument-word .ensures,
       ← c .before .count-fits .ensures,
       c .if3 .left,
     )
@@ -113,8 +110,7 @@ head-stands-spec =
     word-at-requires
     kind-requires
     sub-if2
-    add-word-at
-    word-at-requires-2
+    argument-word-requires
     count-fits-requires
     declares-again-requires
     returns

@@ -10,6 +10,7 @@ use Rattle.engine.specs.WellFormed.{firstFailing, argumentOf}
 use Rattle.engine.specs.Steps.{failing-none, failing-turn, failing-here}
 use Rattle.checker.specs.Tables.{wordSort, standsBy, wrongAs, onWrong}
 use mathlib.Core.Option.{Option}
+use Rattle.checker.specs.declared.Wrong.the-variants.{At}
 use Rattle.checker.specs.TableLaws.{stands-is}
 use Rattle.checker.proofs.wrong_from.Statement.{statement}
 use Rattle.checker.proofs.wrong_from.Tie as tie
@@ -22,14 +23,11 @@ Inv-loop calls sorts terms at operation n first before₀ sort-before₀ i₀ be
 abbrev μ-loop : tie.MeasureT-loop
 μ-loop calls sorts terms at operation n first before₀ sort-before₀ i₀ before sort-before i = n - i
 
-add-word-at : tie.Need-add-word-at Inv-loop μ-loop
-add-word-at c = search needs
+argument-word-requires : tie.Need-argument-word-requires Inv-loop μ-loop
+argument-word-requires c κs = search needs
 
 word-at-requires : tie.Need-word-at-requires Inv-loop μ-loop
 word-at-requires c κs = search needs
-
-word-at-requires-2 : tie.Need-word-at-requires-2 Inv-loop μ-loop
-word-at-requires-2 c κs = search needs
 
 word-sort-requires : tie.Need-word-sort-requires Inv-loop μ-loop
 word-sort-requires c κs = search needs
@@ -39,19 +37,13 @@ loop-holds c =
     let args = c .before .before .before .before .before .args in
     let w = args .calls .now in (
       omega arith,
-      c .before .word-at2 .ensures ∙ ap (λ (j : ℕ). getD w j 0) (let e : args .at ≡ args .at + 0 = omega arith in e),
+      c .before .word-at .ensures ∙ ap (λ (j : ℕ). getD w j 0) (let e : args .at ≡ args .at + 0 = omega arith in e),
       c .word-sort .ensures,
       ap (firstFailing (standsBy (args .sorts .now) w (args .terms) (args .at)) 0) (let e : args .n ≡ args .n - 0 = omega arith in e),
     )
 
-add-word-at-2 : tie.Need-add-word-at-2 Inv-loop μ-loop
-add-word-at-2 c = search needs
-
-add-word-at-3 : tie.Need-add-word-at-3 Inv-loop μ-loop
-add-word-at-3 c = search needs
-
-word-at-requires-3 : tie.Need-word-at-requires-3 Inv-loop μ-loop
-word-at-requires-3 c κs = search needs
+argument-word-requires-2 : tie.Need-argument-word-requires-2 Inv-loop μ-loop
+argument-word-requires-2 c κs = search needs
 
 word-sort-requires-2 : tie.Need-word-sort-requires-2 Inv-loop μ-loop
 word-sort-requires-2 c κs = search needs
@@ -82,24 +74,22 @@ loop-again c =
     let stands =
     stands-is (args .sorts .now) w (args .terms) (args .at) (state .i)
     (tested .before .argument .ensures ∙ ap (λ (op : Op). argumentOf op (state .i)) (start .pre .1))
-    (turn .before .before .before .before .word-at .ensures)
-    (inv .1) (read .before .word-at3 .ensures) (inv .2) (read .word-sort2 .ensures) (tested .admitted .ensures) in (
+    (turn .before .before .before .before .argument-word .ensures)
+    (inv .1) (read .before .argument-word2 .ensures) (inv .2) (read .word-sort2 .ensures) (tested .admitted .ensures) in (
       omega arith,
-      read .before .word-at3 .ensures ∙ ap (λ (j : ℕ). getD w j 0) (let e : args .at + 1 + state .i ≡ args .at + (state .i + 1) = omega arith in e),
+      read .before .argument-word2 .ensures ∙ ap (λ (j : ℕ). getD w j 0) (let e : args .at + 1 + state .i ≡ args .at + (state .i + 1) = omega arith in e),
       read .word-sort2 .ensures,
       inv .3 ∙ failing-turn test (state .i) (args .n - state .i) (omega arith) (sym stands ∙ c .if1 .taken)
           ∙ ap (firstFailing test (state .i + 1)) (let e : args .n - state .i - 1 ≡ args .n - (state .i + 1) = omega arith in e),
     )
 
-add-t19 : tie.Need-add-t19 Inv-loop μ-loop
-add-t19 c = omega arith
-
-add-t20 : tie.Need-add-t20 Inv-loop μ-loop
-add-t20 c = omega arith
+argument-place-requires : tie.Need-argument-place-requires Inv-loop μ-loop
+argument-place-requires c κs = search needs
 
 returns : tie.Need-returns Inv-loop μ-loop
 returns c =
-    let tested = c .before in
+    let other = c .before in
+    let tested = other .before in
     let read = tested .before .before in
     let turn = read .before .before in
     let state = turn .before .loop in
@@ -111,9 +101,11 @@ returns c =
     let stands =
     stands-is (args .sorts .now) w (args .terms) (args .at) (state .i)
     (tested .before .argument .ensures ∙ ap (λ (op : Op). argumentOf op (state .i)) (start .pre .1))
-    (turn .before .before .before .before .word-at .ensures)
-    (inv .1) (read .before .word-at3 .ensures) (inv .2) (read .word-sort2 .ensures) (tested .admitted .ensures) in
-    sym (ap (λ (o : Option ℕ). wrongAs (onWrong o (λ i. args .at + 1 + i))) (inv .3 ∙ failing-here test (state .i) (args .n - state .i) (omega arith) (sym stands ∙ c .if1 .left)))
+    (turn .before .before .before .before .argument-word .ensures)
+    (inv .1) (read .before .argument-word2 .ensures) (inv .2) (read .word-sort2 .ensures) (tested .admitted .ensures) in
+    let place : c .argument-place .result ≡ args .at + 1 + state .i = omega (arith, c .argument-place .ensures, start .pre .0, turn .loop-test .taken) in
+    ap At place
+    ∙ sym (ap (λ (o : Option ℕ). wrongAs (onWrong o (λ i. args .at + 1 + i))) (inv .3 ∙ failing-here test (state .i) (args .n - state .i) (omega arith) (sym stands ∙ other .if1 .left)))
 
 returns-2 : tie.Need-returns-2 Inv-loop μ-loop
 returns-2 c =
@@ -129,21 +121,17 @@ wrong-from-spec =
     (tie.spec
     Inv-loop
     μ-loop
-    add-word-at
+    argument-word-requires
     word-at-requires
-    word-at-requires-2
     word-sort-requires
     loop-holds
-    add-word-at-2
-    add-word-at-3
-    word-at-requires-3
+    argument-word-requires-2
     word-sort-requires-2
     argument-requires
     admitted-requires
     add-i
     loop-less
     loop-again
-    add-t19
-    add-t20
+    argument-place-requires
     returns
     returns-2)

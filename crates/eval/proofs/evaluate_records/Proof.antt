@@ -12,21 +12,20 @@ use Rattle.eval.proofs.evaluate_records.Statement.{statement}
 use Rattle.eval.proofs.evaluate_records.Tie as tie
 
 abbrev Inv-loop : tie.InvT-loop
-Inv-loop calls bits values₀ sorts₀ done₀ values sorts done =
-    (length values ≡ length values₀) × (length sorts ≡ length sorts₀) × EvaluatedTo calls bits values₀ sorts values done
+Inv-loop calls bits values₀ sorts done₀ values done = (length values ≡ length values₀) × EvaluatedTo calls bits values₀ sorts values done
 
 abbrev μ-loop : tie.MeasureT-loop
-μ-loop calls bits values₀ sorts₀ done₀ values sorts done = length calls - done .at
+μ-loop calls bits values₀ sorts done₀ values done = length calls - done .at
 
 loop-holds : tie.Need-loop-holds Inv-loop μ-loop
 loop-holds c =
-    let start = c .before .before .before .before in (refl, refl, evaluated-start (start .args .sorts .now) (start .pre))
+    let start = c .before .before .before .before in (refl, evaluated-start (start .pre))
 
 operation-at-requires : tie.Need-operation-at-requires Inv-loop μ-loop
 operation-at-requires c κs = search needs
 
-argument-requires : tie.Need-argument-requires Inv-loop μ-loop
-argument-requires c κs = search needs
+argument-at-requires : tie.Need-argument-at-requires Inv-loop μ-loop
+argument-at-requires c κs = search needs
 
 cast-number-at : tie.Need-cast-number-at Inv-loop μ-loop
 cast-number-at c = search needs
@@ -44,7 +43,7 @@ add-falses c =
     omega (
       arith,
       inside .if1 .taken,
-      state .inv .2 .few-falses,
+      state .inv .1 .few-falses,
       c .before .false-of .ensures,
       false-low (opFrom (c .before .before .before .before .before .operation-at .result)) (c .before .before .number-at .result),
     )
@@ -53,21 +52,21 @@ number-at-requires-2 : tie.Need-number-at-requires-2 Inv-loop μ-loop
 number-at-requires-2 c κs = search needs
 
 write-value-requires : tie.Need-write-value-requires Inv-loop μ-loop
-write-value-requires c κs = c .before .before .before .before .before .before .before .before .before .if1 .taken
+write-value-requires c κs = search needs
 
 progress-after-requires : tie.Need-progress-after-requires Inv-loop μ-loop
 progress-after-requires c κs =
-    let written = c .before .before .before .before in
-    let counted = written .before .before .before .before .before in
+    let written = c .before .before in
+    let counted = written .before .before .before .before in
     let read = counted .before in
     let inside = read .before .before .before .before in
     let state = inside .before .before .loop in
-    (inside .if1 .taken, state .inv .2 .few-terms, state .inv .2 .few-names)
+    (inside .if1 .taken, state .inv .1 .few-terms, state .inv .1 .few-names)
 
 loop-less : tie.Need-loop-less Inv-loop μ-loop
 loop-less c =
-    let written = c .before .before .before .before .before in
-    let counted = written .before .before .before .before .before in
+    let written = c .before .before .before in
+    let counted = written .before .before .before .before in
     let read = counted .before in
     let inside = read .before .before .before .before in
     let state = inside .before .before .loop in
@@ -75,34 +74,29 @@ loop-less c =
 
 loop-again : tie.Need-loop-again Inv-loop μ-loop
 loop-again c =
-    let written = c .before .before .before .before .before in
-    let counted = written .before .before .before .before .before in
+    let written = c .before .before .before in
+    let counted = written .before .before .before .before in
     let read = counted .before in
     let inside = read .before .before .before .before in
     let state = inside .before .before .loop in (
       written .write-value .kept .1 .0 ∙ state .inv .0,
-      written .write-value .kept .1 .1 .0 ∙ state .inv .1,
       rw (
         c .progress-after .ensures,
-        written .write-value .ensures .0,
-        written .write-value .ensures .1,
-        written .before .before .before .number-at2 .ensures,
+        written .write-value .ensures,
+        written .before .before .number-at2 .ensures,
         counted .false-of .ensures,
         read .number-at .ensures,
-        read .before .argument .ensures,
+        read .before .argument-at .ensures,
         read .before .before .before .operation-at .ensures,
       )
-          (evaluated-next (state .inv .2) (inside .if1 .taken)),
+          (evaluated-next (state .inv .1) (inside .if1 .taken)),
     )
 
 same-length : tie.Need-same-length Inv-loop μ-loop
 same-length c = c .before .before .loop .inv .0
 
-same-length-2 : tie.Need-same-length-2 Inv-loop μ-loop
-same-length-2 c = c .before .before .loop .inv .1
-
 returns : tie.Need-returns Inv-loop μ-loop
-returns c = evaluated-end (c .before .before .loop .inv .2) (c .if1 .left)
+returns c = evaluated-end (c .before .before .loop .inv .1) (c .if1 .left)
 
 pub evaluate-records-spec : {M : Type 1} → statement M
 evaluate-records-spec =
@@ -112,7 +106,7 @@ evaluate-records-spec =
     μ-loop
     loop-holds
     operation-at-requires
-    argument-requires
+    argument-at-requires
     cast-number-at
     number-at-requires
     false-of-requires
@@ -123,5 +117,4 @@ evaluate-records-spec =
     loop-less
     loop-again
     same-length
-    same-length-2
     returns)

@@ -1,4 +1,4 @@
--- `eval::write_value` meets its contract: a record that makes a term writes its number and its sort. Assumes nothing.
+-- `eval::write_value` meets its contract: a record that makes a term writes its number. Assumes nothing.
 use borrow.Author.Needs.{needs}
 use mathlib.Core.Path.{sym, ap, _∙_}
 use Rattle.engine.specs.Encode.{makesTerm}
@@ -17,28 +17,21 @@ record-value-requires c κs = search needs
 put-number-requires : tie.Need-put-number-requires
 put-number-requires c κs = search needs
 
-note-sort-requires : tie.Need-note-sort-requires
-note-sort-requires c κs = search needs
-
 same-length : tie.Need-same-length
 same-length c = search needs
 
-same-length-2 : tie.Need-same-length-2
-same-length-2 c = search needs
-
 returns : tie.Need-returns
 returns c =
-    let noted = c .before .before in
-    let put = noted .before .before .before .before in
+    let put = c .before .before in
     let valued = put .before .before in
-    let told = valued .before .before .before in
+    let told = valued .before .before in
     let makes = sym (told .before .makes-term .ensures ∙ ap makesTerm (told .before .before .operation-at .ensures)) ∙ told .if1 .taken in
-    (rw (makes, put .put-number .ensures, valued .record-value .ensures), noted .note-sort .ensures)
+    rw (makes, put .put-number .ensures, valued .record-value .ensures)
 
 returns-2 : tie.Need-returns-2
 returns-2 c =
     let makes = sym (c .before .makes-term .ensures ∙ ap makesTerm (c .before .before .operation-at .ensures)) ∙ c .if1 .left in
-    (rw makes, rw makes)
+    rw makes
 
 pub write-value-spec : {M : Type 1} → statement M
 write-value-spec =
@@ -48,8 +41,6 @@ write-value-spec =
     makes-term-requires
     record-value-requires
     put-number-requires
-    note-sort-requires
     same-length
-    same-length-2
     returns
     returns-2)

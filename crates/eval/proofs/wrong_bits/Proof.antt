@@ -18,8 +18,8 @@ mul-fits-width c = search needs
 shared-slice-read-fits-width : tie.Need-shared-slice-read-fits-width
 shared-slice-read-fits-width c = search needs
 
-argument-requires : tie.Need-argument-requires
-argument-requires c κs = search needs
+argument-at-requires : tie.Need-argument-at-requires
+argument-at-requires c κs = search needs
 
 fits-width-requires : tie.Need-fits-width-requires
 fits-width-requires c κs = search needs
@@ -30,7 +30,7 @@ returns c =
     let asked = fit .before .before .before in
     let told = asked .before in
     let declares = sym (told .before .is-declare .ensures ∙ ap isDeclare (told .before .before .operation-at .ensures)) ∙ told .if1 .taken in
-    rw (declares, lt-ltb _ _ (asked .if2 .taken), ← fit .before .argument .ensures, ← fit .fits-width .ensures, c .if3 .taken)
+    rw (declares, lt-ltb _ _ (asked .if2 .taken), ← fit .before .argument-at .ensures, ← fit .fits-width .ensures, c .if3 .taken)
 
 returns-2 : tie.Need-returns-2
 returns-2 c =
@@ -38,7 +38,7 @@ returns-2 c =
     let asked = fit .before .before .before in
     let told = asked .before in
     let declares = sym (told .before .is-declare .ensures ∙ ap isDeclare (told .before .before .operation-at .ensures)) ∙ told .if1 .taken in
-    rw (declares, lt-ltb _ _ (asked .if2 .taken), ← fit .before .argument .ensures, ← fit .fits-width .ensures, c .if3 .left)
+    rw (declares, lt-ltb _ _ (asked .if2 .taken), ← fit .before .argument-at .ensures, ← fit .fits-width .ensures, c .if3 .left)
 
 returns-3 : tie.Need-returns-3
 returns-3 c =
@@ -59,7 +59,7 @@ wrong-bits-spec =
     is-declare-requires
     mul-fits-width
     shared-slice-read-fits-width
-    argument-requires
+    argument-at-requires
     fits-width-requires
     returns
     returns-2

@@ -25,7 +25,8 @@ returns c =
     let argued = closed .before .before .before .before in
     let named = argued .before .before .before .before in
     let opened = named .before .before .before .before in
-    let start = opened .before .before .before .before in
+    let known = opened .before .before .before in
+    let start = known .before .before in
     let short = start .good .0 .0 in
     wrote-then short (wrote-then short (wrote-then short (opened .put-byte .ensures) (named .put-operation .ensures)) (argued .put-arguments .ensures)) (closed .put-byte2 .ensures)
 

@@ -17,7 +17,8 @@ returns : tie.Need-returns
 returns c =
     let written = c .before .before in
     let spaced = written .before .before .before .before in
-    let start = spaced .before .before .before .before in
+    let opened = spaced .before .before .before in
+    let start = opened .before .before in
     let short = start .good .0 .0 in
     wrote-then short (spaced .put-byte .ensures) (written .put-reference .ensures)
 

@@ -13,16 +13,20 @@ use Rattle.pieces.proofs.put_arguments.Statement.{statement}
 use Rattle.pieces.proofs.put_arguments.Tie as tie
 
 abbrev Inv-loop : tie.InvT-loop
-Inv-loop text₀ start calls records head n at₀ i₀ text at i = (i ≤ n) × (length text ≡ length text₀) × Wrote text₀ text start at (spaced (argumentTexts calls records head i))
+Inv-loop text₀ start calls places terms head n at₀ i₀ text at i =
+    (i ≤ n) × (length text ≡ length text₀) × Wrote text₀ text start at (spaced (argumentTexts places calls terms head i))
 
 abbrev μ-loop : tie.MeasureT-loop
-μ-loop text₀ start calls records head n at₀ i₀ text at i = n - i
+μ-loop text₀ start calls places terms head n at₀ i₀ text at i = n - i
 
 loop-holds : tie.Need-loop-holds Inv-loop μ-loop
 loop-holds c = (omega arith, refl, rw spaced-none (wrote-none _ _ (omega arith)))
 
-term-argument-requires : tie.Need-term-argument-requires Inv-loop μ-loop
-term-argument-requires c κs = search needs
+cast-argument-at : tie.Need-cast-argument-at Inv-loop μ-loop
+cast-argument-at c = search needs
+
+argument-at-requires : tie.Need-argument-at-requires Inv-loop μ-loop
+argument-at-requires c κs = search needs
 
 put-argument-requires : tie.Need-put-argument-requires Inv-loop μ-loop
 put-argument-requires c κs = search needs
@@ -37,9 +41,9 @@ loop-again : tie.Need-loop-again Inv-loop μ-loop
 loop-again c =
     let written = c .before .before in
     let looped = written .before .before .before .before in
-    let start = looped .before .before .before in
+    let start = looped .before .before .before .before in
     let inv = looped .loop .inv in
-    let argument = rw (written .before .term-argument .ensures) at (written .put-argument .ensures) in
+    let argument = rw (written .before .before .argument-at .ensures) at (written .put-argument .ensures) in
     (omega arith, written .put-argument .kept .0 ∙ inv .1, rw spaced-more (wrote-then (start .good .0 .0) (inv .2) argument))
 
 same-length : tie.Need-same-length Inv-loop μ-loop
@@ -47,7 +51,7 @@ same-length c = c .before .loop .inv .1
 
 returns : tie.Need-returns Inv-loop μ-loop
 returns c =
-    let all : c .before .loop .i ≡ c .before .before .before .before .args .n = omega (arith, c .before .loop .inv .0) in
+    let all : c .before .loop .i ≡ c .before .before .before .before .before .args .n = omega (arith, c .before .loop .inv .0) in
     rw all at (c .before .loop .inv .2)
 
 pub put-arguments-spec : {M : Type 1} → statement M
@@ -57,7 +61,8 @@ put-arguments-spec =
     Inv-loop
     μ-loop
     loop-holds
-    term-argument-requires
+    cast-argument-at
+    argument-at-requires
     put-argument-requires
     add-i
     loop-less

@@ -5,8 +5,8 @@ use Rattle.engine.specs.Encode.{opOf}
 use Rattle.pieces.proofs.put_conjunction.Statement.{statement}
 use Rattle.pieces.proofs.put_conjunction.Tie as tie
 
-term-argument-requires : tie.Need-term-argument-requires
-term-argument-requires c κs = search needs
+argument-at-requires : tie.Need-argument-at-requires
+argument-at-requires c κs = search needs
 
 put-reference-requires : tie.Need-put-reference-requires
 put-reference-requires c κs = search needs
@@ -18,7 +18,7 @@ returns : tie.Need-returns
 returns c =
     let written = c .before .before in
     let single = written .before .before .before in
-    rw (conjunction-one _ _ (single .if1 .taken)) (rw (written .before .term-argument .ensures) at (written .put-reference .ensures))
+    rw (conjunction-one _ _ (single .if1 .taken)) (rw (written .before .before .argument-at .ensures) at (written .put-reference .ensures))
 
 put-application-requires : tie.Need-put-application-requires
 put-application-requires c κs = search needs
@@ -37,7 +37,7 @@ pub put-conjunction-spec : {M : Type 1} → statement M
 put-conjunction-spec =
     tie.close
     (tie.spec
-    term-argument-requires
+    argument-at-requires
     put-reference-requires
     same-length
     returns

@@ -8,17 +8,23 @@ use Rattle.pieces.proofs.put_extraction.Tie as tie
 put-byte-requires : tie.Need-put-byte-requires
 put-byte-requires c κs = search needs
 
-term-argument-requires : tie.Need-term-argument-requires
-term-argument-requires c κs = search needs
+argument-at-requires : tie.Need-argument-at-requires
+argument-at-requires c κs = search needs
 
-term-argument-requires-2 : tie.Need-term-argument-requires-2
-term-argument-requires-2 c κs = search needs
+cast-high : tie.Need-cast-high
+cast-high c = search needs
+
+argument-at-requires-2 : tie.Need-argument-at-requires-2
+argument-at-requires-2 c κs = search needs
+
+cast-low : tie.Need-cast-low
+cast-low c = search needs
 
 put-extract-requires : tie.Need-put-extract-requires
 put-extract-requires c κs = search needs
 
-term-argument-requires-3 : tie.Need-term-argument-requires-3
-term-argument-requires-3 c κs = search needs
+argument-at-requires-3 : tie.Need-argument-at-requires-3
+argument-at-requires-3 c κs = search needs
 
 put-argument-requires : tie.Need-put-argument-requires
 put-argument-requires c κs = search needs
@@ -33,22 +39,30 @@ returns : tie.Need-returns
 returns c =
     let closed = c .before .before in
     let argued = closed .before .before .before .before in
-    let named = argued .before .before .before .before .before in
-    let high = named .before .before .before in
+    let third = argued .before .before in
+    let named = third .before .before .before in
+    let low = named .before .before in
+    let high = low .before in
     let opened = high .before .before .before in
-    let start = opened .before .before .before .before in
+    let known = opened .before .before .before in
+    let start = known .before .before in
     let short = start .good .0 .0 in
-    rw spaced-one (wrote-then short (wrote-then short (wrote-then short (opened .put-byte .ensures) (rw (named .before .term-argument2 .ensures, high .term-argument .ensures) at (named .put-extract .ensures))) (rw (argued .before .term-argument3 .ensures) at (argued .put-argument .ensures))) (closed .put-byte2 .ensures))
+    let operation = rw (low .argument-at2 .ensures, high .argument-at .ensures) at (named .put-extract .ensures) in
+    let argument = rw (third .argument-at3 .ensures) at (argued .put-argument .ensures) in
+    rw spaced-one
+    (wrote-then short (wrote-then short (wrote-then short (opened .put-byte .ensures) operation) argument) (closed .put-byte2 .ensures))
 
 pub put-extraction-spec : {M : Type 1} → statement M
 put-extraction-spec =
     tie.close
     (tie.spec
     put-byte-requires
-    term-argument-requires
-    term-argument-requires-2
+    argument-at-requires
+    cast-high
+    argument-at-requires-2
+    cast-low
     put-extract-requires
-    term-argument-requires-3
+    argument-at-requires-3
     put-argument-requires
     put-byte-requires-2
     same-length

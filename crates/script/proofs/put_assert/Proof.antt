@@ -10,8 +10,8 @@ slice-aggregate-put-bytes c = search needs
 put-bytes-requires : tie.Need-put-bytes-requires
 put-bytes-requires c κs = search needs
 
-term-argument-requires : tie.Need-term-argument-requires
-term-argument-requires c κs = search needs
+argument-at-requires : tie.Need-argument-at-requires
+argument-at-requires c κs = search needs
 
 put-reference-requires : tie.Need-put-reference-requires
 put-reference-requires c κs = search needs
@@ -30,9 +30,10 @@ returns c =
     let closed = c .before .before in
     let term = closed .before .before .before .before .before in
     let opened = term .before .before .before .before .before in
-    let start = opened .before .before .before .before .before in
+    let known = opened .before .before .before in
+    let start = known .before .before .before in
     let short = start .good .0 .0 in
-    wrote-then short (wrote-then short (opened .put-bytes .ensures) (rw (term .before .term-argument .ensures) at (term .put-reference .ensures))) (closed .put-bytes2 .ensures)
+    wrote-then short (wrote-then short (opened .put-bytes .ensures) (rw (term .before .before .argument-at .ensures) at (term .put-reference .ensures))) (closed .put-bytes2 .ensures)
 
 pub put-assert-spec : {M : Type 1} → statement M
 put-assert-spec =
@@ -40,7 +41,7 @@ put-assert-spec =
     (tie.spec
     slice-aggregate-put-bytes
     put-bytes-requires
-    term-argument-requires
+    argument-at-requires
     put-reference-requires
     slice-aggregate-put-bytes-2
     put-bytes-requires-2

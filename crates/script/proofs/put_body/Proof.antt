@@ -6,20 +6,20 @@ use Rattle.script.specs.Record.{body-applied}
 use Rattle.script.proofs.put_body.Statement.{statement}
 use Rattle.script.proofs.put_body.Tie as tie
 
-operation-requires : tie.Need-operation-requires
-operation-requires c κs = search needs
+operation-number-requires : tie.Need-operation-number-requires
+operation-number-requires c κs = search needs
 
 shape-requires : tie.Need-shape-requires
 shape-requires c κs = search needs
 
-argument-requires : tie.Need-argument-requires
-argument-requires c κs = search needs
+argument-at-requires : tie.Need-argument-at-requires
+argument-at-requires c κs = search needs
 
 put-bool-requires : tie.Need-put-bool-requires
 put-bool-requires c κs = search needs
 
-count-requires : tie.Need-count-requires
-count-requires c κs = search needs
+count-at-requires : tie.Need-count-at-requires
+count-at-requires c κs = search needs
 
 put-conjunction-requires : tie.Need-put-conjunction-requires
 put-conjunction-requires c κs = search needs
@@ -28,8 +28,9 @@ put-literal-requires : tie.Need-put-literal-requires
 put-literal-requires c κs =
     let matched = c .before in
     let shaped = matched .before in
-    let start = shaped .before .before .before .before in
-    let shape = shape-at (start .args .calls .now) (start .args .head) (shaped .before .operation .ensures) (shaped .shape .ensures) in
+    let known = shaped .before .before in
+    let start = known .before .before .before in
+    let shape = shape-at (start .args .calls .now) (start .args .head) (shaped .before .operation-number .ensures) (shaped .shape .ensures) in
     start .pre (shape ∙ matched .match .keys3)
 
 put-extraction-requires : tie.Need-put-extraction-requires
@@ -38,8 +39,8 @@ put-extraction-requires c κs = search needs
 arity-requires : tie.Need-arity-requires
 arity-requires c κs = search needs
 
-cast-put-application : tie.Need-cast-put-application
-cast-put-application c = search needs
+cast-n : tie.Need-cast-n
+cast-n c = search needs
 
 put-application-requires : tie.Need-put-application-requires
 put-application-requires c κs = search needs
@@ -52,9 +53,10 @@ returns c =
     let written = c .before .before in
     let matched = written .before .before .before in
     let shaped = matched .before in
-    let start = shaped .before .before .before .before in
-    let shape = shape-at (start .args .calls .now) (start .args .head) (shaped .before .operation .ensures) (shaped .shape .ensures) in
-    rw (shape, matched .match .keys1) (rw (written .before .argument .ensures) at (written .put-bool .ensures))
+    let known = shaped .before .before in
+    let start = known .before .before .before in
+    let shape = shape-at (start .args .calls .now) (start .args .head) (shaped .before .operation-number .ensures) (shaped .shape .ensures) in
+    rw (shape, matched .match .keys1) (rw (written .before .argument-at .ensures) at (written .put-bool .ensures))
 
 same-length-2 : tie.Need-same-length-2
 same-length-2 c = search needs
@@ -64,9 +66,10 @@ returns-2 c =
     let written = c .before .before in
     let matched = written .before .before .before in
     let shaped = matched .before in
-    let start = shaped .before .before .before .before in
-    let shape = shape-at (start .args .calls .now) (start .args .head) (shaped .before .operation .ensures) (shaped .shape .ensures) in
-    rw (shape, matched .match .keys2) (rw (written .before .count .ensures) at (written .put-conjunction .ensures))
+    let known = shaped .before .before in
+    let start = known .before .before .before in
+    let shape = shape-at (start .args .calls .now) (start .args .head) (shaped .before .operation-number .ensures) (shaped .shape .ensures) in
+    rw (shape, matched .match .keys2) (rw (written .before .before .count-at .ensures) at (written .put-conjunction .ensures))
 
 same-length-3 : tie.Need-same-length-3
 same-length-3 c = search needs
@@ -76,8 +79,9 @@ returns-3 c =
     let written = c .before .before in
     let matched = written .before .before in
     let shaped = matched .before in
-    let start = shaped .before .before .before .before in
-    let shape = shape-at (start .args .calls .now) (start .args .head) (shaped .before .operation .ensures) (shaped .shape .ensures) in
+    let known = shaped .before .before in
+    let start = known .before .before .before in
+    let shape = shape-at (start .args .calls .now) (start .args .head) (shaped .before .operation-number .ensures) (shaped .shape .ensures) in
     rw (shape, matched .match .keys3) (written .put-literal .ensures)
 
 same-length-4 : tie.Need-same-length-4
@@ -88,8 +92,9 @@ returns-4 c =
     let written = c .before .before in
     let matched = written .before .before in
     let shaped = matched .before in
-    let start = shaped .before .before .before .before in
-    let shape = shape-at (start .args .calls .now) (start .args .head) (shaped .before .operation .ensures) (shaped .shape .ensures) in
+    let known = shaped .before .before in
+    let start = known .before .before .before in
+    let shape = shape-at (start .args .calls .now) (start .args .head) (shaped .before .operation-number .ensures) (shaped .shape .ensures) in
     rw (shape, matched .match .keys4) (written .put-extraction .ensures)
 
 same-length-5 : tie.Need-same-length-5
@@ -100,29 +105,30 @@ returns-5 c =
     let written = c .before .before in
     let matched = written .before .before .before in
     let shaped = matched .before in
-    let start = shaped .before .before .before .before in
-    let shape = shape-at (start .args .calls .now) (start .args .head) (shaped .before .operation .ensures) (shaped .shape .ensures) in
+    let known = shaped .before .before in
+    let start = known .before .before .before in
+    let shape = shape-at (start .args .calls .now) (start .args .head) (shaped .before .operation-number .ensures) (shaped .shape .ensures) in
     let four = matched .match .rest in
     let three = four .0 in
     let two = three .0 in
-    rw (body-applied (start .args .calls .now) (start .args .records) (start .args .head)
+    rw (body-applied (start .args .places .now) (start .args .calls .now) (start .args .terms) (start .args .head)
     (λ e. two .0 .1 (sym shape ∙ e)) (λ e. two .1 (sym shape ∙ e)) (λ e. three .1 (sym shape ∙ e)) (λ e. four .1 (sym shape ∙ e)))
-    (rw (written .before .arity .ensures, shaped .before .operation .ensures) at (written .put-application .ensures))
+    (rw (written .before .before .arity .ensures, shaped .before .operation-number .ensures) at (written .put-application .ensures))
 
 pub put-body-spec : {M : Type 1} → statement M
 put-body-spec =
     tie.close
     (tie.spec
-    operation-requires
+    operation-number-requires
     shape-requires
-    argument-requires
+    argument-at-requires
     put-bool-requires
-    count-requires
+    count-at-requires
     put-conjunction-requires
     put-literal-requires
     put-extraction-requires
     arity-requires
-    cast-put-application
+    cast-n
     put-application-requires
     same-length
     returns

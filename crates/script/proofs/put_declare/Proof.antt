@@ -16,8 +16,8 @@ put-declared-requires c κs = search needs
 put-byte-requires : tie.Need-put-byte-requires
 put-byte-requires c κs = search needs
 
-argument-requires : tie.Need-argument-requires
-argument-requires c κs = search needs
+argument-at-requires : tie.Need-argument-at-requires
+argument-at-requires c κs = search needs
 
 put-sort-requires : tie.Need-put-sort-requires
 put-sort-requires c κs = search needs
@@ -40,7 +40,7 @@ returns c =
     let opened = named .before .before .before .before in
     let start = opened .before .before .before .before .before in
     let short = start .good .0 .0 in
-    wrote-then short (wrote-then short (wrote-then short (wrote-then short (opened .put-bytes .ensures) (named .put-declared .ensures)) (spaced .put-byte .ensures)) (rw (sorted .before .argument .ensures) at (sorted .put-sort .ensures))) (closed .put-bytes2 .ensures)
+    wrote-then short (wrote-then short (wrote-then short (wrote-then short (opened .put-bytes .ensures) (named .put-declared .ensures)) (spaced .put-byte .ensures)) (rw (sorted .before .argument-at .ensures) at (sorted .put-sort .ensures))) (closed .put-bytes2 .ensures)
 
 pub put-declare-spec : {M : Type 1} → statement M
 put-declare-spec =
@@ -50,7 +50,7 @@ put-declare-spec =
     put-bytes-requires
     put-declared-requires
     put-byte-requires
-    argument-requires
+    argument-at-requires
     put-sort-requires
     slice-aggregate-put-bytes-2
     put-bytes-requires-2

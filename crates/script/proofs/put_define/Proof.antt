@@ -46,9 +46,10 @@ returns c =
     let empty = sorted .before .before .before .before in
     let numbered = empty .before .before .before .before .before in
     let opened = numbered .before .before .before .before in
-    let start = opened .before .before .before .before .before in
+    let known = opened .before .before .before in
+    let start = known .before .before .before in
     let short = start .good .0 .0 in
-    wrote-then short (wrote-then short (wrote-then short (wrote-then short (wrote-then short (wrote-then short (opened .put-bytes .ensures) (numbered .put-numbered .ensures)) (empty .put-bytes2 .ensures)) (rw (start .pre .1) at (sorted .put-sort .ensures))) (spaced .put-byte .ensures)) (body .put-body .ensures)) (closed .put-bytes3 .ensures)
+    wrote-then short (wrote-then short (wrote-then short (wrote-then short (wrote-then short (wrote-then short (opened .put-bytes .ensures) (numbered .put-numbered .ensures)) (empty .put-bytes2 .ensures)) (sorted .put-sort .ensures)) (spaced .put-byte .ensures)) (body .put-body .ensures)) (closed .put-bytes3 .ensures)
 
 pub put-define-spec : {M : Type 1} → statement M
 put-define-spec =

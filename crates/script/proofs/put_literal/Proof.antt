@@ -1,7 +1,7 @@
 -- `script::put_literal` meets its contract: #b, then the bits. Assumes nothing.
 use borrow.Author.Needs.{needs}
 use Rattle.text.specs.Write.{wrote-then}
-use Rattle.terms.specs.Literal.{four-digits}
+use Rattle.call_list.specs.Literal.{four-digits}
 use Rattle.script.proofs.put_literal.Statement.{statement}
 use Rattle.script.proofs.put_literal.Tie as tie
 
@@ -14,8 +14,8 @@ put-bytes-requires c κs = search needs
 literal-number-requires : tie.Need-literal-number-requires
 literal-number-requires c κs = search needs
 
-argument-requires : tie.Need-argument-requires
-argument-requires c κs = search needs
+argument-at-requires : tie.Need-argument-at-requires
+argument-at-requires c κs = search needs
 
 put-bits-requires : tie.Need-put-bits-requires
 put-bits-requires c κs = search needs
@@ -31,7 +31,7 @@ returns c =
     let short = start .good .0 .0 in
     wrote-then short (opened .put-bytes .ensures)
     (rw (
-      digits .before .argument .ensures,
+      digits .before .argument-at .ensures,
       digits .before .before .literal-number .ensures,
       four-digits (start .args .calls .now) (start .args .head) (start .pre),
     ) at (digits .put-bits .ensures))
@@ -43,7 +43,7 @@ put-literal-spec =
     slice-aggregate-put-bytes
     put-bytes-requires
     literal-number-requires
-    argument-requires
+    argument-at-requires
     put-bits-requires
     same-length
     returns)

@@ -6,8 +6,8 @@ use Rattle.script.specs.Record.{line-declared, line-asserted, line-check
 use Rattle.script.proofs.put_record.Statement.{statement}
 use Rattle.script.proofs.put_record.Tie as tie
 
-operation-requires : tie.Need-operation-requires
-operation-requires c κs = search needs
+operation-number-requires : tie.Need-operation-number-requires
+operation-number-requires c κs = search needs
 
 shape-requires : tie.Need-shape-requires
 shape-requires c κs = search needs
@@ -29,9 +29,9 @@ record-sort-requires c κs = search needs
 
 put-define-requires : tie.Need-put-define-requires
 put-define-requires c κs =
-    let sorted = c .before in
-    let start = sorted .before .before .before .before .before .before .before in
-    (start .pre .0, sorted .record-sort .ensures ∙ start .pre .2)
+    let shaped = c .before .before .before in
+    let known = shaped .before .before .before in
+    known .before .before .before .pre .ready
 
 same-length : tie.Need-same-length
 same-length c = search needs
@@ -41,8 +41,9 @@ returns c =
     let written = c .before .before in
     let matched = written .before .before in
     let shaped = matched .before in
-    let start = shaped .before .before .before .before .before in
-    let shape = shape-at (start .args .calls .now) (start .args .head) (shaped .before .operation .ensures) (shaped .shape .ensures) in
+    let known = shaped .before .before .before in
+    let start = known .before .before .before in
+    let shape = shape-at (start .args .calls .now) (start .args .head) (shaped .before .operation-number .ensures) (shaped .shape .ensures) in
     rw (line-declared _ _ _ (shape ∙ matched .match .keys1)) (written .put-declare .ensures)
 
 same-length-2 : tie.Need-same-length-2
@@ -53,9 +54,10 @@ returns-2 c =
     let written = c .before .before in
     let matched = written .before .before in
     let shaped = matched .before in
-    let start = shaped .before .before .before .before .before in
-    let shape = shape-at (start .args .calls .now) (start .args .head) (shaped .before .operation .ensures) (shaped .shape .ensures) in
-    rw (line-asserted _ _ _ (shape ∙ matched .match .keys2)) (written .put-assert .ensures)
+    let known = shaped .before .before .before in
+    let start = known .before .before .before in
+    let shape = shape-at (start .args .calls .now) (start .args .head) (shaped .before .operation-number .ensures) (shaped .shape .ensures) in
+    rw (line-asserted _ _ _ (start .pre) (shape ∙ matched .match .keys2)) (written .put-assert .ensures)
 
 same-length-3 : tie.Need-same-length-3
 same-length-3 c = search needs
@@ -65,8 +67,9 @@ returns-3 c =
     let written = c .before .before in
     let matched = written .before .before .before in
     let shaped = matched .before in
-    let start = shaped .before .before .before .before .before in
-    let shape = shape-at (start .args .calls .now) (start .args .head) (shaped .before .operation .ensures) (shaped .shape .ensures) in
+    let known = shaped .before .before .before in
+    let start = known .before .before .before in
+    let shape = shape-at (start .args .calls .now) (start .args .head) (shaped .before .operation-number .ensures) (shaped .shape .ensures) in
     rw (line-checked _ _ _ (shape ∙ matched .match .keys3)) (written .put-bytes .ensures)
 
 same-length-4 : tie.Need-same-length-4
@@ -77,18 +80,19 @@ returns-4 c =
     let written = c .before .before in
     let matched = written .before .before .before in
     let shaped = matched .before in
-    let start = shaped .before .before .before .before .before in
-    let shape = shape-at (start .args .calls .now) (start .args .head) (shaped .before .operation .ensures) (shaped .shape .ensures) in
+    let known = shaped .before .before .before in
+    let start = known .before .before .before in
+    let shape = shape-at (start .args .calls .now) (start .args .head) (shaped .before .operation-number .ensures) (shaped .shape .ensures) in
     let seven = matched .match .rest in
     let six = seven .0 in
-    rw (line-defined _ _ _ _ (start .pre .1) (λ e. six .0 .1 (sym shape ∙ e)) (λ e. six .1 (sym shape ∙ e)) (λ e. seven .1 (sym shape ∙ e)))
-    (written .put-define .ensures)
+    let line = line-defined _ _ _ (start .pre) (λ e. six .0 .1 (sym shape ∙ e)) (λ e. six .1 (sym shape ∙ e)) (λ e. seven .1 (sym shape ∙ e)) in
+    rw line (rw (written .before .before .record-sort .ensures) at (written .put-define .ensures))
 
 pub put-record-spec : {M : Type 1} → statement M
 put-record-spec =
     tie.close
     (tie.spec
-    operation-requires
+    operation-number-requires
     shape-requires
     put-declare-requires
     put-assert-requires

@@ -12,9 +12,6 @@ slice-aggregate-put-bytes c = search needs
 put-bytes-requires : tie.Need-put-bytes-requires
 put-bytes-requires c κs = search needs
 
-slice-aggregate-put-records : tie.Need-slice-aggregate-put-records
-slice-aggregate-put-records c = search needs
-
 put-records-requires : tie.Need-put-records-requires
 put-records-requires c κs = search needs
 
@@ -24,17 +21,19 @@ put-ending-requires c κs = search needs
 same-length : tie.Need-same-length
 same-length c =
     let ended = c .before .before in
-    let lined = ended .before .before .before .before .before in
-    let headed = lined .before .before .before .before .before in
+    let lined = ended .before .before .before .before in
+    let headed = lined .before .before .before .before in
     ended .put-ending .kept .0 ∙ lined .put-records .kept .0 ∙ headed .put-bytes .kept .0
 
 returns : tie.Need-returns
 unfolding script
 returns c =
     let ended = c .before .before in
-    let lined = ended .before .before .before .before .before in
-    let headed = lined .before .before .before .before .before in
-    let start = headed .before .before .before .before .before .before in
+    let lined = ended .before .before .before .before in
+    let headed = lined .before .before .before .before in
+    let lent = headed .before .before in
+    let known = lent .before .before .before in
+    let start = known .before .before .before in
     let short = start .good .0 .0 in
     wrote-then short (wrote-then short (headed .put-bytes .ensures) (lined .put-records .ensures)) (ended .put-ending .ensures)
 
@@ -44,7 +43,6 @@ put-script-spec =
     (tie.spec
     slice-aggregate-put-bytes
     put-bytes-requires
-    slice-aggregate-put-records
     put-records-requires
     put-ending-requires
     same-length

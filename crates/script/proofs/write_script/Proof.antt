@@ -1,50 +1,33 @@
--- `script::write_script` meets its contract: the list is checked first; a well-formed one is written. Assumes nothing.
+-- `script::write_script` meets its contract: it is the writing with tables of its own. Assumes nothing.
 use borrow.Author.Needs.{needs}
-use mathlib.Core.Path.{refl, sym, _∙_}
-use Rattle.script.specs.Written.{is-formed, written-formed, written-malformed}
 use Rattle.script.proofs.write_script.Statement.{statement}
 use Rattle.script.proofs.write_script.Tie as tie
 
-check-requires : tie.Need-check-requires
-check-requires c κs = search needs
+slice-aggregate-write-script-with : tie.Need-slice-aggregate-write-script-with
+slice-aggregate-write-script-with c = search needs
 
-enum-known-place : tie.Need-enum-known-place
-enum-known-place c = search needs
+slice-aggregate-write-script-with-2 : tie.Need-slice-aggregate-write-script-with-2
+slice-aggregate-write-script-with-2 c = search needs
 
-enum-told : tie.Need-enum-told
-enum-told c = search needs
+slice-aggregate-write-script-with-3 : tie.Need-slice-aggregate-write-script-with-3
+slice-aggregate-write-script-with-3 c = search needs
 
-write-marked-requires : tie.Need-write-marked-requires
-write-marked-requires c κs =
-    let told = c .before in
-    is-formed _ (sym (told .before .before .check .ensures) ∙ told .enum-told .given .1)
-
-returns : tie.Need-returns
-returns c =
-    let told = c .before in
-    record { answers = sym (written-malformed _ _ _ (sym (told .before .before .check .ensures) ∙ told .place .given .1)); writes = refl }
+write-script-with-requires : tie.Need-write-script-with-requires
+write-script-with-requires c κs = search needs
 
 same-length : tie.Need-same-length
 same-length c = search needs
 
-returns-2 : tie.Need-returns-2
-returns-2 c =
-    let wrote = c .before .before in
-    let told = wrote .before .before in
-    let formed = is-formed _ (sym (told .before .before .check .ensures) ∙ told .enum-told .given .1) in
-    record {
-      answers = wrote .write-marked .ensures .answers ∙ sym (written-formed _ _ _ formed);
-      writes = wrote .write-marked .ensures .writes;
-    }
+returns : tie.Need-returns
+returns c = let lent = c .before .before .before in lent .before .before .write-script-with .ensures
 
 pub write-script-spec : {M : Type 1} → statement M
 write-script-spec =
     tie.close
     (tie.spec
-    check-requires
-    enum-known-place
-    enum-told
-    write-marked-requires
-    returns
+    slice-aggregate-write-script-with
+    slice-aggregate-write-script-with-2
+    slice-aggregate-write-script-with-3
+    write-script-with-requires
     same-length
-    returns-2)
+    returns)

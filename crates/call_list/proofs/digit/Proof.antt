@@ -1,0 +1,34 @@
+-- `call_list::digit` meets its contract: past the last number it is 0. Assumes nothing.
+use borrow.Author.Needs.{needs}
+use borrow.Author.Tests.{lt-ltb, le-ltb}
+use native.Mathlib.Omega.{arith}
+use Rattle.call_list.proofs.digit.Statement.{statement}
+use Rattle.call_list.proofs.digit.Tie as tie
+
+add-if1 : tie.Need-add-if1
+add-if1 c = search needs
+
+count-at-requires : tie.Need-count-at-requires
+count-at-requires c κs = search needs
+
+add-argument-at : tie.Need-add-argument-at
+add-argument-at c = search needs
+
+argument-at-requires : tie.Need-argument-at-requires
+argument-at-requires c κs = search needs
+
+cast-result : tie.Need-cast-result
+cast-result c = search needs
+
+returns : tie.Need-returns
+returns c =
+    let counted = c .before .before in
+    (rw (← counted .count-at .ensures, lt-ltb _ _ (c .before .if1 .taken), c .argument-at .ensures), omega arith)
+
+returns-2 : tie.Need-returns-2
+returns-2 c = (rw (← c .before .count-at .ensures, le-ltb _ _ (c .if1 .left)), omega arith)
+
+pub digit-spec : {M : Type 1} → statement M
+digit-spec =
+    tie.close
+    (tie.spec add-if1 count-at-requires add-argument-at argument-at-requires cast-result returns returns-2)

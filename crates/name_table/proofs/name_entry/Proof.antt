@@ -1,0 +1,53 @@
+-- `name_table::name_entry` meets its contract: each way out has what its tests say. Assumes nothing.
+use borrow.Author.Tests.{lt-ltb, le-ltb, le-leb, lt-leb, eq-eqb, ne-eqb}
+use borrow.Author.Needs.{needs}
+use native.Mathlib.Omega.{arith}
+use Rattle.name_table.proofs.name_entry.Statement.{statement}
+use Rattle.name_table.proofs.name_entry.Tie as tie
+
+cast-name-slot : tie.Need-cast-name-slot
+cast-name-slot c = search needs
+
+name-slot-requires : tie.Need-name-slot-requires
+name-slot-requires c κs = search needs
+
+shared-slice-read-result : tie.Need-shared-slice-read-result
+shared-slice-read-result c = search needs
+
+cast-result : tie.Need-cast-result
+cast-result c =
+    let found = c .before .before in
+    omega (arith, c .shared-slice-known2 .given (found .name-slot .result))
+
+returns : tie.Need-returns
+returns c =
+    rw (
+      lt-ltb _ _ (c .before .before .before .if1 .taken),
+      ← c .before .before .name-slot .ensures,
+      lt-ltb _ _ (c .before .if2 .taken),
+    )
+
+returns-2 : tie.Need-returns-2
+returns-2 c =
+    rw (
+      lt-ltb _ _ (c .before .before .if1 .taken),
+      ← c .before .name-slot .ensures,
+      le-ltb _ _ (c .if2 .left),
+    )
+
+returns-3 : tie.Need-returns-3
+returns-3 c =
+    rw
+    (le-ltb _ _ (c .if1 .left))
+
+pub name-entry-spec : {M : Type 1} → statement M
+name-entry-spec =
+    tie.close
+    (tie.spec
+    cast-name-slot
+    name-slot-requires
+    shared-slice-read-result
+    cast-result
+    returns
+    returns-2
+    returns-3)

@@ -1,0 +1,45 @@
+-- `term_table::note_place` meets its contract: each way out has what its tests say. Assumes nothing.
+use borrow.Author.Needs.{needs}
+use Rattle.term_table.proofs.note_place.Statement.{statement}
+use Rattle.term_table.proofs.note_place.Tie as tie
+
+operation-at-requires : tie.Need-operation-at-requires
+operation-at-requires c κs = search needs
+
+makes-term-requires : tie.Need-makes-term-requires
+makes-term-requires c κs = search needs
+
+cast-put : tie.Need-cast-put
+cast-put c = search needs
+
+put-requires : tie.Need-put-requires
+put-requires c κs = search needs
+
+same-length : tie.Need-same-length
+same-length c = search needs
+
+returns : tie.Need-returns
+returns c =
+    let put = c .before .before in
+    let tested = put .before .before in
+    rw (
+      ← tested .before .before .operation-at .ensures,
+      ← tested .before .makes-term .ensures,
+      tested .if1 .taken,
+      put .put .ensures,
+    )
+
+returns-2 : tie.Need-returns-2
+returns-2 c = rw (← c .before .before .operation-at .ensures, ← c .before .makes-term .ensures, c .if1 .left)
+
+pub note-place-spec : {M : Type 1} → statement M
+note-place-spec =
+    tie.close
+    (tie.spec
+    operation-at-requires
+    makes-term-requires
+    cast-put
+    put-requires
+    same-length
+    returns
+    returns-2)

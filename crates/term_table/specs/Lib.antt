@@ -1,0 +1,5 @@
+pub mod Origins
+pub mod Tables
+pub mod Sorted
+pub mod Placed
+pub mod Sums
