@@ -1,5 +1,5 @@
-/* Verifies lists through vm_verify and counts them through vm_counts; exits with 1 where an answer or a slice is not as the
-   header says. */
+/* Verifies lists through vm_verify and counts them through vm_counts; exits with 1 where an answer or a slice is not
+   as the header says. */
 #include <stdio.h>
 #include <string.h>
 #include "../ffi/virginalmimas.h"

@@ -1,8 +1,8 @@
 //! Virginalmimas from Rust: a function for each entry of its proved archive, over slices, with an enum for each answer.
 //!
-//! Words, fault numbers and places are those of `ffi/virginalmimas.h`. Any words may be handed in: a bad list is refused
-//! with the number and place of its first fault, and a refusal leaves every lent slice as it was. There is no heap; tables
-//! are on the stack, so a thread that calls `evaluate` or `script` needs 2 MB of it.
+//! Words, fault numbers and places are those of `ffi/virginalmimas.h`. Any words may be handed in: a bad list is
+//! refused with the number and place of its first fault, and a refusal leaves every lent slice as it was. There is no
+//! heap; tables are on the stack, so a thread that calls `evaluate` or `script` needs 2 MB of it.
 
 /// The entries, as `ffi/virginalmimas.h` declares them.
 mod entries {
@@ -34,8 +34,8 @@ pub enum Verified {
     Asked { words: usize },
 }
 
-/// The words of the solver calls go into `calls`, and the mark of each slot into `recorded`. A slice too short is fault 14
-/// at the room needed, `calls` before `recorded`; `counts` and `read` tell both beforehand.
+/// The words of the solver calls go into `calls`, and the mark of each slot into `recorded`. A slice too short is
+/// fault 14 at the room needed, `calls` before `recorded`; `counts` and `read` tell both beforehand.
 pub fn verify(list: &[u32], calls: &mut [u32], recorded: &mut [u8]) -> Verified {
     let (room, slots) = (calls.len(), recorded.len());
     let (calls, recorded) = (calls.as_mut_ptr(), recorded.as_mut_ptr());

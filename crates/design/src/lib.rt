@@ -138,8 +138,8 @@ pub fn verify(list: &[u32], calls: &mut [u32], recorded: &mut [u8]) -> Verified
     }
 }
 
-// What `verify` answers where both slices have room enough, so that a caller can size them first: its counts, and whether
-// anything is asked.
+// What `verify` answers where both slices have room enough, so that a caller can size them first: its counts, and
+// whether anything is asked.
 pub fn counts(list: &[u32]) -> Verified
     ensures { λ r. ⌜ r ≡ unroomed (now (list .entry)) ⌝ }
 {

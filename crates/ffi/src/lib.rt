@@ -19,8 +19,8 @@ pub extern "C" fn vm_read(list: &[u32]) -> u64
     }
 }
 
-// Verifies a design list: its calls go into the one slice and the marks of its recorded slots into the other. The fault's
-// number and place, or 0 and the number of call words, with bit 47 set where something is asked.
+// Verifies a design list: its calls go into the one slice and the marks of its recorded slots into the other. The
+// fault's number and place, or 0 and the number of call words, with bit 47 set where something is asked.
 #[no_mangle]
 pub extern "C" fn vm_verify(list: &[u32], calls: &mut [u32], recorded: &mut [u8]) -> u64
     ensures { λ r. ⌜ PackedVerified (now (list .entry)) (now (calls .entry)) (now (recorded .entry))
@@ -29,8 +29,8 @@ pub extern "C" fn vm_verify(list: &[u32], calls: &mut [u32], recorded: &mut [u8]
     packed::verify(list, calls, recorded)
 }
 
-// What a design list's calls would come to: the answer of vm_verify where the slices have room enough, and the numbers of
-// terms, temporaries and call words in front of a slice.
+// What a design list's calls would come to: the answer of vm_verify where the slices have room enough, and the
+// numbers of terms, temporaries and call words in front of a slice.
 #[no_mangle]
 pub extern "C" fn vm_counts(list: &[u32], counts: &mut [u64]) -> u64
     ensures { λ r. ⌜ PackedCounts (now (list .entry)) (now (counts .entry)) (now (counts .exit)) r ⌝ }
@@ -38,8 +38,8 @@ pub extern "C" fn vm_counts(list: &[u32], counts: &mut [u64]) -> u64
     packed::counts(list, counts)
 }
 
-// Evaluates a call list under the bits of its declared names into a slice: the fault's number and place, or 0 and the number of
-// false assertions.
+// Evaluates a call list under the bits of its declared names into a slice: the fault's number and place, or 0 and the
+// number of false assertions.
 #[no_mangle]
 pub extern "C" fn vm_evaluate(calls: &[u32], bits: &[u64], values: &mut [u64]) -> u64
     ensures { λ r. ⌜ PackedEvaluation (now (calls .entry)) (now (bits .entry)) (now (values .entry)) (now (values .exit)) r ⌝ }
@@ -61,7 +61,8 @@ pub extern "C" fn vm_script(calls: &[u32], recorded: &[u8], text: &mut [u8]) -> 
     }
 }
 
-// Reads a solver's answer against the recorded marks into a table: the fault's number and place, or 0 for unsat and 1 for sat.
+// Reads a solver's answer against the recorded marks into a table: the fault's number and place, or 0 for unsat and 1
+// for sat.
 #[no_mangle]
 pub extern "C" fn vm_answer(text: &[u8], recorded: &[u8], trits: &mut [u8]) -> u64
     ensures { λ r. ⌜ PackedAnswer (now (text .entry)) (now (recorded .entry)) (now (trits .entry)) (now (trits .exit)) r ⌝ }

@@ -1,5 +1,5 @@
--- The slice of counts: three numbers are stored in front of it, and where they are it has room for them; and what `counts`
--- leaves, from what it calls. Assumes nothing.
+-- The slice of counts: three numbers are stored in front of it, and where they are it has room for them; and what
+-- `counts` leaves, from what it calls. Assumes nothing.
 use mathlib.Core.Path.{_≡_, refl}
 use mathlib.Core.Bool.{Bool, true, false, cond}
 use mathlib.Core.List.{List, [], _∷_}

@@ -98,7 +98,8 @@ lent-low (Asked n) room low = go (ltb room 3)
     go false = low
 
 -- Of verify, from its contract: for every list and every two slices.
-pub verify-whole : {w calls recorded calls′ recorded′ : List ℕ} {r : ℕ} → PackedVerified w calls recorded calls′ recorded′ r
+pub verify-whole : {w calls recorded calls′ recorded′ : List ℕ} {r : ℕ}
+    → PackedVerified w calls recorded calls′ recorded′ r
     → Whole (verified w (length calls) (length recorded)) r
 verify-whole {w} {calls} {recorded} said =
     let room = length calls in
@@ -106,7 +107,8 @@ verify-whole {w} {calls} {recorded} said =
     rw (said .answers) (low-whole (verified w room marks) (verified-low w room marks))
 
 -- Of counts likewise.
-pub counts-whole : {w before after : List ℕ} {r : ℕ} → PackedCounts w before after r → Whole (lent (unroomed w) (length before)) r
+pub counts-whole : {w before after : List ℕ} {r : ℕ} → PackedCounts w before after r
+    → Whole (lent (unroomed w) (length before)) r
 counts-whole {w} {before} said =
     let room = length before in
     rw (said .answers) (low-whole (lent (unroomed w) room) (lent-low (unroomed w) room (unroomed-low w)))

@@ -15,8 +15,8 @@ pub fn packed_fault(fault: Fault) -> u64
     (fault.number % 65536) as u64 * 281474976710656 + (fault.place % 281474976710656) as u64
 }
 
-// What the order of work answers, packed: its number from bit 48 on, whether anything is asked in bit 47, and below it the
-// call words or the place.
+// What the order of work answers, packed: its number from bit 48 on, whether anything is asked in bit 47, and below
+// it the call words or the place.
 fn packed_verified(answer: Verified) -> u64
     ensures { λ r. ⌜ r ≡ packedVerified answer ⌝ }
 {
@@ -29,8 +29,8 @@ fn packed_verified(answer: Verified) -> u64
     }
 }
 
-// Verifies a design list: its calls go into the one slice and the marks of its recorded slots into the other. The fault's
-// number and place, or 0 and the number of call words, with bit 47 set where something is asked.
+// Verifies a design list: its calls go into the one slice and the marks of its recorded slots into the other. The
+// fault's number and place, or 0 and the number of call words, with bit 47 set where something is asked.
 pub fn verify(list: &[u32], calls: &mut [u32], recorded: &mut [u8]) -> u64
     ensures { λ r. ⌜ PackedVerified (now (list .entry)) (now (calls .entry)) (now (recorded .entry))
         (now (calls .exit)) (now (recorded .exit)) r ⌝ }
@@ -77,8 +77,8 @@ fn put_counts(n: Counts, into: &mut [u64])
     into[2] = n.words as u64;
 }
 
-// What a design list's calls would come to: the answer of `verify` where the slices have room enough, and the numbers of
-// terms, temporaries and call words in front of a slice.
+// What a design list's calls would come to: the answer of `verify` where the slices have room enough, and the numbers
+// of terms, temporaries and call words in front of a slice.
 pub fn counts(list: &[u32], counts: &mut [u64]) -> u64
     ensures { λ r. ⌜ PackedCounts (now (list .entry)) (now (counts .entry)) (now (counts .exit)) r ⌝ }
 {

@@ -20,7 +20,8 @@ returns-2 c =
     let counted = fits .before in
     let start = counted .before .before .before .before .before in
     let room = room-is (start .pre) (counted .dry-run .ensures (start .pre)) in
-    short-marks (start .pre) (start .args .calls .now) (start .args .recorded .now) room (fits .if1 .left) (c .if2 .taken)
+    short-marks (start .pre) (start .args .calls .now) (start .args .recorded .now) room (fits .if1 .left)
+    (c .if2 .taken)
 
 marks-count : tie.Need-slice-aggregate-marks
 marks-count c = taken-count _ _ (c .before .if2 .left)
@@ -43,8 +44,8 @@ returns-3 c =
     let kept = passed .pass .kept .1 .1 .1 .1 .0 ∙ cleared .clear .kept .0 ∙ sym (taken-count _ _ (fits .if2 .left)) in
     let room = room-is (start .pre) (counted .dry-run .ensures (start .pre)) in
     rw (c .told .ensures)
-    (both-fit (start .pre) (start .args .calls .now) (start .args .recorded .now) room (first .if1 .left) (fits .if2 .left) kept
-    (passed .pass .ensures (start .pre)))
+    (both-fit (start .pre) (start .args .calls .now) (start .args .recorded .now) room (first .if1 .left)
+    (fits .if2 .left) kept (passed .pass .ensures (start .pre)))
 
 pub verify-read-spec : {M : Type 1} → statement M
 verify-read-spec =

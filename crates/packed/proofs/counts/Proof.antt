@@ -31,8 +31,8 @@ returns c =
     let roomed = known .before .before in
     let counted = roomed .before in
     let start = counted .before .before .before in
-    counts-are (start .args .list .now) (start .args .counts .now) (counted .counts .ensures) (roomed .with-room .ensures)
-    (known .answer .given .1) (c .packed-verified .ensures) refl
+    counts-are (start .args .list .now) (start .args .counts .now) (counted .counts .ensures)
+    (roomed .with-room .ensures) (known .answer .given .1) (c .packed-verified .ensures) refl
 
 returns-2 : tie.Need-returns-2
 returns-2 c =
@@ -41,8 +41,8 @@ returns-2 c =
     let roomed = known .before .before in
     let counted = roomed .before in
     let start = counted .before .before .before in
-    counts-are (start .args .list .now) (start .args .counts .now) (counted .counts .ensures) (roomed .with-room .ensures)
-    (known .answer2 .given .1) (c .packed-verified2 .ensures) (stored .put-counts .ensures)
+    counts-are (start .args .list .now) (start .args .counts .now) (counted .counts .ensures)
+    (roomed .with-room .ensures) (known .answer2 .given .1) (c .packed-verified2 .ensures) (stored .put-counts .ensures)
 
 returns-3 : tie.Need-returns-3
 returns-3 c =
@@ -51,13 +51,13 @@ returns-3 c =
     let roomed = known .before .before in
     let counted = roomed .before in
     let start = counted .before .before .before in
-    counts-are (start .args .list .now) (start .args .counts .now) (counted .counts .ensures) (roomed .with-room .ensures)
-    (known .answer3 .given .1) (c .packed-verified3 .ensures) (stored .put-counts2 .ensures)
+    counts-are (start .args .list .now) (start .args .counts .now) (counted .counts .ensures)
+    (roomed .with-room .ensures) (known .answer3 .given .1) (c .packed-verified3 .ensures) (stored .put-counts2 .ensures)
 
 pub counts-spec : {M : Type 1} → statement M
 counts-spec =
     tie.close
     (tie.spec
     (λ c κs. search needs) (λ c κs. search needs) (λ c. search needs) (λ c κs. search needs) (λ c. search needs)
-    nothing-fits (λ c κs. search needs) (λ c. search needs) asked-fits (λ c κs. search needs) returns (λ c. search needs)
-    returns-2 (λ c. search needs) returns-3)
+    nothing-fits (λ c κs. search needs) (λ c. search needs) asked-fits (λ c κs. search needs) returns
+    (λ c. search needs) returns-2 (λ c. search needs) returns-3)
