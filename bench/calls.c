@@ -5,7 +5,7 @@
 #include <stdlib.h>
 #include <string.h>
 #include <time.h>
-#include "../ffi/virginalmimas.h"
+#include "../include/virginalmimas.h"
 
 #define HEAD(op, count) ((VM_KIND_HEAD << 29) + (op) + 32u * (count))
 #define NUMBER(n) ((VM_KIND_NUMBER << 29) + (n))

@@ -1,4 +1,4 @@
-//! Links the proved archive, libffi.a, which `rt staticlib ffi` writes. VIRGINALMIMAS_ARCHIVE names its folder; the
+//! Links the proved archive, libvirginalmimas.a, which `rt staticlib virginalmimas` writes. VIRGINALMIMAS_ARCHIVE names its folder; the
 //! default is target/staticlib of the repository.
 
 use std::env;
@@ -10,12 +10,12 @@ fn main() {
         Some(folder) => PathBuf::from(folder),
         None => PathBuf::from(env::var_os("CARGO_MANIFEST_DIR").unwrap()).join("../target/staticlib"),
     };
-    let archive = folder.join("libffi.a");
+    let archive = folder.join("libvirginalmimas.a");
     println!("cargo::rerun-if-changed={}", archive.display());
     if !archive.exists() {
-        println!("cargo::error=no libffi.a in {}: `rt staticlib ffi` writes it", folder.display());
+        println!("cargo::error=no libvirginalmimas.a in {}: `rt staticlib virginalmimas` writes it", folder.display());
         return;
     }
     println!("cargo::rustc-link-search=native={}", folder.display());
-    println!("cargo::rustc-link-lib=static=ffi");
+    println!("cargo::rustc-link-lib=static=virginalmimas");
 }

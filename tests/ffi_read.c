@@ -1,7 +1,7 @@
 /* Calls vm_read through the C interface on lists whose answers document 01 gives, and says how many were right. */
 #include <stdio.h>
 #include <string.h>
-#include "../ffi/virginalmimas.h"
+#include "../include/virginalmimas.h"
 
 #define KIND(k, p) (((uint32_t)(k) << 29) | (uint32_t)(p))
 #define NET(p) KIND(0, p)

@@ -2,7 +2,7 @@
    as the header says. */
 #include <stdio.h>
 #include <string.h>
-#include "../ffi/virginalmimas.h"
+#include "../include/virginalmimas.h"
 
 #define NET(p) ((uint32_t)(p))
 #define SLOT(i) NET(2 + (i))

@@ -137,7 +137,7 @@ fn compared(seed: u64, count: u64, size: Size) -> Result<bool, String> {
 
 #[cfg(not(port))]
 fn compared(_seed: u64, _count: u64, _size: Size) -> Result<bool, String> {
-    Err("built without the archive: `rt staticlib ffi`, then oracle/build".to_string())
+    Err("built without the archive: `rt staticlib virginalmimas`, then oracle/build".to_string())
 }
 
 fn generated(seed: u64, count: u64, size: Size) -> Result<bool, String> {

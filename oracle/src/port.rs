@@ -1,4 +1,4 @@
-//! The entries of the proved archive that are compared, as ffi/virginalmimas.h declares them.
+//! The entries of the proved archive that are compared, as include/virginalmimas.h declares them.
 
 mod entries {
     unsafe extern "C" {

@@ -1,10 +1,10 @@
 //! Virginalmimas from Rust: a function for each entry of its proved archive, over slices, with an enum for each answer.
 //!
-//! Words, fault numbers and places are those of `ffi/virginalmimas.h`. Any words may be handed in: a bad list is
+//! Words, fault numbers and places are those of `include/virginalmimas.h`. Any words may be handed in: a bad list is
 //! refused with the number and place of its first fault, and a refusal leaves every lent slice as it was. There is no
 //! heap; tables are on the stack, so a thread that calls `evaluate` or `script` needs 2 MB of it.
 
-/// The entries, as `ffi/virginalmimas.h` declares them.
+/// The entries, as `include/virginalmimas.h` declares them.
 mod entries {
     unsafe extern "C" {
         pub fn vm_read(list: *const u32, len: usize) -> u64;

@@ -10,7 +10,7 @@ use Rattle.builder.specs.declared.Counts.{Counts}
 use Rattle.design.specs.declared.Verified.{Verified}
 use Rattle.design.specs.declared.Verified.the-variants.{Refused, NothingAsked, Asked}
 use Rattle.design.specs.Verified.{numberOf, valueOf, verified, unroomed, callsAfter, recordedAfter}
-use Rattle.packed.specs.Packed.{packedAs}
+use Rattle.packing.specs.Packed.{packedAs}
 
 -- 1 where something is asked.
 abbrev pub askedOf : Verified → ℕ

@@ -1,19 +1,11 @@
-// Answers packed into one word of 64 bits: a refusal, and what the order of work answers.
+// What the order of work answers, packed into one word of 64 bits.
 use builder::Counts;
 use design::Verified;
 use logic::Fault;
 ghost use mathlib.Core.Path.{_≡_};
 ghost use lib.ListN.{length};
 ghost use Prim.Native.Nat.{_≤_};
-ghost use Rattle.packed.specs.Packed.{packedFault};
 ghost use Rattle.packed.specs.Verified.{packedVerified, PackedVerified, lent, written, PackedCounts};
-
-// A refusal, packed: its number above its place.
-pub fn packed_fault(fault: Fault) -> u64
-    ensures { λ r. ⌜ r ≡ packedFault fault ⌝ }
-{
-    (fault.number % 65536) as u64 * 281474976710656 + (fault.place % 281474976710656) as u64
-}
 
 // What the order of work answers, packed: its number from bit 48 on, whether anything is asked in bit 47, and below
 // it the call words or the place.
@@ -21,7 +13,7 @@ fn packed_verified(answer: Verified) -> u64
     ensures { λ r. ⌜ r ≡ packedVerified answer ⌝ }
 {
     match answer {
-        Verified::Refused(f) => packed_fault(f),
+        Verified::Refused(f) => packing::packed_fault(f),
         Verified::NothingAsked(n) => (n.words % 281474976710656) as u64,
         Verified::Asked(n) => {
             ((n.words % 281474976710656) as u64 + 140737488355328) % 281474976710656

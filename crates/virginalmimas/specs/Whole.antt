@@ -6,7 +6,7 @@ use native.Mathlib.Omega.{arith}
 use Rattle.logic.specs.declared.Fault.{Fault}
 use Rattle.design_list.specs.Read.{refused, read, answer}
 use Rattle.refusals.specs.Small.{Small, read-small}
-use Rattle.ffi.specs.Packed.{packed}
+use Rattle.virginalmimas.specs.Packed.{packed}
 
 -- The packed answer of a refused list gives back the fault's number and place.
 pub packed-whole :

@@ -1,4 +1,4 @@
-/* The C interface of Virginalmimas. Link libffi.a, which `rt staticlib ffi` writes. There is no heap: tables are on
+/* The C interface of Virginalmimas. Link libvirginalmimas.a, which `rt staticlib virginalmimas` writes. There is no heap: tables are on
    the stack, so a thread that calls vm_evaluate or vm_script needs 2 MB of it, and one that calls vm_verify or
    vm_counts 192 KB. */
 #ifndef VIRGINALMIMAS_H

@@ -1,10 +1,10 @@
--- `ffi::vm_read` meets its contract: the answer is packed as the definition says; an accepted list has at most 4,096 slots. Assumes nothing.
+-- `virginalmimas::vm_read` meets its contract: the answer is packed as the definition says; an accepted list has at most 4,096 slots. Assumes nothing.
 use mathlib.Core.Path.{sym, _∙_}
 use native.Mathlib.Omega.{arith}
 use Rattle.design_list.specs.Table.{table-low}
 use borrow.Author.Needs.{needs}
-use Rattle.ffi.proofs.vm_read.Statement.{statement}
-use Rattle.ffi.proofs.vm_read.Tie as tie
+use Rattle.virginalmimas.proofs.vm_read.Statement.{statement}
+use Rattle.virginalmimas.proofs.vm_read.Tie as tie
 
 read-design-requires : tie.Need-read-design-requires
 read-design-requires c κs = search needs

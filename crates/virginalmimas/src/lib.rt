@@ -1,11 +1,9 @@
 // The C interface: each entry over slices of words, its answer packed into a number.
-use answer::Answer;
 use design_list::DesignRead;
-use eval::Evaluation;
-use script::Written;
 ghost use mathlib.Core.Path.{_≡_};
 ghost use Rattle.design_list.specs.Read.{read, answer};
-ghost use Rattle.ffi.specs.Packed.{packed, PackedEvaluation, PackedScript, PackedAnswer};
+ghost use Rattle.virginalmimas.specs.Packed.{packed};
+ghost use Rattle.packed_calls.specs.Packed.{PackedCheck, checkedOf, PackedEvaluation, PackedScript, PackedAnswer};
 ghost use Rattle.packed.specs.Verified.{PackedVerified, PackedCounts};
 
 // Reads a design list: the fault's number and place, or 0 and the number of slots.
@@ -14,7 +12,7 @@ pub extern "C" fn vm_read(list: &[u32]) -> u64
     ensures { λ r. ⌜ r ≡ packed (answer (read (now (list .entry)))) ⌝ }
 {
     match design_list::read_design(list) {
-        DesignRead::Refused(f) => packed::packed_fault(f),
+        DesignRead::Refused(f) => packing::packed_fault(f),
         DesignRead::Accepted(x) => x.base as u64 + x.added as u64,
     }
 }
@@ -38,16 +36,48 @@ pub extern "C" fn vm_counts(list: &[u32], counts: &mut [u64]) -> u64
     packed::counts(list, counts)
 }
 
-// Evaluates a call list under the bits of its declared names into a slice: the fault's number and place, or 0 and the
-// number of false assertions.
+// Checks a call list: the fault's number and place, or 0 and the number of terms; the numbers of terms and of declared names go into a slice.
+#[no_mangle]
+pub extern "C" fn vm_check(calls: &[u32], sizes: &mut [u64]) -> u64
+    ensures { λ r. ⌜ PackedCheck (checkedOf (now (calls .entry))) (now (sizes .entry)) (now (sizes .exit)) r ⌝ }
+{
+    packed_calls::check(calls, sizes)
+}
+
+// The same with lent tables.
+#[no_mangle]
+pub extern "C" fn vm_check_with(
+    calls: &[u32],
+    sizes: &mut [u64],
+    sorts: &mut [u8],
+    names: &mut [u8],
+) -> u64
+    ensures { λ r. ⌜ PackedCheck (checkedOf (now (calls .entry))) (now (sizes .entry)) (now (sizes .exit)) r ⌝ }
+{
+    packed_calls::check_with(calls, sizes, sorts, names)
+}
+
+// Evaluates a call list under the bits of its declared names into a slice: the fault's number and place, or 0 and the number of
+// false assertions.
 #[no_mangle]
 pub extern "C" fn vm_evaluate(calls: &[u32], bits: &[u64], values: &mut [u64]) -> u64
     ensures { λ r. ⌜ PackedEvaluation (now (calls .entry)) (now (bits .entry)) (now (values .entry)) (now (values .exit)) r ⌝ }
 {
-    match eval::evaluate(calls, bits, values) {
-        Evaluation::Refused(f) => packed::packed_fault(f),
-        Evaluation::Evaluated(n) => (n % 281474976710656) as u64,
-    }
+    packed_calls::evaluate(calls, bits, values)
+}
+
+// The same with lent tables.
+#[no_mangle]
+pub extern "C" fn vm_evaluate_with(
+    calls: &[u32],
+    bits: &[u64],
+    values: &mut [u64],
+    sorts: &mut [u8],
+    names: &mut [u8],
+) -> u64
+    ensures { λ r. ⌜ PackedEvaluation (now (calls .entry)) (now (bits .entry)) (now (values .entry)) (now (values .exit)) r ⌝ }
+{
+    packed_calls::evaluate_with(calls, bits, values, sorts, names)
 }
 
 // Writes the script of a call list and its recorded marks: the fault's number and place, or 0 and the number of bytes.
@@ -55,21 +85,28 @@ pub extern "C" fn vm_evaluate(calls: &[u32], bits: &[u64], values: &mut [u64]) -
 pub extern "C" fn vm_script(calls: &[u32], recorded: &[u8], text: &mut [u8]) -> u64
     ensures { λ r. ⌜ PackedScript (now (calls .entry)) (now (recorded .entry)) (now (text .entry)) (now (text .exit)) r ⌝ }
 {
-    match script::write_script(calls, recorded, text) {
-        Written::Refused(f) => packed::packed_fault(f),
-        Written::Bytes(n) => (n % 281474976710656) as u64,
-    }
+    packed_calls::script(calls, recorded, text)
 }
 
-// Reads a solver's answer against the recorded marks into a table: the fault's number and place, or 0 for unsat and 1
-// for sat.
+// The same with lent tables.
+#[no_mangle]
+pub extern "C" fn vm_script_with(
+    calls: &[u32],
+    recorded: &[u8],
+    text: &mut [u8],
+    places: &mut [u32],
+    sorts: &mut [u8],
+    names: &mut [u8],
+) -> u64
+    ensures { λ r. ⌜ PackedScript (now (calls .entry)) (now (recorded .entry)) (now (text .entry)) (now (text .exit)) r ⌝ }
+{
+    packed_calls::script_with(calls, recorded, text, places, sorts, names)
+}
+
+// Reads a solver's answer against the recorded marks into a table: the fault's number and place, or 0 for unsat and 1 for sat.
 #[no_mangle]
 pub extern "C" fn vm_answer(text: &[u8], recorded: &[u8], trits: &mut [u8]) -> u64
     ensures { λ r. ⌜ PackedAnswer (now (text .entry)) (now (recorded .entry)) (now (trits .entry)) (now (trits .exit)) r ⌝ }
 {
-    match answer::read_answer(text, recorded, trits) {
-        Answer::Refused(f) => packed::packed_fault(f),
-        Answer::Unsat => 0,
-        Answer::Sat => 1,
-    }
+    packed_calls::answer(text, recorded, trits)
 }

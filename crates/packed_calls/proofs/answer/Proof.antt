@@ -1,7 +1,7 @@
--- `ffi::vm_answer` meets its contract: the reader's answer is packed as the definition says. Assumes nothing.
+-- `packed_calls::answer` meets its contract: the reader's answer is packed as the definition says. Assumes nothing.
 use borrow.Author.Needs.{needs}
-use Rattle.ffi.proofs.vm_answer.Statement.{statement}
-use Rattle.ffi.proofs.vm_answer.Tie as tie
+use Rattle.packed_calls.proofs.answer.Statement.{statement}
+use Rattle.packed_calls.proofs.answer.Tie as tie
 
 read-answer-requires : tie.Need-read-answer-requires
 read-answer-requires c κs = search needs
@@ -43,8 +43,8 @@ returns-3 c =
     let wrote = c .before .before .before .before in
     record { answers = rw (← wrote .read-answer .ensures .answers, c .enum-told2 .given .1); writes = wrote .read-answer .ensures .writes }
 
-pub vm-answer-spec : {M : Type 1} → statement M
-vm-answer-spec =
+pub answer-spec : {M : Type 1} → statement M
+answer-spec =
     tie.close
     (tie.spec
     read-answer-requires
