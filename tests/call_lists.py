@@ -299,6 +299,13 @@ def evaluated_here():
     return out
 
 
+def past_tables():
+    """Names about index 4,095, the last that the checker's own table of names has, declared again or not."""
+    for a, b in ((4095, 4095), (4096, 4096), (4095, 4096), (4096, 4095)):
+        for letter, suffix in ((0, 0), (0, 1), (2, 2)):
+            yield declare(letter, a, suffix, 4) + declare(letter, b, suffix, 4)
+
+
 def cases():
     chance = random.Random(1)
     for w in made_here():
@@ -309,6 +316,8 @@ def cases():
     for w in of_sample():
         assert verdict(w).startswith("well formed")
         yield w, [chance.getrandbits(a[3]) for op, a in records(w) if op == 21], int(verdict(w).split()[2]) + 2
+    for w in past_tables():
+        yield w, [5, 6], 3
 
 
 def main():

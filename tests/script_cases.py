@@ -107,6 +107,17 @@ if sys.argv[1:] == ["every"]:
 ex, ev, unchecked, empty = example(), every(), Calls(), Calls()
 unchecked.declare("n", 0, "x", 1), unchecked.declare("n", 0, "y", 1)
 size = len(script(ex, [1, 1]))
+
+def high(*names):
+    """Names at and past index 4,095, the last that the writer's own table of names has."""
+    c = Calls()
+    for letter, index, suffix in names:
+        c.declare(letter, index, suffix, 1)
+    c.check()
+    return c
+
+last = [("n", 4095, "x"), ("n", 4095, "y"), ("p", 4096, "x"), ("p", 4096, "y")]
+marked = [0] * 4095 + [1, 2]
 cases = [(packed(ex, [1, 1]), script(ex, [1, 1])), (packed(ex, [1, 1], size), script(ex, [1, 1])),
          (packed(ex, [0, 0]), script(ex, [0, 0])), (packed(ex, []), script(ex, [])),
          (packed(ev, [1, 0, 0, 2]), script(ev, [1, 0, 0, 2])), (packed(unchecked, [1]), script(unchecked, [1])),
@@ -115,6 +126,9 @@ cases = [(packed(ex, [1, 1]), script(ex, [1, 1])), (packed(ex, [1, 1], size), sc
          (packed(ex, [1, 2], 0), "refused 2 at 1\n"), (packed(ex, [1, 1, 1], 0), "refused 2 at 2\n"),
          (packed(ex, [3], 0), "refused 2 at 0\n"), (packed(ex, [0, 0, 2]), "refused 2 at 2\n"),
          (packed(unchecked, [2]), "refused 2 at 0\n"),
+         (packed(high(*last), marked), script(high(*last), marked)),
+         (packed(high(*last[:3]), marked), "refused 2 at 4096\n"), (packed(high(*last[1:]), marked), "refused 2 at 4095\n"),
+         (packed(high(*last, last[3]), marked), "refused 19 at 20\n"), (packed(high(*last, last[0]), marked), "refused 19 at 20\n"),
          (packed(ex.words[:-1] + [NUMBER], [3], 0), "refused 19 at %d\n" % (len(ex.words) - 1)),
          (packed(ex.words + [HEAD + 23], [3], 0), "refused 19 at %d\n" % len(ex.words)),
          (packed([HEAD + 9 + 32, TERM], [3], 0), "refused 19 at 1\n"), (packed([HEAD + 3], [3], 0), "refused 19 at 0\n")]

@@ -220,7 +220,7 @@ pub fn check(calls: &[u32]) -> CallList
     ensures { λ r. ⌜ r ≡ checkedAs (outcome (now (calls .entry))) ⌝ }
 {
     let mut places = [0u32; 1];
-    let mut sorts = [0u8; 8192];
+    let mut sorts = [0u8; 57344];
     let mut names = [0u8; 36864];
     check_records(calls, &mut places, &mut sorts, &mut names)
 }

@@ -205,7 +205,7 @@ pub fn evaluate(calls: &[u32], bits: &[u64], values: &mut [u64]) -> Evaluation
     ensures { λ r. ⌜ (r ≡ answer (now (calls .entry)) (now (bits .entry)) (length (now (values .entry))))
         × (now (values .exit) ≡ written r (now (calls .entry)) (now (bits .entry)) (now (values .entry))) ⌝ }
 {
-    let mut sorts = [0u8; 8192];
+    let mut sorts = [0u8; 57344];
     let mut names = [0u8; 36864];
     evaluate_with(calls, bits, values, &mut sorts, &mut names)
 }

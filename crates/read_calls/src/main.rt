@@ -4,6 +4,7 @@
 use checker::CallList;
 use eval::Evaluation;
 use libc::STDOUT_FILENO;
+use logic::Fault;
 use word_input::Next;
 
 // Room for the longest list that is read.
@@ -90,11 +91,50 @@ fn show_values(values: &[u64]) {
     }
 }
 
+// Whether two refusals are the same.
+fn same_fault(a: Fault, b: Fault) -> bool {
+    if a.number == b.number {
+        a.place == b.place
+    } else {
+        false
+    }
+}
+
+// Whether two answers are the same.
+fn same(a: Evaluation, b: Evaluation) -> bool {
+    match a {
+        Evaluation::Evaluated(n) => match b {
+            Evaluation::Evaluated(m) => n == m,
+            Evaluation::Refused(_) => false,
+        },
+        Evaluation::Refused(fault) => match b {
+            Evaluation::Evaluated(_) => false,
+            Evaluation::Refused(other) => same_fault(fault, other),
+        },
+    }
+}
+
+// Evaluates once more, with tables of three terms and two indexes, past which the records are searched, and tells where anything differs.
+fn show_small(list: &[u32], bits: &[u64], values: &mut [u64], answer: Evaluation) {
+    let mut sorts = [0u8; 3];
+    let mut names = [0u8; 18];
+    let before = digest(values);
+    let small = eval::evaluate_with(list, bits, values, &mut sorts, &mut names);
+    if same(answer, small) {
+        if digest(values) == before {
+            return;
+        }
+    }
+    io::write_all(STDOUT_FILENO, b"; another answer with small tables");
+}
+
 // The line for a list.
 fn show(list: &[u32], bits: &[u64], values: &mut [u64]) {
     show_check(list);
-    show_evaluation(eval::evaluate(list, bits, values));
+    let answer = eval::evaluate(list, bits, values);
+    show_evaluation(answer);
     show_values(values);
+    show_small(list, bits, values, answer);
     io::write_all(STDOUT_FILENO, b"\n");
 }
 
