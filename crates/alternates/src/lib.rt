@@ -31,9 +31,9 @@ fn compared(
     let net = Net(logic::payload(logic::word_at(fields, 3 + index as usize)));
     let a = nets::net(table, calls, names, marks, prd.counts, net);
     let b = nets::trit_lit(calls, a.counts, mask);
-    let differ = trits::tv_xor(calls, b.counts, a.value, b.value);
+    let differ = gates::tv_xor(calls, b.counts, a.value, b.value);
     let same = trits::tv_not(calls, differ.counts, differ.value);
-    trits::tv_and(calls, same.counts, prd.value, same.value, 1)
+    gates::tv_and(calls, same.counts, prd.value, same.value, 1)
 }
 
 // The product with one position more; X is compared with nothing.
@@ -117,7 +117,7 @@ pub fn sum(
         let place = alternate_at(at, i, n);
         let one = nets::trit_lit(calls, sum.counts, Trit::One);
         let prd = product(fields, place, n, table, calls, names, marks, one);
-        sum = trits::tv_or(calls, prd.counts, sum.value, prd.value, 1);
+        sum = gates::tv_or(calls, prd.counts, sum.value, prd.value, 1);
         i += 1;
     }
     sum

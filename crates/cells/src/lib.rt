@@ -58,8 +58,8 @@ pub fn control_at(
         (now (calls .entry)) (now (names .entry)) (now (marks .entry)) c
         (now (calls .exit)) (now (names .exit)) (now (marks .exit)) r ⌝ }
 {
-    let control = nets::control_of(logic::word_at(fields, at as usize));
-    nets::control_net(table, calls, names, marks, c, control)
+    let control = controls::control_of(logic::word_at(fields, at as usize));
+    controls::control_net(table, calls, names, marks, c, control)
 }
 
 // ---- the arms
@@ -125,7 +125,7 @@ pub fn aig_cell(
 {
     let a = control_at(fields, 0, table, calls, names, marks, c);
     let b = control_at(fields, 1, table, calls, names, marks, a.counts);
-    trits::tv_and(calls, b.counts, a.value, b.value, 1)
+    gates::tv_and(calls, b.counts, a.value, b.value, 1)
 }
 
 // Cell::IoBuf: i/en/o treated as POs/PIs

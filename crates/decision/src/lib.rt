@@ -69,9 +69,9 @@ fn chosen(
 {
     let net = Net(logic::payload(logic::word_at(fields, 2)));
     let enable = nets::net(table, calls, names, marks, c, net);
-    let all_cold = vectors::tv_zero(calls, enable.counts, k);
-    let result = vectors::first_match(calls, all_cold.counts, matches, k, all_cold.value);
-    trits::tv_mux(
+    let all_cold = one_hot::tv_zero(calls, enable.counts, k);
+    let result = one_hot::first_match(calls, all_cold.counts, matches, k, all_cold.value);
+    gates::tv_mux(
         calls,
         result.counts,
         enable.value,

@@ -18,7 +18,7 @@ use Rattle.order.proofs.Numbered.{terms-append, work-next}
 use Rattle.builder.specs.declared.Counts.{Counts}
 use Rattle.builder.specs.Ran.{stateOf}
 use Rattle.builder.proofs.Laws.{wrote-calls}
-use Rattle.steps.specs.Did.{Did, Asks, queryTerms}
+use Rattle.net_steps.specs.Did.{Did, Asks, queryTerms}
 use Rattle.design.specs.Verified.{temporaries, counted}
 use Rattle.design.specs.Answered.{few-counts, temporaries-are}
 use Rattle.design.specs.Passes.{nothing, Passed}

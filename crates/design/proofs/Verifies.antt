@@ -13,7 +13,7 @@ use Rattle.cell.specs.Design.{Design, total}
 use Rattle.engine.specs.Encode.{encode}
 use Rattle.engine.specs.Emit.{overwrite}
 use Rattle.builder.specs.declared.Counts.{Counts}
-use Rattle.steps.specs.Did.{Asks}
+use Rattle.net_steps.specs.Did.{Asks}
 use Rattle.design_list.specs.declared.Extent.{Extent}
 use Rattle.design_list.specs.declared.SlotTable.{SlotTable}
 use Rattle.design_list.specs.declared.SlotTable.the-variants as T

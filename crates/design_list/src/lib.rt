@@ -1,4 +1,4 @@
-// The design list: header, cells, cell replacements and net replacements, up to the first fault; and what stands at each slot.
+// The design list, from its length to fault 10, up to the first fault; and what stands at each slot.
 use fields::Scan;
 use items::Header;
 use items::Opening;
@@ -32,7 +32,8 @@ pub enum DesignRead {
     Refused(Fault),
 }
 
-// A slice filled with what stands at each slot of an accepted list; or the first fault, 14 last: a slice too short for the slots.
+// A slice filled with what stands at each slot of an accepted list; or the first fault, 14 last: a slice too short for
+// the slots.
 pub enum SlotTable {
     Filled(Extent),
     Refused(Fault),
@@ -48,7 +49,8 @@ fn read_net_reps(
     pairs: usize,
 ) -> DesignRead
     requires { ⌜ header .base + header .added ≤ 4096 ⌝ }
-    ensures { λ r. ⌜ r ≡ netRepsAnswer (now (list .entry)) (isVoidIn (now (table .entry)) (header .base)) header count replacements pairs ⌝ }
+    ensures { λ r. ⌜ r ≡ netRepsAnswer (now (list .entry)) (isVoidIn (now (table .entry)) (header .base))
+        header count replacements pairs ⌝ }
 {
     match items::net_reps_at(list, header.base + header.added, header.netreps, pairs) {
         Scan::Refused(f) => DesignRead::Refused(f),
@@ -86,7 +88,8 @@ fn read_cell_reps(
     replacements: usize,
 ) -> DesignRead
     requires { ⌜ header .base + header .added ≤ 4096 ⌝ }
-    ensures { λ r. ⌜ r ≡ cellRepsAnswer (now (list .entry)) (headsIn (now (table .entry)) (header .base)) (isVoidIn (now (table .entry)) (header .base)) header count replacements ⌝ }
+    ensures { λ r. ⌜ r ≡ cellRepsAnswer (now (list .entry)) (headsIn (now (table .entry)) (header .base))
+        (isVoidIn (now (table .entry)) (header .base)) header count replacements ⌝ }
 {
     match items::cell_reps_at(
         list,
@@ -105,7 +108,8 @@ fn read_cell_reps(
 fn read_cells(list: &[u32], header: Header, table: &mut [u32]) -> DesignRead
     requires { ⌜ (header .base + header .added ≤ 4096) × (header .base + header .added ≤ length (now table)) ⌝ }
     ensures { λ r. ⌜ (r ≡ answer (readCells (now (list .entry)) header))
-        × (now (table .exit) ≡ sets (now (table .entry)) 0 (marks (header .base) (cellsRead (now (list .entry)) header .items))) ⌝ }
+        × (now (table .exit) ≡ sets (now (table .entry)) 0
+        (marks (header .base) (cellsRead (now (list .entry)) header .items))) ⌝ }
 {
     match placing::cells_at(list, header.base as u16, header.added as u16, table) {
         Cells::Refused(f) => DesignRead::Refused(f),
@@ -116,7 +120,8 @@ fn read_cells(list: &[u32], header: Header, table: &mut [u32]) -> DesignRead
 // Reads a design list, with the word for each slot of an accepted one stored in the table.
 fn read_into(list: &[u32], table: &mut [u32]) -> DesignRead
     requires { ⌜ 4096 ≤ length (now table) ⌝ }
-    ensures { λ r. ⌜ (r ≡ answer (read (now (list .entry)))) × Stored (read (now (list .entry))) (now (table .entry)) (now (table .exit)) ⌝ }
+    ensures { λ r. ⌜ (r ≡ answer (read (now (list .entry))))
+        × Stored (read (now (list .entry))) (now (table .entry)) (now (table .exit)) ⌝ }
 {
     if 16384 < list.len() {
         return DesignRead::Refused(Fault {

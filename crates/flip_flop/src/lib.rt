@@ -36,10 +36,10 @@ fn cleared(
         → MakesTrits (cleared readsPast (hasClear (flipFlopIn (now (fields .entry)))) (flipFlopIn (now (fields .entry))) width (trits 1 clear) (trits width («data» .value))) width
         (now (calls .entry)) («data» .counts) (now (calls .exit)) r) ⌝ }
 {
-    let control = nets::control_of(logic::word_at(fields, 3));
-    if nets::has_clear(control) {
+    let control = controls::control_of(logic::word_at(fields, 3));
+    if controls::has_clear(control) {
         let to = clear_value(fields, calls, data.counts);
-        return trits::tv_mux(calls, to.counts, clear, to.value, data.value, width);
+        return gates::tv_mux(calls, to.counts, clear, to.value, data.value, width);
     }
     data
 }
@@ -62,10 +62,10 @@ fn clocked(
         (now (calls .entry)) (now (names .entry)) (now (marks .entry)) c
         (now (calls .exit)) (now (names .exit)) (now (marks .exit)) r) ⌝ }
 {
-    let clock = nets::control_of(logic::word_at(fields, 2));
-    let active_edge = nets::clock_net(calls, names, marks, c, clock);
+    let clock = controls::control_of(logic::word_at(fields, 2));
+    let active_edge = controls::clock_net(calls, names, marks, c, clock);
     let old = values::past_value(slot, width, table, calls, names, marks, active_edge.counts);
-    let value = trits::tv_mux(calls, old.counts, active_edge.value, data, old.value, width);
+    let value = gates::tv_mux(calls, old.counts, active_edge.value, data, old.value, width);
     cleared(fields, calls, value, width, clear)
 }
 

@@ -42,7 +42,7 @@ fn enabled(
         (now (calls .exit)) (now (names .exit)) (now (marks .exit)) r) ⌝ }
 {
     let old = values::past_value(slot, width, table, calls, names, marks, c);
-    trits::tv_mux(calls, old.counts, enable, data, old.value, width)
+    gates::tv_mux(calls, old.counts, enable, data, old.value, width)
 }
 
 // The reset value where it is reset, else the data.
@@ -59,7 +59,7 @@ fn reset_to(
         (now (calls .entry)) c (now (calls .exit)) r) ⌝ }
 {
     let to = reset_value(fields, calls, c);
-    trits::tv_mux(calls, to.counts, reset, to.value, data, width)
+    gates::tv_mux(calls, to.counts, reset, to.value, data, width)
 }
 
 // Enable first, then reset over it.

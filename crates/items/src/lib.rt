@@ -9,7 +9,8 @@ use logic::Slot;
 ghost use mathlib.Core.Path.{_≡_};
 ghost use Prim.Native.Nat.{_+_, _-_, _<_};
 ghost use Rattle.items.specs.Step.{cellStep, netStep};
-ghost use Rattle.items.specs.Items.{countsAt, headerAt, listedNumberAt, listedNetAt, replaces, replacementAt, cellRepsFrom, pairAt, netRepsFrom, finishAt};
+ghost use Rattle.items.specs.Items.{countsAt, headerAt, listedNumberAt, listedNetAt, replaces, replacementAt};
+ghost use Rattle.items.specs.Items.{cellRepsFrom, pairAt, netRepsFrom, finishAt};
 ghost use Rattle.items.specs.Marks.{headsIn};
 
 // The four words of the header.
@@ -151,7 +152,8 @@ fn replacement_at(
     least: Slot,
     at: usize,
 ) -> CellStep
-    ensures { λ r. ⌜ r ≡ cellStep (replacementAt (now (list .entry)) total (headsIn (now (table .entry)) base) (least .0) at) ⌝ }
+    ensures { λ r. ⌜ r ≡ cellStep (replacementAt (now (list .entry)) total (headsIn (now (table .entry)) base)
+        (least .0) at) ⌝ }
 {
     match listed_number_at(list, at) {
         Number::Refused(f) => CellStep::Refused(f),
@@ -183,7 +185,8 @@ pub fn cell_reps_at(
     k: usize,
     start: usize,
 ) -> Scan
-    ensures { λ r. ⌜ r ≡ cellRepsFrom (now (list .entry)) total (headsIn (now (table .entry)) base) k 0 start .scan ⌝ }
+    ensures { λ r. ⌜ r ≡ cellRepsFrom (now (list .entry)) total (headsIn (now (table .entry)) base)
+        k 0 start .scan ⌝ }
 {
     let mut at = start;
     let mut left = k;

@@ -8,8 +8,8 @@ use lib.ListN.{length, set, length-append}
 use lib.Seq.{sets, length-sets}
 use Rattle.builder.specs.declared.Built.{Built}
 use Rattle.order.specs.Verify.{Step, declared, asserted, obliged}
-use Rattle.steps.specs.Did.{Did}
-use Rattle.steps.proofs.Laws.{did-none, did-append}
+use Rattle.net_steps.specs.Did.{Did}
+use Rattle.net_steps.proofs.Laws.{did-none, did-append}
 use Rattle.net_pairs.specs.declared.Walked.{Walked}
 use Rattle.net_pairs.specs.Does.{obligedIn, Kept, Pushed, Does}
 

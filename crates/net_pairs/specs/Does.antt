@@ -7,7 +7,7 @@ use lib.ListN.{length, set}
 use lib.Seq.{sets}
 use Rattle.builder.specs.declared.Built.{Built}
 use Rattle.order.specs.Verify.{Step, declared, asserted, obliged}
-use Rattle.steps.specs.Did.{Did}
+use Rattle.net_steps.specs.Did.{Did}
 use Rattle.net_pairs.specs.declared.Walked.{Walked}
 
 -- How many of some steps are obligations.

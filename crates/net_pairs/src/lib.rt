@@ -55,7 +55,7 @@ fn replace_net(
         (now (calls .entry)) (now (names .entry)) (now (marks .entry)) (now (eqs .entry)) s
         (now (calls .exit)) (now (names .exit)) (now (marks .exit)) (now (eqs .exit)) r) ⌝ }
 {
-    let eq = steps::replace_net(table, calls, names, marks, s.counts, from_net, to_net);
+    let eq = net_steps::replace_net(table, calls, names, marks, s.counts, from_net, to_net);
     push(eqs, s.obligations, eq)
 }
 
@@ -73,7 +73,15 @@ fn replace_void_net(
         (now (calls .entry)) (now (names .entry)) (now (marks .entry)) eqs s
         (now (calls .exit)) (now (names .exit)) (now (marks .exit)) eqs r) ⌝ }
 {
-    let counts = steps::replace_void_net(table, calls, names, marks, s.counts, from_net, to_net);
+    let counts = net_steps::replace_void_net(
+        table,
+        calls,
+        names,
+        marks,
+        s.counts,
+        from_net,
+        to_net,
+    );
     Walked {
         counts,
         obligations: s.obligations,
@@ -94,7 +102,7 @@ fn replace_dff_net(
         (now (calls .entry)) (now (names .entry)) (now (marks .entry)) (now (eqs .entry)) s
         (now (calls .exit)) (now (names .exit)) (now (marks .exit)) (now (eqs .exit)) r) ⌝ }
 {
-    let eq = steps::replace_dff_net(calls, names, marks, s.counts, from_net, to_net);
+    let eq = net_steps::replace_dff_net(calls, names, marks, s.counts, from_net, to_net);
     push(eqs, s.obligations, eq)
 }
 

@@ -2,18 +2,16 @@
 use mathlib.Core.Path.{_≡_, refl, sym, ap, _∙_}
 use mathlib.Core.Bool.{Bool, true, false, cond}
 use mathlib.Core.List.{List, [], _∷_}
-use Prim.Native.Nat.{ℕ, _<_, _^_, _-_}
+use Prim.Native.Nat.{ℕ, _<_, _^_}
 use native.Mathlib.Omega.{arith}
-use borrow.Author.Tests.{lt-ltb, ne-eqb}
-use lib.Dec.{eqb}
+use borrow.Author.Tests.{lt-ltb}
 use Rattle.logic.specs.Net.{Net, constant, slot, netOf, driverOf, driverOfNet}
 use Rattle.logic.specs.declared.Slot.{Slot}
 use Rattle.logic.specs.declared.Trit.{Trit}
-use Rattle.logic.specs.declared.Trit.the-variants.{Undef}
 use Rattle.logic.specs.declared.Driver.the-variants.{Constant, Output, NoNet}
 use Rattle.bitvec.specs.Bits.{bit, nat2bv}
 use Rattle.smt.specs.Prog.{curr, past}
-use Rattle.smt.specs.Builder.{net, isAlwaysInactive}
+use Rattle.smt.specs.Builder.{net}
 use Rattle.smt.specs.Builder as model
 use Rattle.nets.specs.declared.Reading.{Reading}
 use Rattle.nets.specs.declared.Reading.the-variants.{Curr, Past, Either}
@@ -80,11 +78,3 @@ unfolding reader
 reader-aged Curr table n = refl
 reader-aged Past table n = refl
 reader-aged Either table n = net-aged (pastIn table) n
-
--- A net that is no 0 and no 1 is never inactive for sure.
-pub never-inactive : (inverted : Bool) (n : ℕ) → (n ≡ 0 → ⊥) → (n ≡ 1 → ⊥) → isAlwaysInactive inverted (netOf n) ≡ false
-never-inactive inverted n no0 no1 = rw (ne-eqb n 0 no0, ne-eqb n 1 no1) (go (eqb n 536870911))
-  where
-    go : (b : Bool) → isAlwaysInactive inverted (cond b (constant Undef) (slot (n - 2))) ≡ false
-    go true = refl
-    go false = refl

@@ -1,17 +1,14 @@
--- How the code reads a net: which of its trits, by the slot table, and a control.
+-- How the code reads a net: which of its trits, by the slot table.
 use mathlib.Core.Bool.{Bool, cond}
 use mathlib.Core.List.{List}
 use Prim.Native.Nat.{ℕ, _%_}
 use lib.Dec.{eqb}
 use lib.ListN.{getD}
-use Rattle.logic.specs.Word.{kindOf, payloadOf}
-use Rattle.logic.specs.Net.{Net, constant, slot, netOf}
-use Rattle.cell.specs.Cell.{Control}
+use Rattle.logic.specs.Net.{Net, constant, slot}
 use Rattle.smt.specs.Prog.{Prog, Age, curr, past, TritVec}
 use Rattle.smt.specs.Builder.{currNet, pastNet, net}
 use Rattle.nets.specs.declared.Reading.{Reading}
 use Rattle.nets.specs.declared.Reading.the-variants.{Curr, Past, Either}
-use Rattle.nets.specs.declared.ControlNet.{ControlNet}
 
 -- A slot of a base Dff, by the word of the slot table: 1 (a Dff) + 4 × 0 (base) + 8 × the rest.
 abbrev pub pastIn : List ℕ → ℕ → Bool
@@ -32,10 +29,3 @@ abbrev pub ageBy : Reading → List ℕ → Net → Age
 ageBy Curr table n = curr
 ageBy Past table n = past
 ageBy Either table n = ageIn (pastIn table) n
-
--- The model's control, and the control of a word.
-abbrev pub controlOf : ControlNet → Control
-controlOf c = record { net = netOf (c .net .0); inverted = c .inverted }
-
-abbrev pub controlWord : ℕ → ControlNet
-controlWord word = record { net = record { 0 = payloadOf word }; inverted = eqb (kindOf word) 1 }

@@ -99,7 +99,8 @@ fn fill(table: &mut [u32], start: usize, end: usize, word: u32)
 fn cells_within(list: &[u32], base: usize, total: usize, table: &mut [u32]) -> Cells
     requires { ⌜ (base ≤ total) × (total < 2 ^ 17) ⌝ }
     ensures { λ r. ⌜ (r ≡ counted (cellsOf (now (list .entry)) base total))
-        × (now (table .exit) ≡ sets (now (table .entry)) 0 (marks base (cellsOf (now (list .entry)) base total .items))) ⌝ }
+        × (now (table .exit) ≡ sets (now (table .entry)) 0
+        (marks base (cellsOf (now (list .entry)) base total .items))) ⌝ }
 {
     let mut at: usize = 4;
     let mut slot = Slot(0);
@@ -133,7 +134,8 @@ fn cells_within(list: &[u32], base: usize, total: usize, table: &mut [u32]) -> C
 // The cells of a base and of what is added to it, with the word for each slot that they take stored in the table.
 pub fn cells_at(list: &[u32], base: u16, added: u16, table: &mut [u32]) -> Cells
     ensures { λ r. ⌜ (r ≡ counted (cellsOf (now (list .entry)) base (base + added)))
-        × (now (table .exit) ≡ sets (now (table .entry)) 0 (marks base (cellsOf (now (list .entry)) base (base + added) .items))) ⌝ }
+        × (now (table .exit) ≡ sets (now (table .entry)) 0
+        (marks base (cellsOf (now (list .entry)) base (base + added) .items))) ⌝ }
 {
     cells_within(list, base as usize, base as usize + added as usize, table)
 }

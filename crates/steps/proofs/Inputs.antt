@@ -12,9 +12,9 @@ use Rattle.order.specs.Verify.{declared, asserted, isInput, claim, addCell}
 use Rattle.builder.specs.declared.Counts.{Counts}
 use Rattle.builder.specs.declared.Built.{Built}
 use Rattle.builder.specs.Ran.{Ran}
-use Rattle.steps.specs.Did.{Did, Asserts}
+use Rattle.net_steps.specs.Did.{Did, Asserts}
 use Rattle.steps.specs.Inputs.{isInputOf}
-use Rattle.steps.proofs.Laws.{did-declared, did-asserted}
+use Rattle.net_steps.proofs.Laws.{did-declared, did-asserted}
 
 pub input-in : (w : List ℕ) (op : Operation) (at : ℕ) → isInput (cellIn w op at) ≡ isInputOf op
 input-in w O.Void at = refl

@@ -1,34 +1,19 @@
-// SmtBuilder of smt.rs from add_cell to check, and what `Design::verify` makes of a cell and of a net replacement: the steps of the order of work.
+// SmtBuilder of smt.rs: what `Design::verify` makes of a cell, and `check`: the steps of the order of work.
 use builder::Built;
 use builder::Counts;
 use cell::Operation;
-use logic::Net;
 use logic::Slot;
 ghost use mathlib.Core.Path.{_≡_};
 ghost use mathlib.Core.List.{[], _∷_};
-ghost use Prim.Native.Nat.{_+_, _<_, _≤_, _^_};
-ghost use Rattle.logic.specs.Net.{netOf};
+ghost use Prim.Native.Nat.{_+_, _<_, _≤_};
 ghost use Rattle.rules.specs.Shape.{Shaped};
 ghost use Rattle.bound.specs.Bounded.{Bounded};
 ghost use Rattle.cell_reader.specs.Parse.{cellIn};
-ghost use Rattle.order.specs.Verify.{asserted, obliged, claim, addCell, newCell, replaceNet, replaceVoidNet, replaceDffNet, joinPasts, currents, query};
+ghost use Rattle.order.specs.Verify.{asserted, obliged, claim, addCell, newCell, query};
 ghost use Rattle.builder.specs.Ran.{Ran, MakesBool};
 ghost use Rattle.nets.specs.Reads.{pastIn};
-ghost use Rattle.steps.specs.Did.{Did, Asserts, Asks};
+ghost use Rattle.net_steps.specs.Did.{Did, Asks};
 ghost use Rattle.steps.specs.Inputs.{isInputOf};
-
-// A claim asserted.
-fn assert_claim(calls: &mut [u32], claim: Built) -> Counts
-    ensures { λ r. ⌜ Asserts claim (now (calls .entry)) (now (calls .exit)) r ⌝ }
-{
-    Counts {
-        terms: claim.counts.terms,
-        temporaries: claim.counts.temporaries,
-        words: engine::assert_term(calls, claim.counts.words, claim.term),
-    }
-}
-
-// ---- cells
 
 // The outputs of a cell at its slots equal its terms.
 fn claim(
@@ -97,7 +82,7 @@ pub fn add_cell(
         return output.counts;
     }
     let equal = claim(op, fields, table, calls, names, marks, c, slot, width);
-    assert_claim(calls, equal)
+    net_steps::assert_claim(calls, equal)
 }
 
 // The obligation of a replaced cell: its outputs refine to the terms of the new cell.
@@ -121,106 +106,6 @@ pub fn new_cell(
     let terms = cell_terms::cell(op, fields, table, calls, names, marks, c, slot, width);
     let output = values::curr_value(slot, width, table, calls, names, marks, terms.counts);
     trits::tv_refines(calls, output.counts, output.value, terms.value)
-}
-
-// ---- net replacements
-
-// The obligation of a net replacement: from, taken current, refines to, as read.
-pub fn replace_net(
-    table: &[u32],
-    calls: &mut [u32],
-    names: &mut [u32],
-    marks: &mut [u8],
-    c: Counts,
-    from_net: Net,
-    to_net: Net,
-) -> Built
-    ensures { λ r. ⌜ («from_net» .0 < 2 ^ 29 → «to_net» .0 < 2 ^ 29
-        → Did (obliged (replaceNet (pastIn (now (table .entry))) (netOf («from_net» .0)) (netOf («to_net» .0))) ∷ [])
-        (now (calls .entry)) (now (names .entry)) (now (marks .entry)) c
-        (now (calls .exit)) (now (names .exit)) (now (marks .exit)) (r .counts) (r .term .0 ∷ [])) ⌝ }
-{
-    let from = nets::curr_net(calls, names, marks, c, from_net);
-    let to = nets::net(table, calls, names, marks, from.counts, to_net);
-    trits::tv_refines(calls, to.counts, from.value, to.value)
-}
-
-// A Void's net replacement asserts equality.
-pub fn replace_void_net(
-    table: &[u32],
-    calls: &mut [u32],
-    names: &mut [u32],
-    marks: &mut [u8],
-    c: Counts,
-    from_net: Net,
-    to_net: Net,
-) -> Counts
-    ensures { λ r. ⌜ («from_net» .0 < 2 ^ 29 → «to_net» .0 < 2 ^ 29
-        → Did (asserted (replaceVoidNet (pastIn (now (table .entry))) (netOf («from_net» .0)) (netOf («to_net» .0))) ∷ [])
-        (now (calls .entry)) (now (names .entry)) (now (marks .entry)) c
-        (now (calls .exit)) (now (names .exit)) (now (marks .exit)) r []) ⌝ }
-{
-    let from = nets::curr_net(calls, names, marks, c, from_net);
-    let to = nets::net(table, calls, names, marks, from.counts, to_net);
-    let equal = trits::tv_eq(calls, to.counts, from.value, to.value);
-    assert_claim(calls, equal)
-}
-
-// The past nets of two Dffs, joined by an assertion.
-fn join_pasts(
-    calls: &mut [u32],
-    names: &mut [u32],
-    marks: &mut [u8],
-    c: Counts,
-    from_net: Net,
-    to_net: Net,
-) -> Counts
-    ensures { λ r. ⌜ («from_net» .0 < 2 ^ 29 → «to_net» .0 < 2 ^ 29
-        → Did (asserted (joinPasts (netOf («from_net» .0)) (netOf («to_net» .0))) ∷ [])
-        (now (calls .entry)) (now (names .entry)) (now (marks .entry)) c
-        (now (calls .exit)) (now (names .exit)) (now (marks .exit)) r []) ⌝ }
-{
-    let from = nets::past_net(calls, names, marks, c, from_net);
-    let to = nets::past_net(calls, names, marks, from.counts, to_net);
-    let equal = trits::tv_eq(calls, to.counts, from.value, to.value);
-    assert_claim(calls, equal)
-}
-
-// The obligation of current to current.
-fn currents(
-    calls: &mut [u32],
-    names: &mut [u32],
-    marks: &mut [u8],
-    c: Counts,
-    from_net: Net,
-    to_net: Net,
-) -> Built
-    ensures { λ r. ⌜ («from_net» .0 < 2 ^ 29 → «to_net» .0 < 2 ^ 29
-        → Did (obliged (currents (netOf («from_net» .0)) (netOf («to_net» .0))) ∷ [])
-        (now (calls .entry)) (now (names .entry)) (now (marks .entry)) c
-        (now (calls .exit)) (now (names .exit)) (now (marks .exit)) (r .counts) (r .term .0 ∷ [])) ⌝ }
-{
-    let from = nets::curr_net(calls, names, marks, c, from_net);
-    let to = nets::curr_net(calls, names, marks, from.counts, to_net);
-    trits::tv_refines(calls, to.counts, from.value, to.value)
-}
-
-// Essentially a single induction step: the pasts are joined, and the currents obliged.
-pub fn replace_dff_net(
-    calls: &mut [u32],
-    names: &mut [u32],
-    marks: &mut [u8],
-    c: Counts,
-    from_net: Net,
-    to_net: Net,
-) -> Built
-    ensures { λ r. ⌜ («from_net» .0 < 2 ^ 29 → «to_net» .0 < 2 ^ 29
-        → Did (replaceDffNet (netOf («from_net» .0)) (netOf («to_net» .0)))
-        (now (calls .entry)) (now (names .entry)) (now (marks .entry)) c
-        (now (calls .exit)) (now (names .exit)) (now (marks .exit)) (r .counts) (r .term .0 ∷ [])) ⌝ }
-{
-    let joined = join_pasts(calls, names, marks, c, from_net, to_net);
-    currents(calls, names, marks, joined, from_net, to_net)
 }
 
 // The not of the and of all obligations, by the numbers of their terms.

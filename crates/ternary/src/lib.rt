@@ -28,7 +28,7 @@ pub fn mux_cell(
     let s = cells::net_at(fields, 1, table, calls, names, marks, c);
     let a = values::value(fields, 2, n, table, calls, names, marks, s.counts);
     let b = values::value(fields, 2 + n, n, table, calls, names, marks, a.counts);
-    trits::tv_mux(calls, b.counts, s.value, a.value, b.value, width)
+    gates::tv_mux(calls, b.counts, s.value, a.value, b.value, width)
 }
 
 // Cell::Adc
@@ -52,7 +52,7 @@ pub fn adc_cell(
     let a = values::value(fields, 1, n, table, calls, names, marks, c);
     let b = values::value(fields, 1 + n, n, table, calls, names, marks, a.counts);
     let carry = cells::net_at(fields, 1 + n + n, table, calls, names, marks, b.counts);
-    vectors::tv_adc(calls, carry.counts, a.value, b.value, carry.value, n)
+    adc::tv_adc(calls, carry.counts, a.value, b.value, carry.value, n)
 }
 
 // Cell::Assign
@@ -79,7 +79,7 @@ pub fn assign_cell(
     let enable = cells::net_at(fields, 3, table, calls, names, marks, c);
     let updated = values::value(&nets, 0, n, table, calls, names, marks, enable.counts);
     let value = values::value(fields, 4, n, table, calls, names, marks, updated.counts);
-    trits::tv_mux(
+    gates::tv_mux(
         calls,
         value.counts,
         enable.value,

@@ -1,5 +1,3 @@
 -- Laws of vectors made of elements, of loops and of literals, for the proofs of this crate and of those that use it.
 pub mod Tables
 pub mod Concat
-pub mod Loops
-pub mod Literals

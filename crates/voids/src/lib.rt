@@ -8,7 +8,8 @@ use logic::Slot;
 ghost use mathlib.Core.Path.{_≡_};
 ghost use Prim.Native.Nat.{_+_, _-_, _<_, _^_};
 ghost use Rattle.voids.specs.Marks.{isVoidIn};
-ghost use Rattle.voids.specs.Voids.{namesVoid, offends, voidAt, clockAt, recordVoidsAt, replacementVoidsAt, pairVoidsAt, itemVoidsAt, voidsAt};
+ghost use Rattle.voids.specs.Voids.{namesVoid, offends, voidAt, clockAt, recordVoidsAt, replacementVoidsAt};
+ghost use Rattle.voids.specs.Voids.{pairVoidsAt, itemVoidsAt, voidsAt};
 ghost use Rattle.fields.specs.Field.{scanMany};
 
 // The three kinds of items after the header.
@@ -146,7 +147,8 @@ fn items_voids_at(
     k: usize,
     start: usize,
 ) -> Scan
-    ensures { λ r. ⌜ r ≡ scanMany (itemVoidsAt (now (list .entry)) (isVoidIn (now (table .entry)) base) item) k start ⌝ }
+    ensures { λ r. ⌜ r ≡ scanMany (itemVoidsAt (now (list .entry)) (isVoidIn (now (table .entry)) base) item)
+        k start ⌝ }
 {
     let mut at = start;
     let mut left = k;

@@ -1,18 +1,16 @@
 -- Where the walk stands among the cells of an accepted list: the cells that are left and the cell replacements that are left, which are those at or
 -- above the slot (they ascend, and each heads a base cell). A turn takes one cell, and with it the next replacement if that is the cell's.
 use mathlib.Core.Path.{_≡_, refl, sym, _∙_}
-use mathlib.Core.Bool.{Bool, true, false, cond, false≢true}
+use mathlib.Core.Bool.{true}
 use mathlib.Core.List.{List, [], _∷_, _++_}
-use Prim.Native.Nat.{ℕ, _+_, _-_, _≤_, _<_, max}
+use Prim.Native.Nat.{ℕ, _+_, _≤_, _<_, max}
 use native.Mathlib.Omega.{arith}
 use native.Mathlib.Decide.{ℕ-discrete}
-use borrow.Author.Tests.{eq-eqb, ne-eqb, lt-ltb, le-ltb, ltb-true}
-use lib.Dec.{eqb, ltb}
-use lib.ListN.{length, take, drop}
+use borrow.Author.Tests.{eq-eqb, ne-eqb, lt-ltb, le-ltb}
 use Rattle.cell.specs.Cell.{Cell, outputLen, slotsOf}
 use Rattle.cell.specs.Design.{Design, Placed, total}
 use Rattle.cell.specs.declared.Operation.{Operation}
-use Rattle.cell_reader.specs.Parse.{numberIn, opAt, cellIn, cellAt, endAt}
+use Rattle.cell_reader.specs.Parse.{numberIn, cellAt, endAt}
 use Rattle.cell_reader.specs.Accepted.{IsRecord}
 use Rattle.placing.specs.Slots.{heads}
 use Rattle.items.specs.Items.{newCell}
@@ -26,30 +24,17 @@ use Rattle.accepted.specs.Cells.{cell-read}
 use Rattle.accepted.specs.Replacements.{Climb, climb-ascends, IsReplacement}
 use Rattle.accepted.specs.Replacements as R
 use Rattle.accepted.specs.Laid.{stages, accepted-laid}
-use Rattle.operands.proofs.Part.{part-all, cell-in}
 use Rattle.nets.specs.Reads.{pastIn}
 use Rattle.order.specs.Verify.{eachCell, newCellIn}
 use Rattle.order.proofs.Replacements.{Heads, none-below, above, later}
 use Rattle.slots.specs.Tells.{widthIn, Tells}
 use Rattle.slots.proofs.Laws.{tells-past}
-use Rattle.walk.specs.Cursor.{isNext, newAt, repAfter, stepsAt, Readable}
+use Rattle.walk_cell.specs.Cursor.{isNext, newAt, repAfter, stepsAt, Readable}
+use Rattle.walk_cell.proofs.Cells.{next-inside}
 
 -- The cell replacements from a place up to `end`, the slots of their cells from `least` on.
 abbrev pub NewCells : Design → List ℕ → ℕ → ℕ → List Placed → ℕ → Type 0
 NewCells d w = Climb (IsReplacement w (total d) (heads (d .cells) (d .base))) (newCell w)
-
--- The next replacement stands before the end of them.
-pub next-inside : (w : List ℕ) (end rep slot : ℕ) → isNext w end rep slot ≡ true → rep < end
-next-inside w end rep slot = go (ltb rep end) refl
-  where
-    go : (b : Bool) → ltb rep end ≡ b → cond b (eqb (numberIn w rep) slot) false ≡ true → rep < end
-    go true inside e = ltb-true rep end inside
-    go false inside e = absurd (false≢true e)
-
--- The cell of a record is that of the part of the list after its head.
-pub fields-in : (w : List ℕ) (at : ℕ) {op : Operation} → op ≡ opAt w at → cellIn (take (length w - (at + 1)) (drop (at + 1) w)) op 0 ≡ cellAt w at
-unfolding cellAt
-fields-in w at same = rw (part-all w (at + 1), same) (cell-in w (at + 1) (opAt w at))
 
 -- The replacements from a place on are all that are left for the cells from a slot on: each heads one of them.
 pub record Cursor (d : Design) (w : List ℕ) (end : ℕ) (cells : List Placed) (slot rep : ℕ) : Type 0 where

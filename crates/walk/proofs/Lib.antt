@@ -1,5 +1,4 @@
 -- Laws of the walk, for the proofs of this crate and of those that use it.
-pub mod Steps
 pub mod Cells
 pub mod Room
 pub mod Along

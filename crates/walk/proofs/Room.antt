@@ -26,9 +26,9 @@ use Rattle.accepted.specs.Replacements.{climb-read, IsPair, pair-read}
 use Rattle.accepted.specs.Laid.{accepted-laid}
 use Rattle.order.specs.Verify.{Step, addCell, withNew, cellSteps, pairSteps, eachCell, eachPair, steps, newCellIn}
 use Rattle.net_pairs.specs.Does.{obligedIn, Kept}
-use Rattle.walk.specs.Cursor.{stepsAt}
+use Rattle.walk_cell.specs.Cursor.{stepsAt}
 use Rattle.net_pairs.proofs.Does.{obliged-append}
-use Rattle.walk.proofs.Steps.{added-none}
+use Rattle.walk_cell.proofs.Steps.{added-none}
 
 -- ---- how many obligations
 

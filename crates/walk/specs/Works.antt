@@ -6,7 +6,7 @@ use lib.ListN.{length, take}
 use Rattle.cell.specs.Design.{Design}
 use Rattle.builder.specs.declared.Counts.{Counts}
 use Rattle.order.specs.Verify.{steps}
-use Rattle.steps.specs.Did.{Did}
+use Rattle.net_steps.specs.Did.{Did}
 use Rattle.net_pairs.specs.declared.Walked.{Walked}
 
 -- With room for 12,288 obligations, which are all that an accepted list has, their terms are the first words of the

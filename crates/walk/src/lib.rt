@@ -1,175 +1,17 @@
-// `Design::verify` of design.rs: the order of work of an accepted list, as one walk over its words, cells first and then net replacements.
+// `Design::verify` of design.rs: the order of work of an accepted list, as one walk over its words, cells first and then
+// net replacements.
 use builder::Counts;
-use cell::Decoded;
-use cell::Operation;
 use logic::Slot;
 use net_pairs::Walked;
 ghost use mathlib.Core.Path.{_≡_};
-ghost use mathlib.Core.Bool.{true};
-ghost use mathlib.Core.List.{List, [], _∷_};
-ghost use Prim.Native.Nat.{ℕ, _+_, _≤_, _<_, max};
+ghost use Prim.Native.Nat.{_<_, max};
 ghost use lib.ListN.{length};
 ghost use Rattle.cell.specs.Design.{Design, total};
-ghost use Rattle.cell_reader.specs.Parse.{opAt, endAt, cellAt};
 ghost use Rattle.design_list.specs.Read.{read, accepted};
-ghost use Rattle.order.specs.Verify.{obliged, addCell, newCell, eachCell};
-ghost use Rattle.nets.specs.Reads.{pastIn};
+ghost use Rattle.order.specs.Verify.{eachCell};
 ghost use Rattle.slots.specs.Tells.{widthIn, Tells};
 ghost use Rattle.net_pairs.specs.Does.{Does};
 ghost use Rattle.walk.specs.Works.{Works};
-ghost use Rattle.walk.specs.Cursor.{isNext, newAt, repAfter, stepsAt, Readable};
-
-// The operation of the record at a place; a Note's where its head names none.
-fn op_at(list: &[u32], at: usize) -> Operation
-    ensures { λ r. ⌜ r ≡ opAt (now (list .entry)) at ⌝ }
-{
-    match cell::operation_of(logic::payload(logic::word_at(list, at)) % 32) {
-        Decoded::Unknown => Operation::Note,
-        Decoded::Known(op) => op,
-    }
-}
-
-// The place after the record at a place in the list.
-fn next_at(list: &[u32], at: usize) -> usize
-    ensures { λ r. ⌜ (at < length (now (list .entry)) → r ≡ endAt (now (list .entry)) at) ⌝ }
-{
-    if at < list.len() {
-        return at + 1 + (logic::payload(logic::word_at(list, at)) / 32) as usize;
-    }
-    at
-}
-
-// `changes.replaced_cells.get(&index)`: whether the next cell replacement is that of a slot.
-fn is_next(list: &[u32], end: usize, rep: usize, slot: Slot) -> bool
-    ensures { λ r. ⌜ r ≡ isNext (now (list .entry)) end rep (slot .0) ⌝ }
-{
-    if rep < end {
-        return logic::payload(logic::word_at(list, rep)) == slot.0;
-    }
-    false
-}
-
-// The place of the next cell replacement, after the cell at a slot.
-fn rep_after(list: &[u32], end: usize, rep: usize, slot: Slot) -> usize
-    ensures { λ r. ⌜ ((isNext (now (list .entry)) end rep (slot .0) ≡ true → Readable (now (list .entry)) (rep + 1))
-        → r ≡ repAfter (now (list .entry)) end rep (slot .0)) ⌝ }
-{
-    if is_next(list, end, rep, slot) {
-        return next_at(list, rep + 1);
-    }
-    rep
-}
-
-// `smt.add_cell` of the record at a place.
-fn add_at(
-    list: &[u32],
-    at: usize,
-    table: &[u32],
-    calls: &mut [u32],
-    names: &mut [u32],
-    marks: &mut [u8],
-    s: Walked,
-    slot: Slot,
-    width: u32,
-) -> Walked
-    ensures { λ r. ⌜ ((eqs : List ℕ) → Readable (now (list .entry)) at → width ≤ 64 → slot .0 + width + 1 < 536870911
-        → Does (addCell (pastIn (now (table .entry))) (slot .0) width (cellAt (now (list .entry)) at) ∷ [])
-        (now (calls .entry)) (now (names .entry)) (now (marks .entry)) eqs s
-        (now (calls .exit)) (now (names .exit)) (now (marks .exit)) eqs r) ⌝ }
-{
-    let op = op_at(list, at);
-    if at < list.len() {
-        let first = at + 1;
-        let fields = &list[first..];
-        let counts = steps::add_cell(
-            op,
-            fields,
-            table,
-            calls,
-            names,
-            marks,
-            s.counts,
-            slot,
-            width,
-        );
-        return Walked {
-            counts,
-            obligations: s.obligations,
-        };
-    }
-    s
-}
-
-// The obligation of `smt.replace_cell`, its new cell that of the record at a place.
-fn new_at(
-    list: &[u32],
-    at: usize,
-    table: &[u32],
-    calls: &mut [u32],
-    names: &mut [u32],
-    marks: &mut [u8],
-    eqs: &mut [u32],
-    s: Walked,
-    slot: Slot,
-    width: u32,
-) -> Walked
-    ensures { λ r. ⌜ (Readable (now (list .entry)) at → width ≤ 64 → slot .0 + width + 1 < 536870911
-        → Does (obliged (newCell (pastIn (now (table .entry))) (slot .0) width (cellAt (now (list .entry)) at)) ∷ [])
-        (now (calls .entry)) (now (names .entry)) (now (marks .entry)) (now (eqs .entry)) s
-        (now (calls .exit)) (now (names .exit)) (now (marks .exit)) (now (eqs .exit)) r) ⌝ }
-{
-    let op = op_at(list, at);
-    if at < list.len() {
-        let first = at + 1;
-        let fields = &list[first..];
-        let eq = steps::new_cell(
-            op,
-            fields,
-            table,
-            calls,
-            names,
-            marks,
-            s.counts,
-            slot,
-            width,
-        );
-        return net_pairs::push(eqs, s.obligations, eq);
-    }
-    s
-}
-
-// A cell at a slot: `smt.add_cell`, or `smt.replace_cell` where the next replacement is its; one of output width 0 is skipped.
-fn verify_cell(
-    list: &[u32],
-    end: usize,
-    at: usize,
-    rep: usize,
-    table: &[u32],
-    calls: &mut [u32],
-    names: &mut [u32],
-    marks: &mut [u8],
-    eqs: &mut [u32],
-    s: Walked,
-    slot: Slot,
-) -> Walked
-    ensures { λ r. ⌜ (Readable (now (list .entry)) at → (isNext (now (list .entry)) end rep (slot .0) ≡ true
-        → Readable (now (list .entry)) (rep + 1))
-        → widthIn (now (table .entry)) (slot .0) ≤ 64 → slot .0 + widthIn (now (table .entry)) (slot .0) + 1 < 536870911
-        → Does (stepsAt (pastIn (now (table .entry))) (slot .0) (widthIn (now (table .entry)) (slot .0)) (cellAt (now (list .entry)) at) (newAt (now (list .entry)) end rep (slot .0)))
-        (now (calls .entry)) (now (names .entry)) (now (marks .entry)) (now (eqs .entry)) s
-        (now (calls .exit)) (now (names .exit)) (now (marks .exit)) (now (eqs .exit)) r) ⌝ }
-{
-    let width = slots::width_at(table, slot);
-    if width == 0 {
-        return s;
-    }
-    let old = add_at(list, at, table, calls, names, marks, s, slot, width);
-    if is_next(list, end, rep, slot) {
-        let new = rep + 1;
-        return new_at(list, new, table, calls, names, marks, eqs, old, slot, width);
-    }
-    old
-}
 
 // The slots that the cell at a slot takes.
 fn slots_at(table: &[u32], slot: Slot) -> u32
@@ -179,7 +21,8 @@ fn slots_at(table: &[u32], slot: Slot) -> u32
     if width < 1 { 1 } else { width }
 }
 
-// Every cell in slot order, and with it the next cell replacement where it is the cell's; the replacements end where the net replacements begin.
+// Every cell in slot order, and with it the next cell replacement where it is the cell's; the replacements end where the
+// net replacements begin.
 fn verify_cells(
     list: &[u32],
     replacements: usize,
@@ -202,15 +45,16 @@ fn verify_cells(
     let mut index: usize = 0;
     while index < table.len() {
         let slot = Slot((index % 4294967296) as u32);
-        s = verify_cell(list, end, at, rep, table, calls, names, marks, eqs, s, slot);
-        at = next_at(list, at);
-        rep = rep_after(list, end, rep, slot);
+        s = walk_cell::verify_cell(list, end, at, rep, table, calls, names, marks, eqs, s, slot);
+        at = walk_cell::next_at(list, at);
+        rep = walk_cell::rep_after(list, end, rep, slot);
         index += slots_at(table, slot) as usize;
     }
     s
 }
 
-// The loops of `Design::verify`: the calls of every cell in slot order, then of the net replacements; the terms of the obligations stand in a lent table.
+// The loops of `Design::verify`: the calls of every cell in slot order, then of the net replacements; the terms of the
+// obligations stand in a lent table.
 pub fn work(
     list: &[u32],
     replacements: usize,

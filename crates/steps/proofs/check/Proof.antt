@@ -1,7 +1,7 @@
 -- `steps::check` meets its contract: with no obligation nothing is written; else the query, its assertion and the check. Assumes nothing.
 use mathlib.Core.Path.{refl}
 use borrow.Author.Needs.{needs}
-use Rattle.steps.proofs.Laws.{asks-nothing, asks-query}
+use Rattle.net_steps.proofs.Laws.{asks-nothing, asks-query}
 use Rattle.steps.proofs.check.Statement.{statement}
 use Rattle.steps.proofs.check.Tie as tie
 

@@ -2,7 +2,7 @@
 use borrow.Author.Needs.{needs}
 use Rattle.builder.proofs.Laws.{ran-bind}
 use Rattle.order.specs.Verify.{newCell}
-use Rattle.steps.proofs.Laws.{did-obliged}
+use Rattle.net_steps.proofs.Laws.{did-obliged}
 use Rattle.steps.proofs.new_cell.Statement.{statement}
 use Rattle.steps.proofs.new_cell.Tie as tie
 

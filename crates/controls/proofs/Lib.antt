@@ -1,0 +1,2 @@
+-- Laws of controls.
+pub mod Laws

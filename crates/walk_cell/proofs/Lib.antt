@@ -1,0 +1,3 @@
+-- Laws of what is made of one cell.
+pub mod Steps
+pub mod Cells
