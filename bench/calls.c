@@ -99,7 +99,7 @@ struct row { double check, evaluate, write; size_t words; };
 static struct row measure(const char *shape, size_t (*make)(uint32_t *, size_t), size_t words, struct row before) {
     uint32_t *calls = room(words * sizeof *calls);
     size_t n = make(calls, words), text_bytes;
-    struct tables t = {room(n * 4), room(n), room(n), n, n};
+    struct tables t = {room(n * 4), room(n), room(n * 9 / 8 * 9), n, n * 9 / 8 * 9};
     uint64_t sizes[2], packed;
     struct row row = {0, 0, 0, n};
     BEST(row.check, if (VM_NUMBER(packed = check(calls, n, &t, sizes))) fail("check", packed));

@@ -1,45 +1,108 @@
-/* The C interface of Virginalmimas. Link libvirginalmimas.a, which `rt staticlib virginalmimas` writes. There is no heap: tables are on
-   the stack, so a thread that calls vm_evaluate or vm_script needs 2 MB of it, and one that calls vm_verify or
-   vm_counts 192 KB. */
+/* The C interface of Virginalmimas, a verified netlist checker. Link libvirginalmimas.a, which `rt staticlib virginalmimas` writes.
+
+   Every entry takes any words, bytes and lengths and returns; none trusts its caller's checks. Its answer is one number: bits 63 to 48 are the
+   number of the first fault (VM_NUMBER; 0: none), bits 47 to 0 its place, or what the entry says (VM_VALUE). A fault leaves every lent slice as it
+   was; success changes nothing past what it writes. Faults 14 and 15 tell the room to allocate as their place.
+
+   A slice of length 0 may have a null pointer. Slices that an entry writes must not overlap with any other of the call. There is no heap, no
+   state between calls and no lock: threads may call at the same time on slices of their own. Tables are on the stack; how much each entry
+   needs is said at VM_STACK. */
 #ifndef VIRGINALMIMAS_H
 #define VIRGINALMIMAS_H
 
 #include <stddef.h>
 #include <stdint.h>
 
-/* Reads a design list of len words, which may hold anything. Bits 63 to 48 of the answer are the number of the
-   list's first fault (0: accepted), bits 47 to 0 its place (accepted: the number of slots, base + added). The words
-   keep their values. */
+#define VM_VERSION 1
+
+/* The parts of an answer. */
+#define VM_NUMBER(answer) ((uint64_t)(answer) >> 48)
+#define VM_VALUE(answer) ((uint64_t)(answer) & 0xFFFFFFFFFFFFu)
+/* Of vm_verify and vm_counts, without a fault: whether anything is asked, and the number of call words. */
+#define VM_ASKED(answer) ((uint64_t)(answer) >> 47 & 1)
+#define VM_WORDS(answer) ((uint64_t)(answer) & 0x7FFFFFFFFFFFu)
+
+/* Faults. */
+#define VM_LIST_ENDS 1        /* the list ends early, or words remain */
+#define VM_WRONG_KIND 2       /* a word of the wrong kind; a mark above 2, or whose names the calls do not declare */
+#define VM_NO_OPERATION 3
+#define VM_ABOVE_BOUND 4
+#define VM_COUNT_DIFFERS 5    /* a record's fields differ from its head's count */
+#define VM_NO_SLOT 6
+#define VM_NO_WIDTH 7
+#define VM_NO_CONSTANT 8
+#define VM_OFFSET_BEYOND 9
+#define VM_READS_VOID 10
+#define VM_CROSSES_END 11
+#define VM_BAD_REPLACEMENT 12
+#define VM_NOT_ASCENDING 13
+#define VM_ROOM_FOR_WORDS 14  /* the place is the room needed, in words or marks */
+#define VM_ROOM_FOR_TEXT 15   /* the place is the room needed, in bytes or trits */
+#define VM_UNREADABLE 16
+#define VM_OTHER_NAME 17
+#define VM_UNKNOWN 18         /* the solver said unknown */
+#define VM_MALFORMED 19       /* a malformed call list */
+#define VM_BITS 20            /* bits or values too short, or bits above a width */
+
+/* Kinds of words: the top three bits. */
+#define VM_KIND_NET 0u
+#define VM_KIND_INVERTED 1u
+#define VM_KIND_HEAD 2u
+#define VM_KIND_NUMBER 3u
+#define VM_KIND_TERM 4u
+
+/* Trits and marks. */
+#define VM_ZERO 0
+#define VM_ONE 1
+#define VM_X 2
+#define VM_NOT_RECORDED 3
+#define VM_MARK_NONE 0
+#define VM_MARK_NOW 1         /* the n names */
+#define VM_MARK_PAST 2        /* the p names */
+
+#ifdef __cplusplus
+extern "C" {
+#endif
+
+/* Reads a design list of len words: the number of slots, base + added. */
 uint64_t vm_read(const uint32_t *list, size_t len);
 
-/* Verifies a design list of len words, which may hold anything: the words of its calls go into calls, which has room
-   for c, and the marks of its slots (1 or 2 for a recorded one, 0 otherwise) into recorded, which has room for r.
-   Bits 63 to 48 of the answer are the number of the first fault (0: none), and bits 47 to 0 its place. Without a
-   fault bits 46 to 0 are the number of call words, and bit 47 is set where something is asked; where it is not,
-   there is no check among the calls, and no solver is needed. A slice too short is fault 14 at the room needed, the
-   call words before the slots. On a fault both slices keep what they hold; without one, they keep what lies past the
-   call words and past the slots. */
+/* Verifies a design list of len words: the words of its calls go into calls, which has room for c, and a mark for each slot into recorded, which
+   has room for r. VM_WORDS is the number of call words. VM_ASKED is 1 where something is asked; where it is 0 there is no check among the calls,
+   a solver has nothing to answer, and nothing is proved. A slice too short is 14 at the room needed, the call words before the slots. */
 uint64_t vm_verify(const uint32_t *list, size_t len, uint32_t *calls, size_t c, uint8_t *recorded, size_t r);
 
-/* What vm_verify would answer for a list of len words if its slices had room enough. The numbers of terms,
-   temporaries and call words go into counts[0], counts[1] and counts[2]. Room c for less than 3 is fault 14 at 3,
-   after the list's own faults. On a fault counts keeps its numbers. */
+/* What vm_verify would answer if its slices had room enough. The numbers of terms, temporaries and call words go into counts[0] to counts[2]; room
+   for less than 3 is 14 at 3, after the list's own faults. */
 uint64_t vm_counts(const uint32_t *list, size_t len, uint64_t *counts, size_t c);
 
-/* Evaluates a call list of n words, which may hold anything, under m numbers: the bits of its declared names, in the
-   order of their declarations. The number of every term goes into values, which has room for v. Bits 63 to 48 of the
-   answer are the number of the first fault (0: none), bits 47 to 0 its place, or the number of assertions that are
-   false. On a fault values keeps its numbers. */
+/* Checks a call list of n words: 19 at its place, or the number of its terms. The numbers of terms and of declared names, by which values and bits
+   are allocated, go into sizes[0] and sizes[1]; room for less than 2 is 14 at 2. */
+uint64_t vm_check(const uint32_t *calls, size_t n, uint64_t *sizes, size_t s);
+
+/* Evaluates a call list of n words under m numbers: the bits of its declared names, in the order of their declarations. The number of every term
+   goes into values, which has room for v. The value is the number of false assertions, the query among them. */
 uint64_t vm_evaluate(const uint32_t *calls, size_t n, const uint64_t *bits, size_t m, uint64_t *values, size_t v);
 
-/* Writes the script of a call list of n words and its r recorded marks into a text of t bytes. Bits 63 to 48 of the
-   answer are the number of the first fault (0: none), bits 47 to 0 its place, or the number of bytes written. On a
-   fault the text keeps its bytes. */
+/* Writes the script of a call list of n words and its r recorded marks into a text of t bytes: the number of bytes. */
 uint64_t vm_script(const uint32_t *calls, size_t n, const uint8_t *recorded, size_t r, uint8_t *text, size_t t);
 
-/* Reads a solver's answer of t bytes against r recorded marks into a table of s entries: 0, 1, 2 (X) or 3 (not
-   recorded) per mark. Bits 63 to 48 of the answer are the number of the first fault (0: none), bits 47 to 0 its
-   place, or 0 for unsat and 1 for sat. The table is written only after sat. */
+/* Reads a solver's answer of t bytes against r recorded marks into a table of s entries: a trit or VM_NOT_RECORDED per mark, written only after
+   sat. The value is 0 for unsat and 1 for sat. */
 uint64_t vm_answer(const uint8_t *text, size_t t, const uint8_t *recorded, size_t r, uint8_t *trits, size_t s);
+
+/* The same for long call lists, with tables lent by the caller: the places of the records of terms, their sorts, and the declared names. The answers
+   are the same for every length of the tables. Time grows with the calls as long as places and sorts have an entry for each term and names have
+   9 bytes for each index of a name; past a table a record is looked for. What the tables hold afterwards is free. The entries without tables
+   have their own, for lists of 16,384 words. */
+uint64_t vm_check_with(const uint32_t *calls, size_t n, uint64_t *sizes, size_t s, uint8_t *sorts, size_t terms, uint8_t *names, size_t bytes);
+uint64_t vm_evaluate_with(const uint32_t *calls, size_t n, const uint64_t *bits, size_t m, uint64_t *values, size_t v,
+                          uint8_t *sorts, size_t terms, uint8_t *names, size_t bytes);
+uint64_t vm_script_with(const uint32_t *calls, size_t n, const uint8_t *recorded, size_t r, uint8_t *text, size_t t,
+                        uint32_t *places, size_t records, uint8_t *sorts, size_t terms, uint8_t *names, size_t bytes);
+
+#ifdef __cplusplus
+}
+#endif
 
 #endif
