@@ -300,8 +300,8 @@ def evaluated_here():
 
 
 def past_tables():
-    """Names about index 4,095, the last that the checker's own table of names has, declared again or not."""
-    for a, b in ((4095, 4095), (4096, 4096), (4095, 4096), (4096, 4095)):
+    """Names about index 7,167, the last that the checker's own table of names has, declared again or not."""
+    for a, b in ((7167, 7167), (7168, 7168), (7167, 7168), (7168, 7167)):
         for letter, suffix in ((0, 0), (0, 1), (2, 2)):
             yield declare(letter, a, suffix, 4) + declare(letter, b, suffix, 4)
 

@@ -221,6 +221,6 @@ pub fn check(calls: &[u32]) -> CallList
 {
     let mut places = [0u32; 1];
     let mut sorts = [0u8; 57344];
-    let mut names = [0u8; 36864];
+    let mut names = [0u8; 64512];
     check_records(calls, &mut places, &mut sorts, &mut names)
 }

@@ -206,6 +206,6 @@ pub fn evaluate(calls: &[u32], bits: &[u64], values: &mut [u64]) -> Evaluation
         × (now (values .exit) ≡ written r (now (calls .entry)) (now (bits .entry)) (now (values .entry))) ⌝ }
 {
     let mut sorts = [0u8; 57344];
-    let mut names = [0u8; 36864];
+    let mut names = [0u8; 64512];
     evaluate_with(calls, bits, values, &mut sorts, &mut names)
 }

@@ -257,7 +257,7 @@ pub fn write_script(calls: &[u32], recorded: &[u8], text: &mut [u8]) -> Written
     ensures { λ r. ⌜ Scripted (now (calls .entry)) (now (recorded .entry)) (now (text .entry)) (now (text .exit)) r (written (now (calls .entry)) (now (recorded .entry)) (length (now (text .entry)))) ⌝ }
 {
     let mut places = [0u32; 8192];
-    let mut sorts = [0u8; 57344];
+    let mut sorts = [0u8; 53248];
     let mut names = [0u8; 36864];
     write_script_with(calls, recorded, text, &mut places, &mut sorts, &mut names)
 }

@@ -14,7 +14,7 @@ slice-aggregate-check-records-3 : tie.Need-slice-aggregate-check-records-3
 slice-aggregate-check-records-3 c = search needs
 
 check-records-requires : tie.Need-check-records-requires
-check-records-requires c κs = λ k. zeros-all 36864 k
+check-records-requires c κs = λ k. zeros-all 64512 k
 
 returns : tie.Need-returns
 returns c = search needs
