@@ -1,12 +1,12 @@
 -- The check, record by record: what holds between two records, and what the answer is where it ends.
 use Rattle.checker.specs.declared.Wrong.the-variants.{None, At}
 use mathlib.Core.Path.{_≡_, refl, sym, ap, ap₂, _∙_, subst}
-use mathlib.Core.Bool.{Bool, true, false}
+use mathlib.Core.Bool.{Bool, true, false, _&&_}
 use mathlib.Core.List.{List}
 use mathlib.Core.Option.{Option, some, none}
 use Prim.Native.Nat.{ℕ, zero, suc, _+_, _-_, _≤_, _<_}
 use native.Mathlib.Omega.{arith}
-use lib.ListN.{length, getD, replicate}
+use lib.ListN.{length, getD, set, length-set, replicate}
 use Rattle.bitvec.specs.Bits.{bit}
 use Rattle.engine.specs.Call.{Call}
 use Rattle.engine.specs.Call as c
@@ -22,8 +22,11 @@ use Rattle.checker.specs.declared.Seen.{Seen}
 use Rattle.term_table.specs.Tables.{noteSort, notePlace}
 use Rattle.term_table.specs.Sorted.{ReadTo, read-start, sorts-more}
 use Rattle.term_table.specs.Placed.{Placed, placed-start, placed-more}
-use Rattle.name_table.specs.Names.{noteName}
-use Rattle.name_table.specs.Named.{NamesTo, names-none, names-next}
+use Rattle.name_table.specs.Names.{topOf, noteName, noteTop}
+use Rattle.name_table.specs.Named.{NamesTo, TopsTo, names-none, names-next, tops-none, tops-next}
+use Rattle.term_table.specs.Tables.{pickList}
+use Rattle.call_list.specs.Literal.{payloads}
+use lib.Dec.{ltb}
 use Rattle.checker.specs.Tables.{checkedAs, isCheck, seenNext, faultBy, wrongAs}
 use Rattle.checker.specs.TableLaws.{fault-none, fault-some}
 
@@ -39,12 +42,14 @@ pub record Checked (w places sorts names : List ℕ) (answer : CallList) : Type 
   pub tabled : (y : Context) → outcome w ≡ wellFormed y → Tables w places sorts names y
 
 -- Between two records: what the calls so far leave, as the tables and counts have it, and what remains to be read.
-pub record Checking (w places table names : List ℕ) (s : Seen) : Type 0 where
+pub record Checking (w places table names tops : List ℕ) (s : Seen) : Type 0 where
   pub context : Context
   pub fuel : ℕ
   pub read : ReadTo w (s .at) context table (s .terms)
   pub placed : Placed w places (s .terms)
   pub named : NamesTo names (context .names)
+  pub topped : TopsTo tops (context .names)
+  pub nine : 9 ≤ length tops
   pub declared : s .declared ≡ length (context .names)
   pub checked : s .checked ≡ context .checked
   pub enough : length w - s .at ≤ fuel
@@ -55,13 +60,16 @@ pub record Checking (w places table names : List ℕ) (s : Seen) : Type 0 where
 abbrev pub nothingSeen : Seen
 nothingSeen = record { at = 0; terms = 0; declared = 0; checked = false }
 
-pub checking-start : (w places table names : List ℕ) → ((k : ℕ) → getD names k 0 ≡ 0) → Checking w places table names nothingSeen
-checking-start w places table names zeros = record {
+pub checking-start : (w places table names tops : List ℕ) → ((k : ℕ) → getD names k 0 ≡ 0) → 9 ≤ length tops
+    → Checking w places table names tops nothingSeen
+checking-start w places table names tops zeros nine = record {
   context = start;
   fuel = length w;
   read = read-start w table;
   placed = placed-start w places;
   named = names-none names zeros;
+  topped = tops-none tops;
+  nine = nine;
   declared = refl;
   checked = refl;
   enough = omega arith;
@@ -99,7 +107,11 @@ pub bit-low : (b : Bool) → bit b ≤ 1
 bit-low true = omega arith
 bit-low false = omega arith
 
-module _ {w places table names : List ℕ} {s : Seen} (k : Checking w places table names s) (inside : s .at < length w) where
+top-length : (b : Bool) (tops : List ℕ) (i v : ℕ) → 9 ≤ length tops → 9 ≤ length (pickList b (set tops i v) tops)
+top-length true tops i v h = rw (length-set tops i v) h
+top-length false tops i v h = h
+
+module _ {w places table names tops : List ℕ} {s : Seen} (k : Checking w places table names tops s) (inside : s .at < length w) where
   some-fuel : {P : Type 0} → ((n : ℕ) → k .fuel ≡ suc n → P) → P
   some-fuel f = go (k .fuel) (k .enough) f
     where
@@ -118,24 +130,26 @@ module _ {w places table names : List ℕ} {s : Seen} (k : Checking w places tab
     unchecked : k .context .checked ≡ false
     unchecked = sym (k .checked) ∙ open-list
 
-    pub record-wrong : (p : ℕ) → faultBy table names w (s .terms) (s .at) ≡ some p → Malformed p ≡ checkedAs (outcome w)
+    pub record-wrong : (p : ℕ) → faultBy table names tops w (s .terms) (s .at) ≡ some p → Malformed p ≡ checkedAs (outcome w)
     record-wrong p e =
         some-fuel (λ n f.
         sym (ap checkedAs (k .rest ∙ ap (λ (m : ℕ). readFrom m w (s .at) (k .context)) f
-        ∙ fault-some (k .read) names (k .named) inside unchecked p n e)))
+        ∙ fault-some (k .read) names tops (k .named) (k .topped) inside unchecked p n e)))
 
-    pub record-right : faultBy table names w (s .terms) (s .at) ≡ none
+    pub record-right : faultBy table names tops w (s .terms) (s .at) ≡ none
         → Checking w (notePlace places w (s .at) (s .terms)) (noteSort table w (s .at) (s .terms)) (noteName names w (s .at))
-        (seenNext w s)
+        (noteTop tops w (s .at)) (seenNext w s)
     record-right e =
         some-fuel (λ n f.
-        let right = fault-none (k .read) names (k .named) inside unchecked e in
+        let right = fault-none (k .read) names tops (k .named) (k .topped) inside unchecked e in
         record {
           context = after (k .context) (callAt w (s .at));
           fuel = n;
           read = sorts-more (k .read) right;
           placed = placed-more (k .read) right places (k .placed);
           named = names-next names w (s .at) (k .context) right (k .named);
+          topped = tops-next tops w (s .at) (k .context) right (k .nine) (k .topped);
+          nine = top-length (isDeclare (operationAt w (s .at)) && ltb (topOf tops (payloads w (s .at) 0) (payloads w (s .at) 2)) (payloads w (s .at) 1 + 1)) tops _ _ (k .nine);
           declared =
               ap₂ _+_ (k .declared) (ap bit (sym (declares-of (operationAt w (s .at)) (countAt w (s .at)) _)))
               ∙ sym (names-grow (k .context) (callAt w (s .at)));
@@ -149,9 +163,9 @@ module _ {w places table names : List ℕ} {s : Seen} (k : Checking w places tab
         })
 
 -- At the end.
-pub checked-end : {w places table names : List ℕ} {s : Seen} → Checking w places table names s → length w ≤ s .at
+pub checked-end : {w places table names tops : List ℕ} {s : Seen} → Checking w places table names tops s → length w ≤ s .at
     → Checked w places table names (WellFormed (s .terms) (s .declared))
-checked-end {w} {places} {table} {names} {s} k end =
+checked-end {w} {places} {table} {names} {tops} {s} k end =
     let all : outcome w ≡ wellFormed (k .context) = k .rest ∙ read-end (k .fuel) w (s .at) (k .context) end in
     record {
       is = rw all (ap₂ WellFormed (k .read .counts) (k .declared));

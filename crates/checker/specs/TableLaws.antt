@@ -18,7 +18,7 @@ use Rattle.engine.specs.Steps.{read-head, read-wrong}
 use Rattle.engine.specs.declared.Argument.{Argument}
 use Rattle.call_list.specs.Operations.{isDeclare, declares-of}
 use Rattle.term_table.specs.Sorted.{ReadTo, term-sort-is}
-use Rattle.name_table.specs.Named.{NamesTo, known-is}
+use Rattle.name_table.specs.Named.{NamesTo, TopsTo, known-is}
 use Rattle.checker.specs.Tables.{wordSort, standsBy, wrongBy, againBy, headBy, onWrong, pickPlace, faultBy}
 
 -- What the tests of one argument say, taken from the words one by one.
@@ -29,11 +29,11 @@ pub stands-is : (table w : List ℕ) (terms at i : ℕ) {arg : Argument} {first 
 stands-is table w terms at i p0 p1 p2 p3 p4 p5 e = rw (← p0, ← p1, ← p2, ← p3, ← p4, ← p5) e
 
 -- A head that stands is that of a whole record.
-pub head-whole : (names w : List ℕ) (at : ℕ) → headBy names w at ≡ true → at + countAt w at < length w
-head-whole names w at h = go (eqb (kindOf (getD w at 0)) 2) (ltb (countAt w at) (length w - at)) refl h
+pub head-whole : (names tops w : List ℕ) (at : ℕ) → headBy names tops w at ≡ true → at + countAt w at < length w
+head-whole names tops w at h = go (eqb (kindOf (getD w at 0)) 2) (ltb (countAt w at) (length w - at)) refl h
   where
     rest : Bool
-    rest = cond (countFits (operationAt w at) (countAt w at) (argumentAt w at 0)) (not (againBy names w at)) false
+    rest = cond (countFits (operationAt w at) (countAt w at) (argumentAt w at 0)) (not (againBy names tops w at)) false
 
     go : (a b : Bool) → ltb (countAt w at) (length w - at) ≡ b → cond a (cond b rest false) false ≡ true
         → at + countAt w at < length w
@@ -86,16 +86,16 @@ whole-same n m at h = go (ltb n (m - at)) refl
     go false e = le-ltb (at + n) m (let z = ltb-false n (m - at) e in omega arith)
 
 module _ {w : List ℕ} {at : ℕ} {x : Context} {table : List ℕ} {terms : ℕ} (r : ReadTo w at x table terms)
-    (names : List ℕ) (named : NamesTo names (x .names)) where
-  pub again-is : againBy names w at ≡ again x w at
+    (names tops : List ℕ) (named : NamesTo names (x .names)) (topped : TopsTo tops (x .names)) where
+  pub again-is : againBy names tops w at ≡ again x w at
   again-is =
       rw (
         declares-of (operationAt w at) (countAt w at) (λ i. payloadOf (argumentAt w at i)),
-        known-is r names named (argumentAt w at 0) (argumentAt w at 1) (argumentAt w at 2),
+        known-is r names tops named topped (argumentAt w at 0) (argumentAt w at 1) (argumentAt w at 2),
       )
       (as-and (isDeclare (operationAt w at)) (known (x .names) (argumentAt w at 0) (argumentAt w at 1) (argumentAt w at 2)))
 
-  pub head-is : at < length w → x .checked ≡ false → headStands x w at ≡ headBy names w at
+  pub head-is : at < length w → x .checked ≡ false → headStands x w at ≡ headBy names tops w at
   head-is inside open-list =
       rw (
         open-list,
@@ -103,13 +103,13 @@ module _ {w : List ℕ} {at : ℕ} {x : Context} {table : List ℕ} {terms : ℕ
         whole-same (countAt w at) (length w) at inside,
       )
       (as-conds (eqb (kindOf (getD w at 0)) 2) (ltb (countAt w at) (length w - at))
-      (countFits (operationAt w at) (countAt w at) (argumentAt w at 0)) (not (againBy names w at)))
+      (countFits (operationAt w at) (countAt w at) (argumentAt w at 0)) (not (againBy names tops w at)))
 
   -- The fault of a record is that of reading it.
-  pub fault-none : at < length w → x .checked ≡ false → faultBy table names w terms at ≡ none → Right w at x
-  fault-none inside open-list e = go (headBy names w at) refl (wrongBy table w terms at) refl e
+  pub fault-none : at < length w → x .checked ≡ false → faultBy table names tops w terms at ≡ none → Right w at x
+  fault-none inside open-list e = go (headBy names tops w at) refl (wrongBy table w terms at) refl e
     where
-      go : (h : Bool) → headBy names w at ≡ h → (o : Option ℕ) → wrongBy table w terms at ≡ o
+      go : (h : Bool) → headBy names tops w at ≡ h → (o : Option ℕ) → wrongBy table w terms at ≡ o
           → pickPlace h (onWrong o (λ i. at + 1 + i)) (some at) ≡ none → Right w at x
       go true h none q t = record {
         inside = inside;
@@ -119,11 +119,11 @@ module _ {w : List ℕ} {at : ℕ} {x : Context} {table : List ℕ} {terms : ℕ
       go true h (some i) q t = absurd (let z : _≡_ {A = ℕ} 0 1 = cc in omega arith)
       go false h o q t = absurd (let z : _≡_ {A = ℕ} 0 1 = cc in omega arith)
 
-  pub fault-some : at < length w → x .checked ≡ false → (p n : ℕ) → faultBy table names w terms at ≡ some p
+  pub fault-some : at < length w → x .checked ≡ false → (p n : ℕ) → faultBy table names tops w terms at ≡ some p
       → readFrom (suc n) w at x ≡ malformed p
-  fault-some inside open-list p n e = go (headBy names w at) refl (wrongBy table w terms at) refl e
+  fault-some inside open-list p n e = go (headBy names tops w at) refl (wrongBy table w terms at) refl e
     where
-      go : (h : Bool) → headBy names w at ≡ h → (o : Option ℕ) → wrongBy table w terms at ≡ o
+      go : (h : Bool) → headBy names tops w at ≡ h → (o : Option ℕ) → wrongBy table w terms at ≡ o
           → pickPlace h (onWrong o (λ i. at + 1 + i)) (some at) ≡ some p → readFrom (suc n) w at x ≡ malformed p
       go true h none q t = absurd (let z : _≡_ {A = ℕ} 0 1 = cc in omega arith)
       go true h (some i) q t =

@@ -46,17 +46,17 @@ wrongAs (some i) = At i
 
 -- ---- names
 
-abbrev pub againBy : List ℕ → List ℕ → ℕ → Bool
-againBy names w at =
+abbrev pub againBy : List ℕ → List ℕ → List ℕ → ℕ → Bool
+againBy names tops w at =
     cond (isDeclare (operationAt w at))
-    (knownBy names w at (argumentAt w at 0) (argumentAt w at 1) (argumentAt w at 2)) false
+    (knownBy names tops w at (argumentAt w at 0) (argumentAt w at 1) (argumentAt w at 2)) false
 
 -- The head of the record at a place stands.
-abbrev pub headBy : List ℕ → List ℕ → ℕ → Bool
-headBy names w at =
+abbrev pub headBy : List ℕ → List ℕ → List ℕ → ℕ → Bool
+headBy names tops w at =
     cond (eqb (kindOf (getD w at 0)) 2)
     (cond (ltb (countAt w at) (length w - at))
-    (cond (countFits (operationAt w at) (countAt w at) (argumentAt w at 0)) (not (againBy names w at)) false)
+    (cond (countFits (operationAt w at) (countAt w at) (argumentAt w at 0)) (not (againBy names tops w at)) false)
     false)
     false
 
@@ -69,9 +69,9 @@ abbrev pub pickPlace : Bool → Option ℕ → Option ℕ → Option ℕ
 pickPlace true a b = a
 pickPlace false a b = b
 
-abbrev pub faultBy : List ℕ → List ℕ → List ℕ → ℕ → ℕ → Option ℕ
-faultBy sorts names w terms at =
-    pickPlace (headBy names w at) (onWrong (wrongBy sorts w terms at) (λ i. at + 1 + i)) (some at)
+abbrev pub faultBy : List ℕ → List ℕ → List ℕ → List ℕ → ℕ → ℕ → Option ℕ
+faultBy sorts names tops w terms at =
+    pickPlace (headBy names tops w at) (onWrong (wrongBy sorts w terms at) (λ i. at + 1 + i)) (some at)
 
 -- Whether an operation is the check, or none that a list can have.
 abbrev pub isCheck : Op → Bool

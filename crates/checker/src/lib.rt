@@ -74,28 +74,41 @@ fn wrong_from(
 }
 
 // Whether the record at a place declares a name again.
-fn declares_again(calls: &[u32], names: &[u8], at: usize, operation: Operation) -> bool
+fn declares_again(
+    calls: &[u32],
+    names: &[u8],
+    tops: &[u32],
+    at: usize,
+    operation: Operation,
+) -> bool
     requires { ⌜ (at < length (now calls)) × (opFrom operation ≡ operationAt (now calls) at) ⌝ }
-    ensures { λ r. ⌜ r ≡ againBy (now (names .entry)) (now (calls .entry)) at ⌝ }
+    ensures { λ r. ⌜ r ≡ againBy (now (names .entry)) (now (tops .entry)) (now (calls .entry)) at ⌝ }
 {
     if call_list::is_declare(operation) {
         let letter = call_list::argument_word(calls, at, 0);
         let index = call_list::argument_word(calls, at, 1);
         let suffix = call_list::argument_word(calls, at, 2);
-        return name_table::name_known(calls, names, at, letter, index, suffix);
+        return name_table::name_known(calls, names, tops, at, letter, index, suffix);
     }
     false
 }
 
 // Whether the head of the record at a place stands: a head, whole, of an operation with its count, no name declared again.
-fn head_stands(calls: &[u32], names: &[u8], at: usize, operation: Operation, n: u32) -> bool
+fn head_stands(
+    calls: &[u32],
+    names: &[u8],
+    tops: &[u32],
+    at: usize,
+    operation: Operation,
+    n: u32,
+) -> bool
     requires { ⌜ (at < length (now calls)) × (opFrom operation ≡ operationAt (now calls) at) × (n ≡ countAt (now calls) at) ⌝ }
-    ensures { λ r. ⌜ r ≡ headBy (now (names .entry)) (now (calls .entry)) at ⌝ }
+    ensures { λ r. ⌜ r ≡ headBy (now (names .entry)) (now (tops .entry)) (now (calls .entry)) at ⌝ }
 {
     if logic::kind(logic::word_at(calls, at)) == 2 {
         if (n as usize) < calls.len() - at {
             if arguments::count_fits(operation, n, call_list::argument_word(calls, at, 0)) {
-                if declares_again(calls, names, at, operation) {
+                if declares_again(calls, names, tops, at, operation) {
                     return false;
                 }
                 return true;
@@ -108,13 +121,20 @@ fn head_stands(calls: &[u32], names: &[u8], at: usize, operation: Operation, n: 
 }
 
 // The place of the first fault of the record at a place, after the records before it.
-fn record_fault(calls: &[u32], sorts: &[u8], names: &[u8], terms: usize, at: usize) -> Wrong
+fn record_fault(
+    calls: &[u32],
+    sorts: &[u8],
+    names: &[u8],
+    tops: &[u32],
+    terms: usize,
+    at: usize,
+) -> Wrong
     requires { ⌜ at < length (now calls) ⌝ }
-    ensures { λ r. ⌜ r ≡ wrongAs (faultBy (now (sorts .entry)) (now (names .entry)) (now (calls .entry)) terms at) ⌝ }
+    ensures { λ r. ⌜ r ≡ wrongAs (faultBy (now (sorts .entry)) (now (names .entry)) (now (tops .entry)) (now (calls .entry)) terms at) ⌝ }
 {
     let operation = call_list::operation_at(calls, at);
     let n = call_list::count_at(calls, at);
-    if head_stands(calls, names, at, operation, n) {
+    if head_stands(calls, names, tops, at, operation, n) {
         wrong_from(calls, sorts, terms, at, operation, n as usize)
     } else {
         Wrong::At(at)
@@ -173,9 +193,16 @@ fn after_record(calls: &[u32], seen: Seen) -> Seen
     }
 }
 
-// The check with its tables: the places and sorts of the first terms, and the names, which start all zeros.
-fn check_records(calls: &[u32], places: &mut [u32], sorts: &mut [u8], names: &mut [u8]) -> CallList
-    requires { ⌜ ((k : ℕ) → getD (now names) k 0 ≡ 0) ⌝ }
+// The check with its tables: the places and sorts of the first terms, the names, which start all zeros, and for each letter and suffix one
+// more than the highest index so far.
+fn check_records(
+    calls: &[u32],
+    places: &mut [u32],
+    sorts: &mut [u8],
+    names: &mut [u8],
+    tops: &mut [u32],
+) -> CallList
+    requires { ⌜ ((k : ℕ) → getD (now names) k 0 ≡ 0) × (9 ≤ length (now tops)) ⌝ }
     ensures { λ r. ⌜ Checked (now (calls .entry)) (now (places .exit)) (now (sorts .exit)) (now (names .exit)) r ⌝ }
 {
     let mut seen = Seen {
@@ -188,7 +215,7 @@ fn check_records(calls: &[u32], places: &mut [u32], sorts: &mut [u8], names: &mu
         if seen.checked {
             return CallList::Malformed(seen.at);
         }
-        match record_fault(calls, sorts, names, seen.terms, seen.at) {
+        match record_fault(calls, sorts, names, tops, seen.terms, seen.at) {
             Wrong::At(place) => {
                 return CallList::Malformed(place);
             }
@@ -196,6 +223,7 @@ fn check_records(calls: &[u32], places: &mut [u32], sorts: &mut [u8], names: &mu
                 term_table::note_sort(calls, sorts, seen.at, seen.terms);
                 term_table::note_place(calls, places, seen.at, seen.terms);
                 name_table::note_name(calls, names, seen.at);
+                name_table::note_top(calls, tops, seen.at);
                 seen = after_record(calls, seen);
             }
         }
@@ -212,7 +240,8 @@ pub fn check_with(calls: &[u32], places: &mut [u32], sorts: &mut [u8], names: &m
     ensures { λ r. ⌜ Checked (now (calls .entry)) (now (places .exit)) (now (sorts .exit)) (now (names .exit)) r ⌝ }
 {
     name_table::clear_names(names);
-    check_records(calls, places, sorts, names)
+    let mut tops = [0u32; 9];
+    check_records(calls, places, sorts, names, &mut tops)
 }
 
 // Whether a call list is well formed, and where it is not (fault 19).
@@ -222,5 +251,6 @@ pub fn check(calls: &[u32]) -> CallList
     let mut places = [0u32; 1];
     let mut sorts = [0u8; 57344];
     let mut names = [0u8; 64512];
-    check_records(calls, &mut places, &mut sorts, &mut names)
+    let mut tops = [0u32; 9];
+    check_records(calls, &mut places, &mut sorts, &mut names, &mut tops)
 }

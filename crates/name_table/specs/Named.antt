@@ -1,5 +1,5 @@
 -- The table of names, record by record: it has the names declared so far, as far as it reaches.
-use mathlib.Core.Path.{_≡_, refl, sym, ap, ap₂, _∙_}
+use mathlib.Core.Path.{_≡_, refl, sym, ap, _∙_, subst}
 use mathlib.Core.Bool.{Bool, true, false, cond, _&&_, _||_, false≢true}
 use mathlib.Core.List.{List, [], _∷_}
 use Prim.Native.Nat.{ℕ, zero, suc, _+_, _*_, _≤_, _<_, min}
@@ -25,7 +25,7 @@ use Rattle.call_list.specs.Operations.{isDeclare, declares-of}
 use Rattle.call_list.specs.Literal.{payloads}
 use Rattle.term_table.specs.Tables.{pickList}
 use Rattle.term_table.specs.Sorted.{ReadTo}
-use Rattle.name_table.specs.Names.{slotOf, nameEntry, atMost, bySearch, knownBy, noteName}
+use Rattle.name_table.specs.Names.{slotOf, nameEntry, topOf, atMost, bySearch, knownBy, noteName, noteTop}
 
 pub at-most : (word bound : ℕ) → atMost word bound ≡ true → payloadOf word ≤ bound
 at-most word bound h =
@@ -50,6 +50,10 @@ named (name ∷ names) letter index suffix = isName letter index suffix name || 
 abbrev pub NamesTo : List ℕ → List Name → Type 0
 NamesTo table names =
     (l i s : ℕ) → l ≤ 2 → s ≤ 2 → (nameEntry table l i s ≡ 2 → ⊥) → eqb (nameEntry table l i s) 1 ≡ named names l i s
+
+-- No name has an index above the highest of its letter and suffix.
+abbrev pub TopsTo : List ℕ → List Name → Type 0
+TopsTo tops names = (l i s : ℕ) → l ≤ 2 → s ≤ 2 → named names l i s ≡ true → i < topOf tops l s
 
 -- ---- names in words
 
@@ -102,8 +106,8 @@ unfolding known
 none-known l i s b = refl
 
 module _ {w : List ℕ} {at : ℕ} {x : Context} {table : List ℕ} {terms : ℕ} (r : ReadTo w at x table terms)
-    (names : List ℕ) (named-to : NamesTo names (x .names)) where
-  pub known-is : (l i s : ℕ) → knownBy names w at l i s ≡ known (x .names) l i s
+    (names tops : List ℕ) (named-to : NamesTo names (x .names)) (topped : TopsTo tops (x .names)) where
+  pub known-is : (l i s : ℕ) → knownBy names tops w at l i s ≡ known (x .names) l i s
   known-is l i s = go (atMost l 2) refl (atMost s 2) refl (isNumber i) refl
     where
       searched : declaredBefore w (min at (length w)) l i s ≡ known (x .names) l i s
@@ -114,16 +118,29 @@ module _ {w : List ℕ} {at : ℕ} {x : Context} {table : List ℕ} {terms : ℕ
           rw here
           (sym (known-declared (r .records) (length w) w 0 start at x (r .passes) (omega arith) l i s ∙ none-known l i s _))
 
+      below : payloadOf l ≤ 2 → payloadOf s ≤ 2
+          → known (x .names) l i s ≡ named (x .names) (payloadOf l) (payloadOf i) (payloadOf s)
+          → (b : Bool) → ltb (payloadOf i) (topOf tops (payloadOf l) (payloadOf s)) ≡ b
+          → cond b (declaredBefore w (min at (length w)) l i s) false ≡ known (x .names) l i s
+      below hl hs k true e = searched
+      below hl hs k false e =
+          sym (refuted (known (x .names) l i s)
+          (λ t. let low = topped (payloadOf l) (payloadOf i) (payloadOf s) hl hs (sym k ∙ t) in
+          let high = ltb-false (payloadOf i) (topOf tops (payloadOf l) (payloadOf s)) e in
+          omega arith))
+
       by : (e : ℕ) → nameEntry names (payloadOf l) (payloadOf i) (payloadOf s) ≡ e → payloadOf l ≤ 2 → payloadOf s ≤ 2
           → known (x .names) l i s ≡ named (x .names) (payloadOf l) (payloadOf i) (payloadOf s)
-          → Dec (e ≡ 2) → bySearch e (declaredBefore w (min at (length w)) l i s) ≡ known (x .names) l i s
-      by e f hl hs k (yes q) = rw (eq-eqb e 2 q) searched
+          → Dec (e ≡ 2) → bySearch e (cond (ltb (payloadOf i) (topOf tops (payloadOf l) (payloadOf s)))
+          (declaredBefore w (min at (length w)) l i s) false)
+          ≡ known (x .names) l i s
+      by e f hl hs k (yes q) = rw (eq-eqb e 2 q) (below hl hs k (ltb (payloadOf i) (topOf tops (payloadOf l) (payloadOf s))) refl)
       by e f hl hs k (no q) =
           rw (ne-eqb e 2 q, ← f) (named-to (payloadOf l) (payloadOf i) (payloadOf s) hl hs (λ t. q (sym f ∙ t)) ∙ sym k)
 
       go : (a : Bool) → atMost l 2 ≡ a → (b : Bool) → atMost s 2 ≡ b → (d : Bool) → isNumber i ≡ d
           → cond (a && b && d) (bySearch (nameEntry names (payloadOf l) (payloadOf i) (payloadOf s))
-          (declaredBefore w (min at (length w)) l i s)) false
+          (cond (ltb (payloadOf i) (topOf tops (payloadOf l) (payloadOf s))) (declaredBefore w (min at (length w)) l i s) false)) false
           ≡ known (x .names) l i s
       go true e true f true g =
           by (nameEntry names (payloadOf l) (payloadOf i) (payloadOf s)) refl (at-most l 2 e) (at-most s 2 f)
@@ -222,6 +239,74 @@ names-next table w at x right named-to =
     let numbers = name-numbers x (callAt w at) (countAt w at) (argumentAt w at) (read .allowed) (read .written) in
     rw (← declares-of (operationAt w at) (countAt w at) (payloads w at))
     (names-more table x (callAt w at) (payloads w at 0) (payloads w at 1) (payloads w at 2) numbers named-to)
+
+-- The highest indexes with one more name.
+top-more : (tops : List ℕ) (names : List Name) (name : Name) → 9 ≤ length tops → TopsTo tops names
+    → TopsTo (pickList (ltb (topOf tops (letterNumber (name .letter)) (suffixNumber (name .suffix))) (name .index + 1))
+    (set tops (3 * letterNumber (name .letter) + suffixNumber (name .suffix)) (name .index + 1)) tops) (name ∷ names)
+unfolding named
+top-more tops names name nine topped l i s hl hs t =
+    go (ltb (topOf tops (letterNumber (name .letter)) (suffixNumber (name .suffix))) (name .index + 1)) refl (isName l i s name) refl t
+  where
+    inside : 3 * letterNumber (name .letter) + suffixNumber (name .suffix) < length tops
+    inside = let a = letter-low (name .letter) in let b = suffix-low (name .suffix) in omega arith
+
+    same : isName l i s name ≡ true → (l ≡ letterNumber (name .letter)) × (i ≡ name .index) × (s ≡ suffixNumber (name .suffix))
+    same q =
+        let ab = left-of (eqb l (letterNumber (name .letter)) && eqb i (name .index)) (eqb s (suffixNumber (name .suffix))) q in (
+          eqb-true l _ (left-of (eqb l (letterNumber (name .letter))) (eqb i (name .index)) ab),
+          eqb-true i _ (right-of (eqb l (letterNumber (name .letter))) (eqb i (name .index)) ab),
+          eqb-true s _ (right-of (eqb l (letterNumber (name .letter)) && eqb i (name .index)) (eqb s (suffixNumber (name .suffix))) q),
+        )
+
+    at-slot : getD (set tops (3 * letterNumber (name .letter) + suffixNumber (name .suffix)) (name .index + 1))
+        (3 * letterNumber (name .letter) + suffixNumber (name .suffix)) 0 ≡ name .index + 1
+    at-slot = getD-set-same tops (3 * letterNumber (name .letter) + suffixNumber (name .suffix)) (name .index + 1) 0 inside
+
+    old : Dec (3 * l + s ≡ 3 * letterNumber (name .letter) + suffixNumber (name .suffix)) → i < topOf tops l s
+        → topOf tops (letterNumber (name .letter)) (suffixNumber (name .suffix)) < name .index + 1
+        → i < getD (set tops (3 * letterNumber (name .letter) + suffixNumber (name .suffix)) (name .index + 1)) (3 * l + s) 0
+    old (yes q) h low =
+        let h′ : i < topOf tops (letterNumber (name .letter)) (suffixNumber (name .suffix)) =
+        subst (λ (k : ℕ). i < getD tops k 0) q h in
+        rw (q, at-slot) (omega arith)
+    old (no q) h low =
+        rw (getD-set-other tops (3 * letterNumber (name .letter) + suffixNumber (name .suffix)) (3 * l + s) (name .index + 1) 0 q) h
+
+    go : (a : Bool) → ltb (topOf tops (letterNumber (name .letter)) (suffixNumber (name .suffix))) (name .index + 1) ≡ a
+        → (d : Bool) → isName l i s name ≡ d → (d || named names l i s) ≡ true
+        → i < topOf (pickList a (set tops (3 * letterNumber (name .letter) + suffixNumber (name .suffix)) (name .index + 1)) tops) l s
+    go true e true f t =
+        let q = same f in
+        rw (q .0, q .2, at-slot) (let z = q .1 in omega arith)
+    go true e false f t =
+        old (ℕ-discrete (3 * l + s) (3 * letterNumber (name .letter) + suffixNumber (name .suffix))) (topped l i s hl hs t) (ltb-true _ _ e)
+    go false e true f t =
+        let q = same f in
+        let high = ltb-false (topOf tops (letterNumber (name .letter)) (suffixNumber (name .suffix))) (name .index + 1) e in
+        rw (q .0, q .2) (let z = q .1 in omega arith)
+    go false e false f t = topped l i s hl hs t
+
+tops-more : (tops : List ℕ) (x : Context) (call : Call) (p q r : ℕ) → NumbersOf call p q r → 9 ≤ length tops → TopsTo tops (x .names)
+    → TopsTo (pickList (declares call && ltb (topOf tops p r) (q + 1)) (set tops (3 * p + r) (q + 1)) tops) (after x call .names)
+tops-more tops x (c.term t) p q r e nine topped = topped
+tops-more tops x (c.declare name w) p q r e nine topped =
+    rw (← e .0, ← e .1, ← e .2) (top-more tops (x .names) name nine topped)
+tops-more tops x (c.assert k) p q r e nine topped = topped
+tops-more tops x c.check p q r e nine topped = topped
+
+-- What a right record adds to the highest indexes.
+pub tops-next : (tops w : List ℕ) (at : ℕ) (x : Context) → Right w at x → 9 ≤ length tops → TopsTo tops (x .names)
+    → TopsTo (noteTop tops w at) (after x (callAt w at) .names)
+tops-next tops w at x right nine topped =
+    let read = reads-at x w at (right .head) (right .arguments) in
+    let numbers = name-numbers x (callAt w at) (countAt w at) (argumentAt w at) (read .allowed) (read .written) in
+    rw (← declares-of (operationAt w at) (countAt w at) (payloads w at))
+    (tops-more tops x (callAt w at) (payloads w at 0) (payloads w at 1) (payloads w at 2) numbers nine topped)
+
+pub tops-none : (tops : List ℕ) → TopsTo tops []
+unfolding named
+tops-none tops l i s hl hs t = absurd (false≢true t)
 
 -- A table of zeros has no name.
 pub names-none : (table : List ℕ) → ((k : ℕ) → getD table k 0 ≡ 0) → NamesTo table []

@@ -29,13 +29,30 @@ atMost word bound = isNumber word && leb (payloadOf word) bound
 abbrev pub bySearch : ℕ → Bool → Bool
 bySearch entry found = cond (eqb entry 2) found (eqb entry 1)
 
--- Three words spell a name declared before a place: from the table, beyond it by the records.
-abbrev pub knownBy : List ℕ → List ℕ → ℕ → ℕ → ℕ → ℕ → Bool
-knownBy names w at letter index suffix =
+-- One more than the highest index declared so far of a letter and suffix, by their numbers.
+abbrev pub topOf : List ℕ → ℕ → ℕ → ℕ
+topOf tops letter suffix = getD tops (3 * letter + suffix) 0
+
+-- A search for a name, of an index below the highest.
+abbrev pub searchBelow : List ℕ → List ℕ → ℕ → ℕ → ℕ → ℕ → Bool
+searchBelow tops w at letter index suffix =
+    cond (ltb (payloadOf index) (topOf tops (payloadOf letter) (payloadOf suffix)))
+    (declaredBefore w (min at (length w)) letter index suffix)
+    false
+
+-- Three words spell a name declared before a place: from the table, beyond it by the highest index and then by the records.
+abbrev pub knownBy : List ℕ → List ℕ → List ℕ → ℕ → ℕ → ℕ → ℕ → Bool
+knownBy names tops w at letter index suffix =
     cond (atMost letter 2 && atMost suffix 2 && isNumber index)
     (bySearch (nameEntry names (payloadOf letter) (payloadOf index) (payloadOf suffix))
-    (declaredBefore w (min at (length w)) letter index suffix))
+    (searchBelow tops w at letter index suffix))
     false
+
+-- The highest index goes up with a name that a record declares.
+abbrev pub noteTop : List ℕ → List ℕ → ℕ → List ℕ
+noteTop tops w at =
+    pickList (isDeclare (operationAt w at) && ltb (topOf tops (payloads w at 0) (payloads w at 2)) (payloads w at 1 + 1))
+    (set tops (3 * payloads w at 0 + payloads w at 2) (payloads w at 1 + 1)) tops
 
 -- The name that a record declares goes into the table.
 abbrev pub noteName : List ℕ → List ℕ → ℕ → List ℕ

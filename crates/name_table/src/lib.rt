@@ -5,7 +5,7 @@ ghost use Prim.Native.Nat.{ℕ, min};
 ghost use lib.ListN.{length, getD, set};
 ghost use Rattle.engine.specs.WellFormed.{isNumber};
 ghost use Rattle.engine.specs.Structure.{declaresAt, declaredBefore};
-ghost use Rattle.name_table.specs.Names.{atMost, slotOf, nameEntry, knownBy, noteName};
+ghost use Rattle.name_table.specs.Names.{atMost, slotOf, nameEntry, topOf, searchBelow, knownBy, noteName, noteTop};
 
 // Whether the record at a place declares the name that three words spell.
 fn declares_at(calls: &[u32], at: usize, letter: u32, index: u32, suffix: u32) -> bool
@@ -74,16 +74,34 @@ fn spells_name(letter: u32, index: u32, suffix: u32) -> bool
     false
 }
 
+// One more than the highest index declared so far of a letter and suffix.
+fn top_of(tops: &[u32], letter: u32, suffix: u32) -> u32
+    ensures { λ r. ⌜ r ≡ topOf (now (tops .entry)) letter suffix ⌝ }
+{
+    logic::word_at(tops, 3 * letter as usize + suffix as usize)
+}
+
+// Whether a record before a place declares that name, which only one of an index below the highest can be.
+fn is_searched(calls: &[u32], tops: &[u32], at: usize, letter: u32, index: u32, suffix: u32) -> bool
+    ensures { λ r. ⌜ r ≡ searchBelow (now (tops .entry)) (now (calls .entry)) at letter index suffix ⌝ }
+{
+    if logic::payload(index) < top_of(tops, logic::payload(letter), logic::payload(suffix)) {
+        return declared_before(calls, at, letter, index, suffix);
+    }
+    false
+}
+
 // Whether three words spell a name that a record before a place declares: from the table, beyond it by the records.
 pub fn name_known(
     calls: &[u32],
     names: &[u8],
+    tops: &[u32],
     at: usize,
     letter: u32,
     index: u32,
     suffix: u32,
 ) -> bool
-    ensures { λ r. ⌜ r ≡ knownBy (now (names .entry)) (now (calls .entry)) at letter index suffix ⌝ }
+    ensures { λ r. ⌜ r ≡ knownBy (now (names .entry)) (now (tops .entry)) (now (calls .entry)) at letter index suffix ⌝ }
 {
     if spells_name(letter, index, suffix) {
         let noted = name_entry(
@@ -93,7 +111,7 @@ pub fn name_known(
             logic::payload(suffix),
         );
         if noted == 2 {
-            return declared_before(calls, at, letter, index, suffix);
+            return is_searched(calls, tops, at, letter, index, suffix);
         }
         return noted == 1;
     }
@@ -131,5 +149,19 @@ pub fn clear_names(names: &mut [u8])
     while at < names.len() {
         names[at] = 0;
         at += 1;
+    }
+}
+
+// The highest index of a letter and suffix goes up with the name that a record declares.
+pub fn note_top(calls: &[u32], tops: &mut [u32], at: usize)
+    ensures { λ _. ⌜ now (tops .exit) ≡ noteTop (now (tops .entry)) (now (calls .entry)) at ⌝ }
+{
+    if call_list::is_declare(call_list::operation_at(calls, at)) {
+        let letter = call_list::argument_at(calls, at, 0);
+        let top = call_list::argument_at(calls, at, 1) + 1;
+        let suffix = call_list::argument_at(calls, at, 2);
+        if top_of(tops, letter, suffix) < top {
+            logic::put(tops, 3 * letter as usize + suffix as usize, top);
+        }
     }
 }

@@ -1,5 +1,6 @@
 -- `checker::check` meets its contract: the table of names starts as zeros, and the answer is that of the check with it. Assumes nothing.
 use borrow.Author.Needs.{needs}
+use native.Mathlib.Nat.{le-refl}
 use Rattle.checker.specs.Checking.{zeros-all}
 use Rattle.checker.proofs.check.Statement.{statement}
 use Rattle.checker.proofs.check.Tie as tie
@@ -13,8 +14,11 @@ slice-aggregate-check-records-2 c = search needs
 slice-aggregate-check-records-3 : tie.Need-slice-aggregate-check-records-3
 slice-aggregate-check-records-3 c = search needs
 
+slice-aggregate-check-records-4 : tie.Need-slice-aggregate-check-records-4
+slice-aggregate-check-records-4 c = search needs
+
 check-records-requires : tie.Need-check-records-requires
-check-records-requires c κs = λ k. zeros-all 64512 k
+check-records-requires c κs = (λ k. zeros-all 64512 k, le-refl 9)
 
 returns : tie.Need-returns
 returns c = search needs
@@ -26,5 +30,6 @@ check-spec =
     slice-aggregate-check-records
     slice-aggregate-check-records-2
     slice-aggregate-check-records-3
+    slice-aggregate-check-records-4
     check-records-requires
     returns)

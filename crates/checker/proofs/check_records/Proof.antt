@@ -22,19 +22,21 @@ use Rattle.checker.proofs.check_records.Statement.{statement}
 use Rattle.checker.proofs.check_records.Tie as tie
 
 abbrev Inv-loop : tie.InvT-loop
-Inv-loop calls places₀ sorts₀ names₀ seen₀ places sorts names seen =
+Inv-loop calls places₀ sorts₀ names₀ tops₀ seen₀ places sorts names tops seen =
     (length places ≡ length places₀) × (length sorts ≡ length sorts₀) × (length names ≡ length names₀)
-    × Checking calls places sorts names seen
+    × (length tops ≡ length tops₀) × Checking calls places sorts names tops seen
 
 abbrev μ-loop : tie.MeasureT-loop
-μ-loop calls places₀ sorts₀ names₀ seen₀ places sorts names seen = length calls - seen .at
+μ-loop calls places₀ sorts₀ names₀ tops₀ seen₀ places sorts names tops seen = length calls - seen .at
 
 loop-holds : tie.Need-loop-holds Inv-loop μ-loop
 loop-holds c =
-    let entry = c .before .before in
+    let entry = c .before .before .before in
     let start = entry .before .before in
     let args = start .args in
-    (refl, refl, refl, checking-start (args .calls .now) (args .places .now) (args .sorts .now) (args .names .now) (start .pre))
+    let first =
+    checking-start (args .calls .now) (args .places .now) (args .sorts .now) (args .names .now) (args .tops .now) (start .pre .0) (start .pre .1) in
+    (refl, refl, refl, refl, first)
 
 same-length : tie.Need-same-length Inv-loop μ-loop
 same-length c = c .before .before .before .loop .inv .0
@@ -45,10 +47,13 @@ same-length-2 c = c .before .before .before .loop .inv .1
 same-length-3 : tie.Need-same-length-3 Inv-loop μ-loop
 same-length-3 c = c .before .before .before .loop .inv .2
 
+same-length-4 : tie.Need-same-length-4 Inv-loop μ-loop
+same-length-4 c = c .before .before .before .loop .inv .3
+
 returns : tie.Need-returns Inv-loop μ-loop
 returns c =
     let inv = c .before .before .before .loop .inv in
-    checked-wrong (checked-fault (inv .3) (c .before .if1 .taken) (c .if2 .taken))
+    checked-wrong (checked-fault (inv .4) (c .before .if1 .taken) (c .if2 .taken))
 
 record-fault-requires : tie.Need-record-fault-requires Inv-loop μ-loop
 record-fault-requires c κs = omega arith
@@ -56,45 +61,59 @@ record-fault-requires c κs = omega arith
 enum-known-place : tie.Need-enum-known-place Inv-loop μ-loop
 enum-known-place c = search needs
 
-same-length-4 : tie.Need-same-length-4 Inv-loop μ-loop
-same-length-4 c =
+same-length-5 : tie.Need-same-length-5 Inv-loop μ-loop
+same-length-5 c =
     let asked = c .before .before .before in
-    let unchecked = asked .before .before .before in
+    let tested = asked .before .before in
+    let unchecked = tested .before .before in
     let inside = unchecked .before in
     let looped = inside .before .before in
     let state = looped .loop in
     state .inv .0
 
-same-length-5 : tie.Need-same-length-5 Inv-loop μ-loop
-same-length-5 c =
+same-length-6 : tie.Need-same-length-6 Inv-loop μ-loop
+same-length-6 c =
     let asked = c .before .before .before in
-    let unchecked = asked .before .before .before in
+    let tested = asked .before .before in
+    let unchecked = tested .before .before in
     let inside = unchecked .before in
     let looped = inside .before .before in
     let state = looped .loop in
     state .inv .1
 
-same-length-6 : tie.Need-same-length-6 Inv-loop μ-loop
-same-length-6 c =
+same-length-7 : tie.Need-same-length-7 Inv-loop μ-loop
+same-length-7 c =
     let asked = c .before .before .before in
-    let unchecked = asked .before .before .before in
+    let tested = asked .before .before in
+    let unchecked = tested .before .before in
     let inside = unchecked .before in
     let looped = inside .before .before in
     let state = looped .loop in
     state .inv .2
 
+same-length-8 : tie.Need-same-length-8 Inv-loop μ-loop
+same-length-8 c =
+    let asked = c .before .before .before in
+    let tested = asked .before .before in
+    let unchecked = tested .before .before in
+    let inside = unchecked .before in
+    let looped = inside .before .before in
+    let state = looped .loop in
+    state .inv .3
+
 returns-2 : tie.Need-returns-2 Inv-loop μ-loop
 returns-2 c =
     let asked = c .before .before .before in
-    let unchecked = asked .before .before .before in
+    let tested = asked .before .before in
+    let unchecked = tested .before .before in
     let inside = unchecked .before in
     let looped = inside .before .before in
     let state = looped .loop in
     let entry = looped .before .before .before in
-    let args = entry .before .before .args in
-    let fault = faultBy (state .sorts) (state .names) (args .calls .now) (state .seen .terms) (state .seen .at) in
+    let args = entry .before .before .before .args in
+    let fault = faultBy (state .sorts) (state .names) (state .tops) (args .calls .now) (state .seen .terms) (state .seen .at) in
     let wrong = wrong-at fault (sym (asked .record-fault .ensures) ∙ c .before .place .given .1) in
-    checked-wrong (record-wrong (state .inv .3) (inside .if1 .taken) (unchecked .if2 .left) _ wrong)
+    checked-wrong (record-wrong (state .inv .4) (inside .if1 .taken) (unchecked .if2 .left) _ wrong)
 
 enum-told : tie.Need-enum-told Inv-loop μ-loop
 enum-told c = search needs
@@ -108,27 +127,34 @@ note-place-requires c κs = search needs
 note-name-requires : tie.Need-note-name-requires Inv-loop μ-loop
 note-name-requires c κs = search needs
 
+note-top-requires : tie.Need-note-top-requires Inv-loop μ-loop
+note-top-requires c κs = search needs
+
 after-record-requires : tie.Need-after-record-requires Inv-loop μ-loop
 after-record-requires c κs =
-    let named = c .before .before in
+    let topped = c .before .before in
+    let named = topped .before .before .before .before in
     let placed = named .before .before .before .before in
     let sorted = placed .before .before .before .before in
     let told = sorted .before .before in
     let asked = told .before .before in
-    let unchecked = asked .before .before .before in
+    let tested = asked .before .before in
+    let unchecked = tested .before .before in
     let inside = unchecked .before in
     let looped = inside .before .before in
     let state = looped .loop in
-    (inside .if1 .taken, state .inv .3 .few-terms, state .inv .3 .few-names)
+    (inside .if1 .taken, state .inv .4 .few-terms, state .inv .4 .few-names)
 
 loop-less : tie.Need-loop-less Inv-loop μ-loop
 loop-less c =
-    let named = c .before .before .before in
+    let topped = c .before .before .before in
+    let named = topped .before .before .before .before in
     let placed = named .before .before .before .before in
     let sorted = placed .before .before .before .before in
     let told = sorted .before .before in
     let asked = told .before .before in
-    let unchecked = asked .before .before .before in
+    let tested = asked .before .before in
+    let unchecked = tested .before .before in
     let inside = unchecked .before in
     let looped = inside .before .before in
     let state = looped .loop in
@@ -136,37 +162,49 @@ loop-less c =
 
 loop-again : tie.Need-loop-again Inv-loop μ-loop
 loop-again c =
-    let named = c .before .before .before in
+    let topped = c .before .before .before in
+    let named = topped .before .before .before .before in
     let placed = named .before .before .before .before in
     let sorted = placed .before .before .before .before in
     let told = sorted .before .before in
     let asked = told .before .before in
-    let unchecked = asked .before .before .before in
+    let tested = asked .before .before in
+    let unchecked = tested .before .before in
     let inside = unchecked .before in
     let looped = inside .before .before in
     let state = looped .loop in
     let entry = looped .before .before .before in
-    let args = entry .before .before .args in
-    let fault = faultBy (state .sorts) (state .names) (args .calls .now) (state .seen .terms) (state .seen .at) in
+    let args = entry .before .before .before .args in
+    let fault = faultBy (state .sorts) (state .names) (state .tops) (args .calls .now) (state .seen .terms) (state .seen .at) in
     let right = wrong-none fault (sym (asked .record-fault .ensures) ∙ told .enum-told .given .1) in (
       placed .note-place .kept .1 .0 ∙ state .inv .0,
       sorted .note-sort .kept .1 .0 ∙ state .inv .1,
       named .note-name .kept .1 .0 ∙ state .inv .2,
-      rw (c .after-record .ensures, named .note-name .ensures, placed .note-place .ensures, sorted .note-sort .ensures)
-          (record-right (state .inv .3) (inside .if1 .taken) (unchecked .if2 .left) right),
+      topped .note-top .kept .1 .0 ∙ state .inv .3,
+      rw (
+        c .after-record .ensures,
+        topped .note-top .ensures,
+        named .note-name .ensures,
+        placed .note-place .ensures,
+        sorted .note-sort .ensures,
+      )
+          (record-right (state .inv .4) (inside .if1 .taken) (unchecked .if2 .left) right),
     )
 
-same-length-7 : tie.Need-same-length-7 Inv-loop μ-loop
-same-length-7 c = c .before .before .loop .inv .0
-
-same-length-8 : tie.Need-same-length-8 Inv-loop μ-loop
-same-length-8 c = c .before .before .loop .inv .1
-
 same-length-9 : tie.Need-same-length-9 Inv-loop μ-loop
-same-length-9 c = c .before .before .loop .inv .2
+same-length-9 c = c .before .before .loop .inv .0
+
+same-length-10 : tie.Need-same-length-10 Inv-loop μ-loop
+same-length-10 c = c .before .before .loop .inv .1
+
+same-length-11 : tie.Need-same-length-11 Inv-loop μ-loop
+same-length-11 c = c .before .before .loop .inv .2
+
+same-length-12 : tie.Need-same-length-12 Inv-loop μ-loop
+same-length-12 c = c .before .before .loop .inv .3
 
 returns-3 : tie.Need-returns-3 Inv-loop μ-loop
-returns-3 c = checked-end (c .before .before .loop .inv .3) (c .if1 .left)
+returns-3 c = checked-end (c .before .before .loop .inv .4) (c .if1 .left)
 
 pub check-records-spec : {M : Type 1} → statement M
 check-records-spec =
@@ -178,21 +216,25 @@ check-records-spec =
     same-length
     same-length-2
     same-length-3
+    same-length-4
     returns
     record-fault-requires
     enum-known-place
-    same-length-4
     same-length-5
     same-length-6
+    same-length-7
+    same-length-8
     returns-2
     enum-told
     note-sort-requires
     note-place-requires
     note-name-requires
+    note-top-requires
     after-record-requires
     loop-less
     loop-again
-    same-length-7
-    same-length-8
     same-length-9
+    same-length-10
+    same-length-11
+    same-length-12
     returns-3)

@@ -23,7 +23,8 @@ returns c =
     let at-argument-word = c .before .before .before in
     let at-if1 = at-argument-word .before in
     let at-is-declare = at-if1 .before in
-    let start = at-is-declare .before .before .before in
+    let known = at-is-declare .before .before .before in
+    let start = known .before in
     rw (
       ← start .pre .1,
       ← at-is-declare .is-declare .ensures,
@@ -36,7 +37,8 @@ returns c =
 
 returns-2 : tie.Need-returns-2
 returns-2 c =
-    let start = c .before .before .before .before in
+    let known = c .before .before .before in
+    let start = known .before .before in
     rw (← start .pre .1, ← c .before .is-declare .ensures, c .if1 .left)
 
 pub declares-again-spec : {M : Type 1} → statement M

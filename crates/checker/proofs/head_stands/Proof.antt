@@ -30,7 +30,8 @@ returns c =
     let at-if1 = at-if2 .before in
     let at-kind = at-if1 .before in
     let at-word-at = at-kind .before in
-    let start = at-word-at .before .before .before in
+    let known = at-word-at .before .before .before in
+    let start = known .before in
     rw (
       ← c .before .declares-again .ensures,
       ← start .pre .1,
@@ -53,7 +54,8 @@ returns-2 c =
     let at-if1 = at-if2 .before in
     let at-kind = at-if1 .before in
     let at-word-at = at-kind .before in
-    let start = at-word-at .before .before .before in
+    let known = at-word-at .before .before .before in
+    let start = known .before in
     rw (
       ← c .before .declares-again .ensures,
       ← start .pre .1,
@@ -74,7 +76,8 @@ returns-3 c =
     let at-if1 = at-if2 .before in
     let at-kind = at-if1 .before in
     let at-word-at = at-kind .before in
-    let start = at-word-at .before .before .before in
+    let known = at-word-at .before .before .before in
+    let start = known .before in
     rw (
       ← start .pre .1,
       ← start .pre .2,
@@ -90,7 +93,8 @@ returns-3 c =
 returns-4 : tie.Need-returns-4
 returns-4 c =
     let at-word-at = c .before .before .before in
-    let start = at-word-at .before .before .before in
+    let known = at-word-at .before .before .before in
+    let start = known .before in
     rw (
       ← start .pre .1,
       ← start .pre .2,

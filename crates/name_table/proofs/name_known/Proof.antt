@@ -22,8 +22,8 @@ payload-requires-3 c κs = search needs
 name-entry-requires : tie.Need-name-entry-requires
 name-entry-requires c κs = search needs
 
-declared-before-requires : tie.Need-declared-before-requires
-declared-before-requires c κs = search needs
+is-searched-requires : tie.Need-is-searched-requires
+is-searched-requires c κs = search needs
 
 returns : tie.Need-returns
 returns c =
@@ -40,8 +40,8 @@ returns c =
       ← at-payload3 .payload3 .ensures,
       ← c .before .before .name-entry .ensures,
       eq-eqb _ _ (c .before .if2 .taken),
-      ← c .declared-before .ensures,
     )
+    (rw (← at-payload .payload .ensures, ← at-payload2 .payload2 .ensures, ← at-payload3 .payload3 .ensures) at (c .is-searched .ensures))
 
 returns-2 : tie.Need-returns-2
 returns-2 c =
@@ -76,7 +76,7 @@ name-known-spec =
     cast-name-entry
     payload-requires-3
     name-entry-requires
-    declared-before-requires
+    is-searched-requires
     returns
     returns-2
     returns-3)
