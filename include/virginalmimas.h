@@ -5,8 +5,8 @@
    was; success changes nothing past what it writes. Faults 14 and 15 tell the room to allocate as their place.
 
    A slice of length 0 may have a null pointer. Slices that an entry writes must not overlap with any other of the call. There is no heap, no
-   state between calls and no lock: threads may call at the same time on slices of their own. Tables are on the stack; how much each entry
-   needs is said at VM_STACK. */
+   state between calls and no lock: threads may call at the same time on slices of their own. Tables are on the stack: VM_STACK bytes are
+   enough for every entry. */
 #ifndef VIRGINALMIMAS_H
 #define VIRGINALMIMAS_H
 
@@ -14,6 +14,7 @@
 #include <stdint.h>
 
 #define VM_VERSION 1
+#define VM_STACK (192 * 1024)
 
 /* The parts of an answer. */
 #define VM_NUMBER(answer) ((uint64_t)(answer) >> 48)

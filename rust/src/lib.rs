@@ -12,6 +12,15 @@ mod entries {
         pub fn vm_counts(list: *const u32, len: usize, counts: *mut u64, c: usize) -> u64;
         pub fn vm_evaluate(calls: *const u32, n: usize, bits: *const u64, m: usize, values: *mut u64, v: usize) -> u64;
         pub fn vm_script(calls: *const u32, n: usize, recorded: *const u8, r: usize, text: *mut u8, t: usize) -> u64;
+        pub fn vm_check(calls: *const u32, n: usize, sizes: *mut u64, s: usize) -> u64;
+        pub fn vm_evaluate_with(
+            calls: *const u32, n: usize, bits: *const u64, m: usize, values: *mut u64, v: usize,
+            sorts: *mut u8, terms: usize, names: *mut u8, bytes: usize,
+        ) -> u64;
+        pub fn vm_script_with(
+            calls: *const u32, n: usize, recorded: *const u8, r: usize, text: *mut u8, t: usize,
+            places: *mut u32, records: usize, sorts: *mut u8, terms: usize, names: *mut u8, bytes: usize,
+        ) -> u64;
         pub fn vm_answer(text: *const u8, t: usize, recorded: *const u8, r: usize, trits: *mut u8, s: usize) -> u64;
     }
 }
@@ -102,6 +111,39 @@ pub fn read(list: &[u32]) -> Read {
     }
 }
 
+/// What `check` does with a call list: how many terms it makes and names it declares, so that values and bits can be
+/// lent.
+#[derive(Debug, Clone, Copy, PartialEq, Eq)]
+pub enum Checked {
+    Malformed { place: usize },
+    WellFormed { terms: usize, declared: usize },
+}
+
+/// Checks a call list (fault 19).
+pub fn check(calls: &[u32]) -> Checked {
+    let mut sizes = [0; 2];
+    // Safety: as in `verify`.
+    match unpacked(unsafe { entries::vm_check(calls.as_ptr(), calls.len(), sizes.as_mut_ptr(), sizes.len()) }) {
+        Err((_, place)) => Checked::Malformed { place },
+        Ok(_) => Checked::WellFormed { terms: sizes[0] as usize, declared: sizes[1] as usize },
+    }
+}
+
+/// Tables for call lists of more than 16,384 words: with them `evaluate_with` and `script_with` take time that grows with
+/// the list, and answer what `evaluate` and `script` do.
+pub struct Tables {
+    places: Vec<u32>,
+    sorts: Vec<u8>,
+    names: Vec<u8>,
+}
+
+impl Tables {
+    /// For lists of so many words: a term takes at least two, and the nine names of an index at least five each.
+    pub fn for_words(words: usize) -> Self {
+        Tables { places: vec![0; words / 2], sorts: vec![0; words / 2], names: vec![0; words / 5 * 9] }
+    }
+}
+
 /// What `evaluate` does with a call list.
 #[derive(Debug, Clone, Copy, PartialEq, Eq)]
 pub enum Evaluated {
@@ -115,6 +157,23 @@ pub fn evaluate(calls: &[u32], bits: &[u64], values: &mut [u64]) -> Evaluated {
     let (values, room) = (values.as_mut_ptr(), values.len());
     // Safety: as in `verify`.
     let packed = unsafe { entries::vm_evaluate(calls.as_ptr(), calls.len(), bits.as_ptr(), bits.len(), values, room) };
+    evaluated(packed)
+}
+
+/// The same with tables.
+pub fn evaluate_with(calls: &[u32], bits: &[u64], values: &mut [u64], tables: &mut Tables) -> Evaluated {
+    let (values, room) = (values.as_mut_ptr(), values.len());
+    let (sorts, names) = (&mut tables.sorts, &mut tables.names);
+    // Safety: as in `verify`.
+    evaluated(unsafe {
+        entries::vm_evaluate_with(
+            calls.as_ptr(), calls.len(), bits.as_ptr(), bits.len(), values, room,
+            sorts.as_mut_ptr(), sorts.len(), names.as_mut_ptr(), names.len(),
+        )
+    })
+}
+
+fn evaluated(packed: u64) -> Evaluated {
     match unpacked(packed) {
         Err((number, place)) => Evaluated::Refused { number, place },
         Ok(many) => Evaluated::Evaluated { false_assertions: many as usize },
@@ -133,7 +192,25 @@ pub fn script(calls: &[u32], recorded: &[u8], text: &mut [u8]) -> Script {
     let (text, room) = (text.as_mut_ptr(), text.len());
     let (marks, slots) = (recorded.as_ptr(), recorded.len());
     // Safety: as in `verify`.
-    match unpacked(unsafe { entries::vm_script(calls.as_ptr(), calls.len(), marks, slots, text, room) }) {
+    written(unsafe { entries::vm_script(calls.as_ptr(), calls.len(), marks, slots, text, room) })
+}
+
+/// The same with tables.
+pub fn script_with(calls: &[u32], recorded: &[u8], text: &mut [u8], tables: &mut Tables) -> Script {
+    let (text, room) = (text.as_mut_ptr(), text.len());
+    let (marks, slots) = (recorded.as_ptr(), recorded.len());
+    let Tables { places, sorts, names } = tables;
+    // Safety: as in `verify`.
+    written(unsafe {
+        entries::vm_script_with(
+            calls.as_ptr(), calls.len(), marks, slots, text, room, places.as_mut_ptr(), places.len(),
+            sorts.as_mut_ptr(), sorts.len(), names.as_mut_ptr(), names.len(),
+        )
+    })
+}
+
+fn written(packed: u64) -> Script {
+    match unpacked(packed) {
         Err((number, place)) => Script::Refused { number, place },
         Ok(bytes) => Script::Written { bytes: bytes as usize },
     }

@@ -99,3 +99,20 @@ fn reads_the_answer() {
     assert_eq!(answer(sat, &recorded, &mut trits), Answer::Sat);
     assert_eq!(trits, [1, 0, 9]);
 }
+
+#[test]
+fn checks_and_takes_tables() {
+    let (calls, recorded) = verified();
+    assert_eq!(check(&calls), Checked::WellFormed { terms: 17, declared: 4 });
+    assert_eq!(check(&calls[..WORDS - 2]), Checked::Malformed { place: WORDS - 3 });
+    for words in [0, 10, 100] {
+        let mut tables = Tables::for_words(words);
+        let mut text = vec![0; SCRIPT.len()];
+        assert_eq!(script_with(&calls, &recorded, &mut text, &mut tables), Script::Written { bytes: SCRIPT.len() });
+        assert_eq!(text, SCRIPT.as_bytes());
+        let (mut values, mut same) = ([0; 17], [0; 17]);
+        let answer = evaluate(&calls, &[0, 0, 0, 1], &mut values);
+        assert_eq!(evaluate_with(&calls, &[0, 0, 0, 1], &mut same, &mut tables), answer);
+        assert_eq!(values, same);
+    }
+}
