@@ -24,8 +24,7 @@ use Rattle.order.specs.Verify.{built, verify}
 use Rattle.slots.specs.Tells.{Tells}
 use Rattle.slots.proofs.Laws.{table-tells}
 use Rattle.net_pairs.specs.declared.Walked.{Walked}
-use Rattle.walk.specs.Works.{mostObligations, Works}
-use Rattle.walk.proofs.Room.{most-low}
+use Rattle.walk.specs.Works.{Works}
 use Rattle.design.specs.declared.Tally.{Tally}
 use Rattle.design.specs.declared.Verified.the-variants.{Refused, NothingAsked, Asked}
 use Rattle.design.specs.Verified.{told, verified, unroomed, over, callWords, marks, writtenMarks}
@@ -93,27 +92,26 @@ module _ {w : List ℕ} {x : Extent} {table : List ℕ} (ready : Ready w x table
   pub table-low : length table ≤ 4096
   table-low = let low = accepted-read w (ready .is) .low in let size = ready .size in omega arith
 
-  -- Room for the obligations of a small design, and of any.
-  pub small-room : length table ≤ 64 → x .netreps ≤ 96 → mostObligations (ready .d) ≤ 256
-  small-room slots pairs = let size = ready .size in let same = ready .netreps in omega arith
+  pub few-obligations : {calls names marks calls₁ names₁ marks₁ eqs₁ : List ℕ} {c : Counts} {s : Walked}
+      → Works (ready .d) calls names marks (replicate 12288 0) c calls₁ names₁ marks₁ eqs₁ s → s .obligations ≤ 12288
+  few-obligations works = works .few (let e = length-replicate {A = ℕ} 12288 0 in omega arith)
 
-  pub large-room : mostObligations (ready .d) ≤ 12288
-  large-room = most-low w (ready .is)
+  pub obligations-fit : {calls names marks calls₁ names₁ marks₁ eqs₁ : List ℕ} {c : Counts} {s : Walked}
+      → Works (ready .d) calls names marks (replicate 12288 0) c calls₁ names₁ marks₁ eqs₁ s → length eqs₁ ≡ length {A = ℕ} (replicate 12288 0)
+      → s .obligations ≤ length eqs₁
+  obligations-fit works long = let few = few-obligations works in let e = length-replicate {A = ℕ} 12288 0 in omega arith
 
-  pub obligations-fit : {calls names marks eqs calls₁ names₁ marks₁ eqs₁ : List ℕ} {c : Counts} {s : Walked}
-      → Works (ready .d) calls names marks eqs c calls₁ names₁ marks₁ eqs₁ s → mostObligations (ready .d) ≤ length eqs
-      → length eqs₁ ≡ length eqs → s .obligations ≤ length eqs₁
-  obligations-fit works room long = let few = works .few room in omega arith
-
-  pub passes : {calls names marks eqs calls₁ names₁ marks₁ eqs₁ calls₂ : List ℕ} {s : Walked} {c₂ : Counts} → length calls < 2 ^ 64
-      → marks ≡ replicate (length table) 0 → names ≡ replicate (4 * length table) 0
-      → Works (ready .d) calls names marks eqs nothing calls₁ names₁ marks₁ eqs₁ s → mostObligations (ready .d) ≤ length eqs
-      → length eqs₁ ≡ length eqs → Asks (take (s .obligations) eqs₁) calls₁ (s .counts) calls₂ c₂
+  pub passes : {calls marks calls₁ names₁ marks₁ eqs₁ calls₂ : List ℕ} {s : Walked} {c₂ : Counts} → length calls < 2 ^ 64
+      → marks ≡ replicate (length table) 0
+      → Works (ready .d) calls (take (4 * length table) (replicate 16384 0)) marks (replicate 12288 0) nothing calls₁ names₁ marks₁ eqs₁ s
+      → length eqs₁ ≡ length {A = ℕ} (replicate 12288 0) → Asks (take (s .obligations) eqs₁) calls₁ (s .counts) calls₂ c₂
       → Passes (ready .d) calls calls₂ marks₁ (record { counts = c₂; obligations = s .obligations })
-  passes {eqs₁ = eqs₁} {s = s} short none unnamed works room long asks =
-      let first = works .first room in
-      let fit = obligations-fit works room long in
-      let did = rw (unnamed, none, ready .size, ← first) at (works .did) in
+  passes {eqs₁ = eqs₁} {s = s} short none works long asks =
+      let low = table-low in
+      let named = take-replicate (4 * length table) 16384 0 (omega arith) in
+      let first = works .first (let e = length-replicate {A = ℕ} 12288 0 in omega arith) in
+      let fit = obligations-fit works long in
+      let did = rw (named, none, ready .size, ← first) at (works .did) in
       let all = passed w (ready .is) short did asks in
       record {
         wrote = all .wrote;
@@ -183,7 +181,6 @@ record Reads (w : List ℕ) (x : Extent) : Type 0 where
   d : Design
   is : read w ≡ accepted d (x .replacements) (x .pairs)
   slots : x .base + x .added ≡ total d
-  netreps : x .netreps ≡ length (d .netReps)
 
 module _ (w : List ℕ) {before after : List ℕ} {a : SlotTable} (long : length before ≡ 4096) (tabled : Tabled (read w) before after a) where
   reads : {x : Extent} → a ≡ T.Filled x → Reads w x
@@ -207,7 +204,6 @@ module _ (w : List ℕ) {before after : List ℕ} {a : SlotTable} (long : length
             d = d;
             is = rw (← same-x) is;
             slots = rw (← same-x) refl;
-            netreps = rw (← same-x) refl;
           }
 
   pub slots-low : {x : Extent} → a ≡ T.Filled x → x .base + x .added ≤ 4096
@@ -231,7 +227,6 @@ module _ (w : List ℕ) {before after : List ℕ} {a : SlotTable} (long : length
         is = known .is;
         tells = tells;
         size = sym count ∙ same;
-        netreps = known .netreps;
       }
 
   reads-refused : {e : Fault} → a ≡ T.Refused e → read w ≡ refused e

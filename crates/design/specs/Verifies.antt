@@ -1,7 +1,7 @@
 -- What the code of the order of work is given and what it leaves: `verify` is to answer `verified`, and to leave the two slices as it says.
 use mathlib.Core.Path.{_≡_}
 use mathlib.Core.List.{List}
-use Prim.Native.Nat.{ℕ, zero, suc, _≤_}
+use Prim.Native.Nat.{ℕ, zero, suc}
 use lib.ListN.{length}
 use Rattle.cell.specs.Design.{Design, total}
 use Rattle.engine.specs.Encode.{encode}
@@ -11,23 +11,17 @@ use Rattle.design_list.specs.Read.{accepted, read}
 use Rattle.order.specs.Verify.{built, verify}
 use Rattle.builder.specs.declared.Counts.{Counts}
 use Rattle.slots.specs.Tells.{Tells}
-use Rattle.walk.specs.Works.{mostObligations}
 use Rattle.design.specs.declared.Tally.{Tally}
 use Rattle.design.specs.declared.Verified.{Verified}
 use Rattle.design.specs.declared.Verified.the-variants.{NothingAsked, Asked}
 use Rattle.design.specs.Verified.{counted, told, verified, callsAfter, recordedAfter}
 
--- An accepted list with the table of its slots and what the reader counted.
+-- An accepted list with the table of its slots.
 pub record Ready (w : List ℕ) (x : Extent) (table : List ℕ) : Type 0 where
   pub d : Design
   pub is : read w ≡ accepted d (x .replacements) (x .pairs)
   pub tells : Tells d table
   pub size : length table ≡ total d
-  pub netreps : x .netreps ≡ length (d .netReps)
-
--- Room for the terms of its obligations.
-abbrev pub Roomy : List ℕ → Extent → List ℕ → ℕ → Type 0
-Roomy w x table room = (ready : Ready w x table) → mostObligations (ready .d) ≤ room
 
 -- The answer of a pass, by its number of obligations.
 abbrev pub toldBy : ℕ → Counts → Verified

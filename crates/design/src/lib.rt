@@ -5,10 +5,9 @@ use design_list::Extent;
 use design_list::SlotTable;
 use logic::Fault;
 ghost use mathlib.Core.Path.{_≡_};
-ghost use Prim.Native.Nat.{_*_, _≤_};
 ghost use lib.ListN.{length, replicate};
 ghost use Rattle.design.specs.Verified.{unroomed};
-ghost use Rattle.design.specs.Verifies.{Ready, Roomy, toldBy, Tallied, Passes, Verifies};
+ghost use Rattle.design.specs.Verifies.{Ready, toldBy, Tallied, Passes, Verifies};
 
 // A refusal, a list with no obligation, or one whose obligations are asked.
 pub enum Verified {
@@ -23,35 +22,31 @@ struct Tally {
     obligations: usize,
 }
 
-// The steps of an accepted list and `check`, from no names and no marks, with room for its obligations' terms.
-fn pass_in(
-    list: &[u32],
-    x: Extent,
-    table: &[u32],
-    calls: &mut [u32],
-    names: &mut [u32],
-    marks: &mut [u8],
-    eqs: &mut [u32],
-) -> Tally
-    requires { ⌜ Ready (now list) x (now table) × (now marks ≡ replicate (length (now table)) 0)
-        × (now names ≡ replicate (4 * length (now table)) 0) × Roomy (now list) x (now table) (length (now eqs)) ⌝ }
+// The steps of an accepted list and `check`, from no names and no marks.
+fn pass(list: &[u32], x: Extent, table: &[u32], calls: &mut [u32], marks: &mut [u8]) -> Tally
+    requires { ⌜ Ready (now list) x (now table) × (now marks ≡ replicate (length (now table)) 0) ⌝ }
     ensures { λ r. ⌜ ((ready : Ready (now (list .entry)) x (now (table .entry))) → Passes (ready .d)
         (now (calls .entry)) (now (calls .exit)) (now (marks .exit)) r) ⌝ }
 {
+    let mut names = [0u32; 16384];
+    let mut eqs = [0u32; 12288];
+    let places = 4 * table.len();
     let nothing = Counts {
         terms: 0,
         temporaries: 0,
         words: 0,
     };
+    let replacements = x.replacements;
+    let pairs = x.pairs;
     let s = walk::work(
         list,
-        x.replacements,
-        x.pairs,
+        replacements,
+        pairs,
         table,
         calls,
-        names,
+        &mut names[..places],
         marks,
-        eqs,
+        &mut eqs,
         nothing,
     );
     let obligations = s.obligations;
@@ -60,45 +55,6 @@ fn pass_in(
         counts,
         obligations,
     }
-}
-
-// A pass over a design of at most 64 slots and 96 net replacements, with tables of its size.
-fn small_pass(list: &[u32], x: Extent, table: &[u32], calls: &mut [u32], marks: &mut [u8]) -> Tally
-    requires { ⌜ Ready (now list) x (now table) × (now marks ≡ replicate (length (now table)) 0)
-        × (length (now table) ≤ 64) × (x .netreps ≤ 96) ⌝ }
-    ensures { λ r. ⌜ ((ready : Ready (now (list .entry)) x (now (table .entry))) → Passes (ready .d)
-        (now (calls .entry)) (now (calls .exit)) (now (marks .exit)) r) ⌝ }
-{
-    let mut names = [0u32; 256];
-    let mut eqs = [0u32; 256];
-    let places = 4 * table.len();
-    pass_in(list, x, table, calls, &mut names[..places], marks, &mut eqs)
-}
-
-// A pass over a design of any size.
-fn large_pass(list: &[u32], x: Extent, table: &[u32], calls: &mut [u32], marks: &mut [u8]) -> Tally
-    requires { ⌜ Ready (now list) x (now table) × (now marks ≡ replicate (length (now table)) 0) ⌝ }
-    ensures { λ r. ⌜ ((ready : Ready (now (list .entry)) x (now (table .entry))) → Passes (ready .d)
-        (now (calls .entry)) (now (calls .exit)) (now (marks .exit)) r) ⌝ }
-{
-    let mut names = [0u32; 16384];
-    let mut eqs = [0u32; 12288];
-    let places = 4 * table.len();
-    pass_in(list, x, table, calls, &mut names[..places], marks, &mut eqs)
-}
-
-// A pass over an accepted list, from no names and no marks.
-fn pass(list: &[u32], x: Extent, table: &[u32], calls: &mut [u32], marks: &mut [u8]) -> Tally
-    requires { ⌜ Ready (now list) x (now table) × (now marks ≡ replicate (length (now table)) 0) ⌝ }
-    ensures { λ r. ⌜ ((ready : Ready (now (list .entry)) x (now (table .entry))) → Passes (ready .d)
-        (now (calls .entry)) (now (calls .exit)) (now (marks .exit)) r) ⌝ }
-{
-    if table.len() <= 64 {
-        if x.netreps <= 96 {
-            return small_pass(list, x, table, calls, marks);
-        }
-    }
-    large_pass(list, x, table, calls, marks)
 }
 
 // What a pass over an accepted list counts where it writes nowhere.
