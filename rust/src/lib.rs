@@ -2,7 +2,7 @@
 //!
 //! Words, fault numbers and places are those of `include/virginalmimas.h`. Any words may be handed in: a bad list is
 //! refused with the number and place of its first fault, and a refusal leaves every lent slice as it was. There is no
-//! heap; tables are on the stack, so a thread that calls `evaluate` or `script` needs 2 MB of it.
+//! heap; tables are on the stack, so a thread that calls an entry needs 192 KB of it.
 
 /// The entries, as `include/virginalmimas.h` declares them.
 mod entries {
