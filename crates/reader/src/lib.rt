@@ -1,0 +1,37 @@
+// A reader over the caller's words with its place: each function takes it apart and calls the one on a list and a place.
+ghost use mathlib.Core.Path.{_≡_};
+ghost use Rattle.fields.specs.Head.{headAt};
+
+// The words of a list, and a place among them.
+pub struct Reader<'a> {
+    list: &'a [u32],
+    at: usize,
+}
+
+// A reader at the first word of a list.
+pub fn open<'a>(list: &'a [u32]) -> Reader<'a>
+    ensures { λ r. ⌜ (r .list ≡ list .entry) × (r .at ≡ 0) ⌝ }
+{
+    Reader { list, at: 0 }
+}
+
+// The place of a reader.
+pub fn place<'a>(r: Reader<'a>) -> usize
+    ensures { λ n. ⌜ n ≡ r .entry .at ⌝ }
+{
+    r.at
+}
+
+// The reader of the same list at another place.
+pub fn moved<'a>(r: Reader<'a>, at: usize) -> Reader<'a>
+    ensures { λ q. ⌜ (q .list ≡ r .entry .list) × (q .at ≡ at) ⌝ }
+{
+    Reader { list: r.list, at }
+}
+
+// The head of the record at a reader's place.
+pub fn head<'a>(r: Reader<'a>) -> fields::Head
+    ensures { λ h. ⌜ h ≡ headAt (now (r .entry .list)) (r .entry .at) ⌝ }
+{
+    fields::head_at(r.list, r.at)
+}
