@@ -157,7 +157,7 @@ fn replacement_at(
 {
     match listed_number_at(list, at) {
         Number::Refused(f) => CellStep::Refused(f),
-        Number::Value { n, next: start } => match cell_reader::record_at(list, total, start) {
+        Number::Value { n, next: start } => match reader::record_in(list, total, start) {
             Record::Refused(f) => CellStep::Refused(f),
             Record::Read { op, width, next } => {
                 let slot = Slot(n);

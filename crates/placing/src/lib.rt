@@ -50,7 +50,7 @@ fn placed_at(list: &[u32], base: usize, total: usize, slot: Slot, at: usize) -> 
     requires { ⌜ slot .0 < 2 ^ 17 ⌝ }
     ensures { λ r. ⌜ r ≡ placedAt (now (list .entry)) base total (slot .0) at ⌝ }
 {
-    match cell_reader::record_at(list, total, at) {
+    match reader::record_in(list, total, at) {
         Record::Refused(f) => Placing::Refused(f),
         Record::Read { op, width, next } => {
             let after = slot.0 as usize + slots_of(width);

@@ -1,6 +1,7 @@
 // A reader over the caller's words with its place: each function takes it apart and calls the one on a list and a place.
 ghost use mathlib.Core.Path.{_≡_};
 ghost use Rattle.fields.specs.Head.{headAt};
+ghost use Rattle.cell_reader.specs.Record.{recordAt};
 
 // The words of a list, and a place among them.
 pub struct Reader<'a> {
@@ -34,4 +35,18 @@ pub fn head<'a>(r: Reader<'a>) -> fields::Head
     ensures { λ h. ⌜ h ≡ headAt (now (r .entry .list)) (r .entry .at) ⌝ }
 {
     fields::head_at(r.list, r.at)
+}
+
+// The record at a reader's place.
+pub fn record<'a>(r: Reader<'a>, total: usize) -> cell_reader::Record
+    ensures { λ c. ⌜ c ≡ recordAt (now (r .entry .list)) total (r .entry .at) ⌝ }
+{
+    cell_reader::record_at(r.list, total, r.at)
+}
+
+// The record at a place of a list, through a reader.
+pub fn record_in(list: &[u32], total: usize, at: usize) -> cell_reader::Record
+    ensures { λ c. ⌜ c ≡ recordAt (now (list .entry)) total at ⌝ }
+{
+    record(moved(open(list), at), total)
 }

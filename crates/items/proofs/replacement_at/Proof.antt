@@ -19,13 +19,13 @@ returns c =
     let at-if1 = c .before in
     let at-replaces = at-if1 .before in
     let at-op = at-replaces .before .before in
-    let at-record-at = at-op .before .before in
-    let at-n = at-record-at .before .before in
+    let at-record-in = at-op .before .before in
+    let at-n = at-record-in .before .before in
     let at-listed-number-at = at-n .before .before in
     rw (
       ← at-listed-number-at .listed-number-at .ensures,
       at-n .n .given .1,
-      ← at-record-at .record-at .ensures,
+      ← at-record-in .record-in .ensures,
       at-op .op .given .1,
       ← at-replaces .replaces .ensures,
       at-if1 .if1 .taken,
@@ -43,13 +43,13 @@ returns-3 : tie.Need-returns-3
 unfolding replacementAt
 returns-3 c =
     let at-f2 = c .before in
-    let at-record-at = at-f2 .before .before in
-    let at-n = at-record-at .before .before in
+    let at-record-in = at-f2 .before .before in
+    let at-n = at-record-in .before .before in
     let at-listed-number-at = at-n .before .before in
     rw (
       ← at-listed-number-at .listed-number-at .ensures,
       at-n .n .given .1,
-      ← at-record-at .record-at .ensures,
+      ← at-record-in .record-in .ensures,
       at-f2 .f2 .given .1,
     )
 
@@ -58,13 +58,13 @@ unfolding replacementAt
 returns-4 c =
     let at-replaces = c .before in
     let at-op = at-replaces .before .before in
-    let at-record-at = at-op .before .before in
-    let at-n = at-record-at .before .before in
+    let at-record-in = at-op .before .before in
+    let at-n = at-record-in .before .before in
     let at-listed-number-at = at-n .before .before in
     rw (
       ← at-listed-number-at .listed-number-at .ensures,
       at-n .n .given .1,
-      ← at-record-at .record-at .ensures,
+      ← at-record-in .record-in .ensures,
       at-op .op .given .1,
       ← at-replaces .replaces .ensures,
       c .if1 .left,

@@ -11,21 +11,21 @@ use Rattle.placing.proofs.placed_at.Tie as tie
 add-after : tie.Need-add-after
 add-after c =
     let at-op = c .before .before .before in
-    let read = record-read _ _ _ (sym (at-op .before .before .record-at .ensures) ∙ at-op .op .given .1) in
+    let read = record-read _ _ _ (sym (at-op .before .before .record-in .ensures) ∙ at-op .op .given .1) in
     omega (arith, read .low-width, c .slots-of .ensures)
 
 cast-after : tie.Need-cast-t17
 cast-after c =
     let at-slots-of = c .before .before in
     let at-op = at-slots-of .before .before .before in
-    let read = record-read _ _ _ (sym (at-op .before .before .record-at .ensures) ∙ at-op .op .given .1) in
+    let read = record-read _ _ _ (sym (at-op .before .before .record-in .ensures) ∙ at-op .op .given .1) in
     omega (arith, read .low-width, at-slots-of .slots-of .ensures)
 
 returns : tie.Need-returns
 unfolding placedAt
 returns c =
     rw (
-      ← c .before .before .before .record-at .ensures,
+      ← c .before .before .before .record-in .ensures,
       c .before .f .given .1,
     )
 
@@ -35,9 +35,9 @@ returns-2 c =
     let at-limit-of = c .before in
     let at-slots-of = at-limit-of .before in
     let at-op = at-slots-of .before .before .before in
-    let at-record-at = at-op .before .before in
+    let at-record-in = at-op .before .before in
     rw (
-      ← at-record-at .record-at .ensures,
+      ← at-record-in .record-in .ensures,
       at-op .op .given .1,
       ← at-slots-of .slots-of .ensures,
       ← at-limit-of .limit-of .ensures,
@@ -50,9 +50,9 @@ returns-3 c =
     let at-limit-of = c .before in
     let at-slots-of = at-limit-of .before in
     let at-op = at-slots-of .before .before .before in
-    let at-record-at = at-op .before .before in
+    let at-record-in = at-op .before .before in
     rw (
-      ← at-record-at .record-at .ensures,
+      ← at-record-in .record-in .ensures,
       at-op .op .given .1,
       ← at-slots-of .slots-of .ensures,
       ← at-limit-of .limit-of .ensures,
