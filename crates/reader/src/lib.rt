@@ -1,5 +1,6 @@
 // A reader over the caller's words with its place: each function takes it apart and calls the one on a list and a place.
 ghost use mathlib.Core.Path.{_≡_};
+ghost use Rattle.fields.specs.Field.{numberAt, netAt, constantAt};
 ghost use Rattle.fields.specs.Head.{headAt};
 ghost use Rattle.cell_reader.specs.Record.{recordAt};
 
@@ -28,6 +29,27 @@ pub fn moved<'a>(r: Reader<'a>, at: usize) -> Reader<'a>
     ensures { λ q. ⌜ (q .list ≡ r .entry .list) × (q .at ≡ at) ⌝ }
 {
     Reader { list: r.list, at }
+}
+
+// The number at a reader's place.
+pub fn number<'a>(r: Reader<'a>, bound: u32, end: usize) -> fields::Number
+    ensures { λ n. ⌜ n ≡ numberAt (now (r .entry .list)) bound end (r .entry .at) ⌝ }
+{
+    fields::number_at(r.list, bound, end, r.at)
+}
+
+// The net at a reader's place, of a kind up to `most`.
+pub fn net<'a>(r: Reader<'a>, total: usize, most: u32, end: usize) -> fields::Scan
+    ensures { λ s. ⌜ s ≡ netAt (now (r .entry .list)) total most end (r .entry .at) ⌝ }
+{
+    fields::net_at(r.list, total, most, end, r.at)
+}
+
+// The constant at a reader's place.
+pub fn constant<'a>(r: Reader<'a>, end: usize) -> fields::Scan
+    ensures { λ s. ⌜ s ≡ constantAt (now (r .entry .list)) end (r .entry .at) ⌝ }
+{
+    fields::constant_at(r.list, end, r.at)
 }
 
 // The head of the record at a reader's place.
