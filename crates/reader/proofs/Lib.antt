@@ -1,2 +1,4 @@
+pub mod Held
 pub mod Locals
+pub mod Runs
 pub mod Thin
