@@ -1,4 +1,5 @@
 pub mod Held
 pub mod Locals
+pub mod Numbers
 pub mod Runs
 pub mod Thin

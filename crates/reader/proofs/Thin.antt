@@ -28,7 +28,7 @@ use types.Part.{whole, sub, look-in}
 use types.Run.{look, init, forget, stop, fld, from, load, of-opd, and-then, assigns, land, returns, enter, alloc1, alloc0}
 use types.Run.{params1, pass1, free1, free0}
 use sound.WpLaws.{FmC}
-use denote.RattleType.{RattleType, Denots, owns}
+use denote.RattleType.{RattleType, owns}
 use denote.Laws.{Is, Ises, Are, Tellss, shows}
 use denote.Plain.{UInt, uint-tells, uint-makes}
 use denote.Builtin.{u32, usize, SliceRef}
@@ -51,8 +51,9 @@ use Rattle.reader.specs.declared.Reader.{Reader}
 use Rattle.reader.proofs.Reader.Laws as T′
 use Rattle.reader.proofs.Held.{B, D, L, spells, tells, typed, twice}
 use Rattle.reader.proofs.Runs.{runs}
-use Rattle.reader.proofs.Locals.{numbers, numbers-with, locals, after, env-after, copies, Nums, Fit, spelt, machine}
-use Rattle.reader.proofs.Locals.{words, with-last, machine-with, allocs-all, passes-all, frees-all, at-local, loads-all}
+use Rattle.reader.proofs.Numbers.{numbers, snoc, stays, goes, Nums, Fit, spelt, machine, words, tell, fit, with-last}
+use Rattle.reader.proofs.Numbers.{fit-with, ends, fits, owned-by, makes-owned, had-of, makes-had}
+use Rattle.reader.proofs.Locals.{locals, after, env-after, copies, allocs-all, passes-all, frees-all, at-local, loads-with}
 
 -- the MIR type of a list in a local of a body
 abbrev list-type : Ty
@@ -62,79 +63,21 @@ list-type = head (ShrSlice erased [] u32 .mir)
     head [] = tyInt w64
     head (τ ∷ τs) = τ
 
--- the numbers at exit: they are as they were passed
-abbrev stays : (ws : List Width) → Stays (numbers ws) (all yes (numbers ws))
-stays [] = tt
-stays (w ∷ ws) = (stay-none (λ _. UInt w) yes, stays ws)
-
-module _ (κs : Lfts 1) where
-  abbrev lasts-of : (ws : List Width) (ns : Nums κs ws) → Fins κs (numbers ws) (all yes (numbers ws)) ns
-  lasts-of [] ns = tt
-  lasts-of (w ∷ ws) ns = (tt, lasts-of ws (ns .1))
-
-  fits-of :
-      (ws : List Width) (ns : Nums κs ws) →
-      fitsOf κs (numbers ws) (all yes (numbers ws)) (stays ws) ns (lasts-of ws ns)
-  fits-of [] ns = tt
-  fits-of (w ∷ ws) ns = (tt, fits-of ws (ns .1))
-
-  tell : (ws : List Width) → Tellss (typesAt (numbers ws) κs) (Ises (typesAt (numbers ws) κs)) (spelt κs ws)
-  tell [] = tt
-  tell (w ∷ ws) = (uint-tells w, tell ws)
-
-  fit :
-      (ws : List Width) (ns : Nums κs ws) →
-      Are (typesAt (numbers ws) κs) (Ises (typesAt (numbers ws) κs)) ns (machine κs ws ns) → Fit κs ws ns
-  fit [] ns are = tt
-  fit (w ∷ ws) ns are = (are .0 .1, fit ws (ns .1) (are .1))
-
-  -- what the numbers own at exit
-  abbrev left : (ws : List Width) → Nums κs ws → Fml
-  left ws ns = hasOf κs (numbers ws) (all yes (numbers ws)) (stays ws) ns (lasts-of ws ns) (machine κs ws ns)
-
-  -- what the numbers and the place own, as the callee's parameters
-  abbrev given-over : (ws : List Width) → Nums κs ws → ℕ → Fml
-  given-over ws ns n = owns (typesAt (numbers-with ws) κs) (with-last κs ws ns n) (machine-with κs ws ns n)
-
-  -- both are had for nothing
-  module _ {M : Type 1} (𝓤 : URA M) (H : Heap 𝓤) (A : Atoms 𝓤) (W : Given 𝓤 H A) where
-    makes-left : (ws : List Width) (ns : Nums κs ws) → Fit κs ws ns → ent 𝓤 (emp 𝓤) (sem 𝓤 H A (left ws ns))
-    makes-left [] ns ok = id⊢ 𝓤 (emp 𝓤)
-    makes-left (w ∷ ws) ns ok =
-        qed W [] ∵ use0 W (‵ (left ws (ns .1))) (makes-left ws (ns .1) (ok .1)) $
-        owned ! (UInt w) (Is (UInt w)) (uint-makes 𝓤 H A W w) (ns .0) _ (refl, ok .0) $ fjoin ! $ done !
-
-    makes-given :
-        (ws : List Width) (ns : Nums κs ws) (n : ℕ) → Fit κs ws ns → n < 2 ^ 64 →
-        ent 𝓤 (emp 𝓤) (sem 𝓤 H A (given-over ws ns n))
-    makes-given [] ns n ok fits =
-        qed W [] ∵ nothing ! $ owned ! usize (Is usize) (uint-makes 𝓤 H A W w64) n _ (refl, fits) $ fjoin ! $ done !
-    makes-given (w ∷ ws) ns n ok fits =
-        qed W [] ∵ use0 W (‵ (given-over ws (ns .1) n)) (makes-given ws (ns .1) n (ok .1) fits) $
-        owned ! (UInt w) (Is (UInt w)) (uint-makes 𝓤 H A W w) (ns .0) _ (refl, ok .0) $ fjoin ! $ done !
-
-goes :
-    {M : Type 1} (𝓤 : URA M) (H : Heap 𝓤) (A : Atoms 𝓤) (W : Given 𝓤 H A) (ws : List Width) →
-    AllGo 𝓤 H A W 1 (numbers ws) (all yes (numbers ws)) (stays ws)
-goes 𝓤 H A W [] = tt
-goes 𝓤 H A W (w ∷ ws) = (goes-none 𝓤 H A W 1 (λ _. UInt w) yes (λ κs x f. refl), goes 𝓤 H A W ws)
-
--- ws: the numbers' widths; R: the result's type, of the MIR type ρ; callee: the function called; f: what its result is
-module _ (ws : List Width) (R : RattleType) (ρ : Ty) (callee : Name)
-    (f : (κs : Lfts 1) → List ℕ → Denots (typesAt (numbers-with ws) κs) → R .Denot) where
+-- ws: the numbers' widths; R: the result's type; f: what the result is
+module _ (ws : List Width) (R : RattleType) (f : (κs : Lfts 1) → List ℕ → Nums κs (snoc ws) → R .Denot) where
   -- the signatures of the function called, and of the thin one
-  abbrev called : Ended
+  abbrev pub called : Ended
   called = record {
     signature = record {
       lifetimes = 1;
       outlives = [];
-      params = SliceRef 0 tt u32 tt ∷ numbers-with ws;
+      params = SliceRef 0 tt u32 tt ∷ numbers (snoc ws);
       result = plain (λ _. R);
     };
-    kept = all yes (SliceRef 0 tt u32 tt ∷ numbers-with ws);
+    kept = all yes (SliceRef 0 tt u32 tt ∷ numbers (snoc ws));
   }
 
-  abbrev thin : Ended
+  abbrev pub thin : Ended
   thin = record {
     signature = record { lifetimes = 1; outlives = []; params = plain B ∷ numbers ws; result = plain (λ _. R) };
     kept = all yes (plain B ∷ numbers ws);
@@ -142,171 +85,178 @@ module _ (ws : List Width) (R : RattleType) (ρ : Ty) (callee : Name)
 
   -- what each says
   module _ {M : Type 1} (𝓤 : URA M) where
-    abbrev called-says : Clauses 𝓤 called
+    abbrev pub called-says : Clauses 𝓤 called
     called-says κs a = record {
       ghost = Unit {0};
       requires = λ g. emp 𝓤;
       ensures = λ g r e. fact 𝓤 (r ≡ f κs (now (a .0)) (a .1));
     }
 
-    abbrev thin-says : Clauses 𝓤 thin
+    abbrev pub thin-says : Clauses 𝓤 thin
     thin-says κs a = record {
       ghost = Unit {0};
       requires = λ g. emp 𝓤;
       ensures = λ g r e. fact 𝓤 (r ≡ f κs (now (a .0 .list)) (with-last κs ws (a .1) (a .0 .at)));
     }
 
-  -- the locals of the list and of the place, after the numbers'
-  abbrev the-list : ℕ
-  the-list = suc (suc (after 0 ws))
+    module _ (H : Heap 𝓤) (A : Atoms 𝓤) where
+      abbrev pub Called : Contract 𝓤
+      Called = tripleOf 𝓤 H A (called .signature) (closing 𝓤 H A called called-says)
 
-  abbrev the-place : ℕ
-  the-place = suc (suc (after 1 ws))
+      abbrev pub Thin : Contract 𝓤
+      Thin = tripleOf 𝓤 H A (thin .signature) (closing 𝓤 H A thin thin-says)
 
-  abbrev code : Fn
-  code = record {
-    lifetimes = 1;
-    outlives = [];
-    params = suc (after 0 ws);
-    locals = local ρ valueLocal ∷ local (T′.mir (named 0)) valueLocal ∷
-        locals ws (local list-type valueLocal ∷ local (tyInt w64) valueLocal ∷ []);
-    body = seq (assign (place the-list []) (rvOpd (copy (place 1 (field 0 ∷ [])))))
-        (seq (assign (place the-place []) (rvOpd (copy (place 1 (field 1 ∷ [])))))
-        (seq
-        (call callee (copy (place the-list []) ∷ copies (λ j. suc (suc j)) ws (copy (place the-place []) ∷ []))
-        (place 0 []))
-        return));
-  }
+  -- ρ: the MIR type of the result; callee: the function called
+  module _ (ρ : Ty) (callee : Name) where
+    -- the locals of the list and of the place, after the numbers'
+    abbrev the-list : ℕ
+    the-list = suc (suc (after 0 ws))
 
-  abbrev stayed : Stays (thin .signature .params) (thin .kept)
-  stayed = (stay-none B yes, stays ws)
+    abbrev the-place : ℕ
+    the-place = suc (suc (after 1 ws))
 
-  module _ {M : Type 1} (𝓤 : URA M) (H : Heap 𝓤) (A : Atoms 𝓤) where
-    abbrev Called : Contract 𝓤
-    Called = tripleOf 𝓤 H A (called .signature) (closing 𝓤 H A called (called-says 𝓤))
+    abbrev code : Fn
+    code = record {
+      lifetimes = 1;
+      outlives = [];
+      params = suc (after 0 ws);
+      locals = local ρ valueLocal ∷ local (T′.mir (named 0)) valueLocal ∷
+          locals ws (local list-type valueLocal ∷ local (tyInt w64) valueLocal ∷ []);
+      body = seq (assign (place the-list []) (rvOpd (copy (place 1 (field 0 ∷ [])))))
+          (seq (assign (place the-place []) (rvOpd (copy (place 1 (field 1 ∷ [])))))
+          (seq
+          (call callee (copy (place the-list []) ∷ copies (λ j. suc (suc j)) ws (copy (place the-place []) ∷ []))
+          (place 0 []))
+          return));
+    }
 
-    module _ (W : Given 𝓤 H A) (κ : Lft) (q : Share) (d : Reader) (ns : Nums (κ, tt) ws) (ok : Fit (κ, tt) ws ns) where
-      abbrev mach : Val
-      mach = T′.lowered d
+    abbrev stayed : Stays (thin .signature .params) (thin .kept)
+    stayed = (stay-none B yes, stays ws)
 
-      -- the machine value of the list
-      abbrev v : Val
-      v = sliceVal (d .list .ptr) (length (d .list .now))
+    module _ {M : Type 1} (𝓤 : URA M) (H : Heap 𝓤) (A : Atoms 𝓤) where
+      module _ (W : Given 𝓤 H A) (κ : Lft) (q : Share) (d : Reader) (ns : Nums (κ, tt) ws) (ok : Fit (κ, tt) ws ns) where
+        abbrev mach : Val
+        mach = T′.lowered d
 
-      abbrev values : Vals (thin .signature) (κ, tt)
-      values = (mach ∷ [], machine (κ, tt) ws ns)
+        -- the machine value of the list
+        abbrev v : Val
+        v = sliceVal (d .list .ptr) (length (d .list .now))
 
-      abbrev Entry : SProp 𝓤
-      Entry = onEntry 𝓤 H A (thin .signature) (κ, tt) (q, tt) (d, ns) values
+        abbrev values : Vals (thin .signature) (κ, tt)
+        values = (mach ∷ [], machine (κ, tt) ws ns)
 
-      abbrev Post : Val → SProp 𝓤
-      Post = walkOf 𝓤 H A thin stayed (thin-says 𝓤) .post (((κ, tt), (q, tt), tt, (d, ns), values), tt)
+        abbrev Entry : SProp 𝓤
+        Entry = onEntry 𝓤 H A (thin .signature) (κ, tt) (q, tt) (d, ns) values
 
-      abbrev Own : Fml
-      Own = B (κ, tt) .own d (mach ∷ [])
+        abbrev Post : Val → SProp 𝓤
+        Post = walkOf 𝓤 H A thin stayed (thin-says 𝓤) .post (((κ, tt), (q, tt), tt, (d, ns), values), tt)
 
-      -- d's fields' values
-      abbrev vd : Values (D (κ, tt) .parts)
-      vd = (d .list, (d .at, tt))
+        abbrev Own : Fml
+        Own = B (κ, tt) .own d (mach ∷ [])
 
-      -- what the callee is passed, and what its result is
-      abbrev args : Args (called .signature) (κ, tt)
-      args = (d .list, with-last (κ, tt) ws ns (d .at))
+        -- d's fields' values
+        abbrev vd : Values (D (κ, tt) .parts)
+        vd = (d .list, (d .at, tt))
 
-      abbrev passed : Vals (called .signature) (κ, tt)
-      passed = (v ∷ [], machine-with (κ, tt) ws ns (d .at))
+        -- what the callee is passed, and what its result is
+        abbrev args : Args (called .signature) (κ, tt)
+        args = (d .list, with-last (κ, tt) ws ns (d .at))
 
-      abbrev to : Called .Ghost
-      to = (((κ, tt), (q, tt), tt, args, passed), tt)
+        abbrev passed : Vals (called .signature) (κ, tt)
+        passed = (v ∷ [], machine (κ, tt) (snoc ws) (with-last (κ, tt) ws ns (d .at)))
 
-      abbrev found : R .Denot
-      found = f (κ, tt) (now (d .list)) (with-last (κ, tt) ws ns (d .at))
+        abbrev to : Called 𝓤 H A .Ghost
+        to = (((κ, tt), (q, tt), tt, args, passed), tt)
 
-      asked : ent 𝓤 (onEntry 𝓤 H A (called .signature) (κ, tt) (q, tt) args passed) (Called .pre to)
-      asked =
-          qed W ((‵ (flft κ q) ⊛ ‵ ftrue) ∷ ‵ (owns (typesAt (called .signature .params) (κ, tt)) args passed) ∷ []) ∵
-          join ! $ frame ! $ done !
+        abbrev found : R .Denot
+        found = f (κ, tt) (now (d .list)) (with-last (κ, tt) ws ns (d .at))
 
-      -- what the struct owns gives what the callee asks, and is kept
-      apart : d .at < 2 ^ 64 → ent 𝓤 Entry (sep 𝓤 (Called .pre to) (sem 𝓤 H A Own))
-      apart fits =
-          let parts = D (κ, tt) .parts in
-          qed W ((‵ (flft κ q) ⊛ ‵ ftrue) ∷ ‵ (owns (typesAt (thin .signature .params) (κ, tt)) (d, ns) values) ∷ []) ∵
-          move ! (1 ∷ []) $ fsplit ! $ move ! (1 ∷ []) $ drop ! $
-          use1 W (‵ Own ⊛ ‵ Own) (twice (κ, tt) 𝓤 H A W d mach) $ split ! $
-          use1 W (given (mach ∷ [] ≡ mach ∷ []) (‵ (all-own parts (L (κ, tt)) vd)))
-          (own-open 𝓤 H A W (D (κ, tt)) (L (κ, tt)) vd mach) $ learn ! (λ _.
-          use1 W (‵ (ownAt parts (L (κ, tt)) 0 (d .list)) ⊛ ‵ (rest parts (L (κ, tt)) 0 vd))
-          (own-out 𝓤 H A W parts (L (κ, tt)) 0 vd) $ split ! $
-          -- [what the list owns; what the place owns; what the struct owns; the token]
-          move ! (1 ∷ []) $ drop ! $
-          use0 W (‵ (given-over (κ, tt) ws ns (d .at))) (makes-given (κ, tt) 𝓤 H A W ws ns (d .at) ok fits) $
-          move ! (1 ∷ 0 ∷ []) $ fjoin ! $
-          move ! (2 ∷ 0 ∷ []) $ use2 W (raw (Called .pre to)) asked $ frame ! $ done !)
+        asked : ent 𝓤 (onEntry 𝓤 H A (called .signature) (κ, tt) (q, tt) args passed) (Called 𝓤 H A .pre to)
+        asked =
+            qed W ((‵ (flft κ q) ⊛ ‵ ftrue) ∷ ‵ (owns (typesAt (called .signature .params) (κ, tt)) args passed) ∷ []) ∵
+            join ! $ frame ! $ done !
 
-      -- of the callee's `ensured`, the clause alone: it has no `&mut`, so what is said of last values is dropped
-      said : (r : R .Denot) → ent 𝓤 (ensured 𝓤 H A called (called-says 𝓤) (κ, tt) args tt r) (fact 𝓤 (r ≡ found))
-      said r = exE 𝓤 _ (λ xs. snd∗ 𝓤 (sem 𝓤 H A (lasts called (κ, tt) args xs)) (fact 𝓤 (r ≡ found)))
+        -- what the struct owns gives what the callee asks, and is kept
+        apart : d .at < 2 ^ 64 → ent 𝓤 Entry (sep 𝓤 (Called 𝓤 H A .pre to) (sem 𝓤 H A Own))
+        apart small =
+            let parts = D (κ, tt) .parts in
+            qed W ((‵ (flft κ q) ⊛ ‵ ftrue) ∷ ‵ (owns (typesAt (thin .signature .params) (κ, tt)) (d, ns) values) ∷ []) ∵
+            move ! (1 ∷ []) $ fsplit ! $ move ! (1 ∷ []) $ drop ! $
+            use1 W (‵ Own ⊛ ‵ Own) (twice (κ, tt) 𝓤 H A W d mach) $ split ! $
+            use1 W (given (mach ∷ [] ≡ mach ∷ []) (‵ (all-own parts (L (κ, tt)) vd)))
+            (own-open 𝓤 H A W (D (κ, tt)) (L (κ, tt)) vd mach) $ learn ! (λ _.
+            use1 W (‵ (ownAt parts (L (κ, tt)) 0 (d .list)) ⊛ ‵ (rest parts (L (κ, tt)) 0 vd))
+            (own-out 𝓤 H A W parts (L (κ, tt)) 0 vd) $ split ! $
+            -- [what the list owns; what the place owns; what the struct owns; the token]
+            move ! (1 ∷ []) $ drop ! $
+            use0 W (‵ (owned-by (κ, tt) (snoc ws) (args .1)))
+            (makes-owned (κ, tt) 𝓤 H A W (snoc ws) (args .1) (fit-with (κ, tt) ws ns (d .at) ok small)) $
+            move ! (1 ∷ 0 ∷ []) $ fjoin ! $
+            move ! (2 ∷ 0 ∷ []) $ use2 W (raw (Called 𝓤 H A .pre to)) asked $ frame ! $ done !)
 
-      exits :
-          (r : R .Denot) (u : Val) → r ≡ found →
-          ent 𝓤 (⋆ 𝓤 H A (‵ (R .own r (u ∷ [])) ∷ (‵ (flft κ q) ⊛ ‵ ftrue) ∷ ‵ Own ∷ [])) (Post u)
-      exits r u e =
-          qed W (‵ (R .own r (u ∷ [])) ∷ (‵ (flft κ q) ⊛ ‵ ftrue) ∷ ‵ Own ∷ []) ∵
-          suffices ! _
-          (ends-at 𝓤 H A thin stayed (thin-says 𝓤) W (((κ, tt), (q, tt), tt, (d, ns), values), tt) u r
-          (tt, lasts-of (κ, tt) ws ns) (tt, fits-of (κ, tt) ws ns)) $ says ! e $
-          move ! (1 ∷ []) $ frame ! $ use0 W (‵ (left (κ, tt) ws ns)) (makes-left (κ, tt) 𝓤 H A W ws ns ok) $
-          move ! (2 ∷ 0 ∷ []) $ fjoin ! $ frame ! $ done !
+        -- of the callee's `ensured`, the clause alone: it has no `&mut`, so what is said of last values is dropped
+        said : (r : R .Denot) → ent 𝓤 (ensured 𝓤 H A called (called-says 𝓤) (κ, tt) args tt r) (fact 𝓤 (r ≡ found))
+        said r = exE 𝓤 _ (λ xs. snd∗ 𝓤 (sem 𝓤 H A (lasts called (κ, tt) args xs)) (fact 𝓤 (r ≡ found)))
 
-      module _ (is-ρ : (r : R .Denot) (u : Val) → Is R r (u ∷ []) → Holds (hasTy ρ u) × WT u) (C : Calls 𝓤 H)
-          (Λ : Loops 𝓤 H) (fm : FmC 𝓤 H (W .laws) C) (known : Triple 𝓤 (C callee) Called) where
-        walk : Is (B (κ, tt)) d (mach ∷ []) → ent 𝓤 Entry (WpFn 𝓤 H C Λ code (mach ∷ words (κ, tt) ws ns) Post)
-        walk p =
-            let wt = typed (κ, tt) 𝓤 H A W d mach p in
-            qed W (raw Entry ∷ []) ∵ enter ! C Λ code (mach ∷ words (κ, tt) ws ns) _ $
-            alloc1 ! (λ l₀. alloc1 ! (λ l₁. allocs-all (κ, tt) ! ws (λ bs. alloc1 ! (λ l₂. alloc1 ! (λ l₃. alloc0 ! $
-            let E : List (Ty × ℕ) = (list-type, l₂) ∷ (tyInt w64, l₃) ∷ [] in
-            -- [room for the place; …; room for the list; …; rooms for the numbers; room for _1; …; room for _0; …; Entry]
-            params1 ! $ pass1 ! (init ! 5 refl wt) $ move ! (4 ∷ []) $ passes-all (κ, tt) ! ws bs ns ok E $
-            -- [the numbers; room for the place; …; room for the list; …; _1; …; room for _0; …; Entry]
-            assigns ! (of-opd ! (load ! (from ! (fld ! refl (stop !))) (look-in ! 5 (sub ! 0 refl (whole !)))))
-            (at-local ! (env-after 0 ws bs E _)) (init ! 3 refl (tt, wt .1 .0)) $
-            assigns ! (of-opd ! (load ! (from ! (fld ! refl (stop !))) (look-in ! 5 (sub ! 1 refl (whole !)))))
-            (at-local ! (env-after 1 ws bs E _)) (init ! 1 refl (tt, wt .1 .1 .0)) $
-            move ! (9 ∷ []) $ use1 W (raw (Called .pre to) ⊛ ‵ Own) (apart (wt .1 .1 .0 .fits)) $ split ! $
-            -- [what the callee asks; what the struct owns; the numbers; the place; …; the list; …; _1; …; room for _0; …]
-            calls-at ! fm Called known to
-            (and-then ! (load ! (at-local ! (env-after 0 ws bs E _)) (look ! 5 refl))
-            (loads-all (κ, tt) ! 2 ws bs ns (λ j. suc (suc j)) E (λ j. refl) refl
-            (load ! (at-local ! (env-after 1 ws bs E _)) (look ! 3 refl)))) (λ u.
-            use1 W
-            (later (some (λ (r : R .Denot). ((‵ (flft κ q) ⊛ ‵ ftrue) ⊛ ‵ (R .own r (u ∷ []))) ⊛
-            raw (ensured 𝓤 H A called (called-says 𝓤) (κ, tt) args tt r)))) (id⊢ 𝓤 _) $ await ! tt $ pick ! (λ r.
-            split ! $ move ! (1 ∷ []) $ use1 W (raw (fact 𝓤 (r ≡ found))) (said r) $ heard ! (r ≡ found) (λ e.
-            -- [the result; the token; what the struct owns; the numbers; the place; …; the list; …; _1; …; room for _0; …]
-            split ! $ move ! (1 ∷ []) $ peeks ! R (Is R) (shows 𝓤 H A R) r (u ∷ []) (λ is.
-            land ! (from ! (stop !)) (init ! 10 refl (is-ρ r u is)) $ returns ! (look ! 10 refl) $
-            forget ! 4 refl $ forget ! 6 refl $ forget ! 8 refl $ forget ! 10 refl $
-            move ! (10 ∷ 11 ∷ []) $ free1 ! $ move ! (8 ∷ 9 ∷ []) $ free1 ! $
-            move ! (3 ∷ []) $ frees-all (κ, tt) ! ws bs ns $
-            move ! (5 ∷ 6 ∷ []) $ free1 ! $ move ! (3 ∷ 4 ∷ []) $ free1 ! $ free0 ! $ by ! (exits r u e))))))))))
+        exits :
+            (r : R .Denot) (u : Val) → r ≡ found →
+            ent 𝓤 (⋆ 𝓤 H A (‵ (R .own r (u ∷ [])) ∷ (‵ (flft κ q) ⊛ ‵ ftrue) ∷ ‵ Own ∷ [])) (Post u)
+        exits r u e =
+            qed W (‵ (R .own r (u ∷ [])) ∷ (‵ (flft κ q) ⊛ ‵ ftrue) ∷ ‵ Own ∷ []) ∵
+            suffices ! _
+            (ends-at 𝓤 H A thin stayed (thin-says 𝓤) W (((κ, tt), (q, tt), tt, (d, ns), values), tt) u r
+            (tt, ends (κ, tt) ws ns) (tt, fits (κ, tt) ws ns)) $ says ! e $
+            move ! (1 ∷ []) $ frame ! $ use0 W (‵ (had-of (κ, tt) ws ns)) (makes-had (κ, tt) 𝓤 H A W ws ns ok) $
+            move ! (2 ∷ 0 ∷ []) $ fjoin ! $ frame ! $ done !
 
-  -- the law: in an environment γ where the thin function is k, and the callee a routine that meets its contract
-  module _ {M : Type 1} (𝓤 : URA M) (H : Heap 𝓤) (𝓜 : Model 𝓤 H) (𝓖 : GhostRules 𝓤 H) (𝓡 : Running 𝓤 H 𝓜) where
-    pub thin-runs :
-        ((r : R .Denot) (u : Val) → Is R r (u ∷ []) → Holds (hasTy ρ u) × WT u) →
-        (γ : Env) (k : Name) → Closed 𝓤 H (tables 𝓤 H 𝓜 𝓡 γ .C) (tables 𝓤 H 𝓜 𝓡 γ .Λ) k code →
-        (routine : Routine) → γ callee ≡ routine → Triple 𝓤 (𝓡 .run routine) (Called 𝓤 H (𝓖 .A)) →
-        Meets 𝓤 H (𝓖 .A) (thin .signature) (𝓡 .run (γ k)) (closing 𝓤 H (𝓖 .A) thin (thin-says 𝓤))
-    thin-runs is-ρ γ k is routine calls met =
-        let A = 𝓖 .A in
-        let W = givenOf 𝓤 H 𝓜 𝓖 in
-        runs 𝓤 H 𝓜 𝓖 𝓡 thin stayed (goes-none 𝓤 H A W 1 B yes (λ κs x f. refl), goes 𝓤 H A W ws) (thin-says 𝓤) γ k code is
-        (λ fm.
-        walked 𝓤 H A thin stayed (thin-says 𝓤) (WpFn 𝓤 H (tables 𝓤 H 𝓜 𝓡 γ .C) (tables 𝓤 H 𝓜 𝓡 γ .Λ) code)
-        (λ κs. (spells κs, spelt κs ws)) (λ κs. (tells κs, tell κs ws))
-        (λ κs qs bounds a g are.
-        via 𝓤 _ (fst∗ 𝓤 _ (emp 𝓤))
-        (walk 𝓤 H A W (κs .0) (qs .0) (a .0) (a .1) (fit κs ws (a .1) (are .1)) is-ρ _ _ fm
-        (cited 𝓤 H (Called 𝓤 H A) 𝓜 𝓡 γ callee routine calls met) (are .0))))
+        module _ (is-ρ : (r : R .Denot) (u : Val) → Is R r (u ∷ []) → Holds (hasTy ρ u) × WT u) (C : Calls 𝓤 H)
+            (Λ : Loops 𝓤 H) (fm : FmC 𝓤 H (W .laws) C) (known : Triple 𝓤 (C callee) (Called 𝓤 H A)) where
+          walk : Is (B (κ, tt)) d (mach ∷ []) → ent 𝓤 Entry (WpFn 𝓤 H C Λ code (mach ∷ words (κ, tt) ws ns) Post)
+          walk p =
+              let wt = typed (κ, tt) 𝓤 H A W d mach p in
+              qed W (raw Entry ∷ []) ∵ enter ! C Λ code (mach ∷ words (κ, tt) ws ns) _ $
+              alloc1 ! (λ l₀. alloc1 ! (λ l₁. allocs-all (κ, tt) ! ws (λ bs. alloc1 ! (λ l₂. alloc1 ! (λ l₃. alloc0 ! $
+              let E : List (Ty × ℕ) = (list-type, l₂) ∷ (tyInt w64, l₃) ∷ [] in
+              -- [room for the place; …; room for the list; …; rooms for the numbers; room for _1; …; room for _0; …; Entry]
+              params1 ! $ pass1 ! (init ! 5 refl wt) $ move ! (4 ∷ []) $ passes-all (κ, tt) ! ws bs ns ok E $
+              -- [the numbers; room for the place; …; room for the list; …; _1; …; room for _0; …; Entry]
+              assigns ! (of-opd ! (load ! (from ! (fld ! refl (stop !))) (look-in ! 5 (sub ! 0 refl (whole !)))))
+              (at-local ! (env-after 0 ws bs E _)) (init ! 3 refl (tt, wt .1 .0)) $
+              assigns ! (of-opd ! (load ! (from ! (fld ! refl (stop !))) (look-in ! 5 (sub ! 1 refl (whole !)))))
+              (at-local ! (env-after 1 ws bs E _)) (init ! 1 refl (tt, wt .1 .1 .0)) $
+              move ! (9 ∷ []) $ use1 W (raw (Called 𝓤 H A .pre to) ⊛ ‵ Own) (apart (wt .1 .1 .0 .fits)) $ split ! $
+              -- [what the callee asks; what the struct owns; the numbers; the place; …; the list; …; _1; …; room for _0; …]
+              calls-at ! fm (Called 𝓤 H A) known to
+              (and-then ! (load ! (at-local ! (env-after 0 ws bs E _)) (look ! 5 refl))
+              (loads-with (κ, tt) ! 2 ws bs ns (λ j. suc (suc j)) E (λ j. refl) refl
+              (load ! (at-local ! (env-after 1 ws bs E _)) (look ! 3 refl)))) (λ u.
+              use1 W
+              (later (some (λ (r : R .Denot). ((‵ (flft κ q) ⊛ ‵ ftrue) ⊛ ‵ (R .own r (u ∷ []))) ⊛
+              raw (ensured 𝓤 H A called (called-says 𝓤) (κ, tt) args tt r)))) (id⊢ 𝓤 _) $ await ! tt $ pick ! (λ r.
+              split ! $ move ! (1 ∷ []) $ use1 W (raw (fact 𝓤 (r ≡ found))) (said r) $ heard ! (r ≡ found) (λ e.
+              -- [the result; the token; what the struct owns; the numbers; the place; …; the list; …; _1; …; room for _0; …]
+              split ! $ move ! (1 ∷ []) $ peeks ! R (Is R) (shows 𝓤 H A R) r (u ∷ []) (λ is.
+              land ! (from ! (stop !)) (init ! 10 refl (is-ρ r u is)) $ returns ! (look ! 10 refl) $
+              forget ! 4 refl $ forget ! 6 refl $ forget ! 8 refl $ forget ! 10 refl $
+              move ! (10 ∷ 11 ∷ []) $ free1 ! $ move ! (8 ∷ 9 ∷ []) $ free1 ! $
+              move ! (3 ∷ []) $ frees-all (κ, tt) ! ws bs ns $
+              move ! (5 ∷ 6 ∷ []) $ free1 ! $ move ! (3 ∷ 4 ∷ []) $ free1 ! $ free0 ! $ by ! (exits r u e))))))))))
+
+    -- the law: in an environment γ where the thin function is k, and the callee a routine that meets its contract
+    module _ {M : Type 1} (𝓤 : URA M) (H : Heap 𝓤) (𝓜 : Model 𝓤 H) (𝓖 : GhostRules 𝓤 H) (𝓡 : Running 𝓤 H 𝓜) where
+      pub thin-runs :
+          ((r : R .Denot) (u : Val) → Is R r (u ∷ []) → Holds (hasTy ρ u) × WT u) →
+          (γ : Env) (k : Name) → Closed 𝓤 H (tables 𝓤 H 𝓜 𝓡 γ .C) (tables 𝓤 H 𝓜 𝓡 γ .Λ) k code →
+          (routine : Routine) → γ callee ≡ routine → Triple 𝓤 (𝓡 .run routine) (Called 𝓤 H (𝓖 .A)) →
+          Meets 𝓤 H (𝓖 .A) (thin .signature) (𝓡 .run (γ k)) (closing 𝓤 H (𝓖 .A) thin (thin-says 𝓤))
+      thin-runs is-ρ γ k is routine calls met =
+          let A = 𝓖 .A in
+          let W = givenOf 𝓤 H 𝓜 𝓖 in
+          runs 𝓤 H 𝓜 𝓖 𝓡 thin stayed (goes-none 𝓤 H A W 1 B yes (λ κs x f. refl), goes 𝓤 H A W ws) (thin-says 𝓤) γ k code is
+          (λ fm.
+          walked 𝓤 H A thin stayed (thin-says 𝓤) (WpFn 𝓤 H (tables 𝓤 H 𝓜 𝓡 γ .C) (tables 𝓤 H 𝓜 𝓡 γ .Λ) code)
+          (λ κs. (spells κs, spelt κs ws)) (λ κs. (tells κs, tell κs ws))
+          (λ κs qs bounds a g are.
+          via 𝓤 _ (fst∗ 𝓤 _ (emp 𝓤))
+          (walk 𝓤 H A W (κs .0) (qs .0) (a .0) (a .1) (fit κs ws (a .1) (are .1)) is-ρ _ _ fm
+          (cited 𝓤 H (Called 𝓤 H A) 𝓜 𝓡 γ callee routine calls met) (are .0))))
