@@ -3,7 +3,7 @@
 --     copies           copies of them as operands
 --     rooms, cells     what is owned of their locals before they are passed, and once they are
 --     allocs-all, passes-all, frees-all    the steps that make, fill and free them
---     loads-with       copies of them, and a last operand, as a call's operands
+--     loads-with, loads-last, loads-front      as a call's operands: copies of them and one more; of snoc ws, the last, and the rest
 --     at-local         the place of a local whose entry in the environment is known
 -- The steps take `Given`. The rest assumes nothing.
 use mathlib.Core.Path.{_≡_, refl, subst}
@@ -23,7 +23,7 @@ use types.Kit.{Given, Item, ‵, raw, _⊛_, ⋆, mean, nth, del, pull, unpull, 
 use types.Kit.{_$_, _∵_, !, qed, move, drop, use0, use1, use3, split, split3, join, group, frame, done}
 use types.Run.{Reads, Finds, Opd, Opds, init, forget, stop, from, load, and-then, no-more, alloc1, pass1, pass0, free1}
 use denote.Plain.{uint-lawful}
-use Rattle.reader.proofs.Numbers.{snoc, Nums, Fit, words, with-last}
+use Rattle.reader.proofs.Numbers.{snoc, Nums, Fit, words, with-last, front, last}
 
 -- the block of each number's local
 abbrev pub Blocks : List Width → Type 0
@@ -48,6 +48,17 @@ pub env-after :
     getD (env ws bs E) (after i ws) e ≡ getD E i e
 env-after i [] bs E e = refl
 env-after i (w ∷ ws) bs E e = env-after i ws (bs .1) E e
+
+-- the block of the last of snoc ws, and its entry
+abbrev pub last-block : (ws : List Width) → Blocks (snoc ws) → ℕ
+last-block [] bs = bs .0
+last-block (w ∷ ws) bs = last-block ws (bs .1)
+
+pub env-last :
+    (ws : List Width) (bs : Blocks (snoc ws)) (E : List (Ty × ℕ)) (e : Ty × ℕ) →
+    getD (env (snoc ws) bs E) (after 0 ws) e ≡ (tyInt w64, last-block ws bs)
+env-last [] bs E e = refl
+env-last (w ∷ ws) bs E e = env-last ws (bs .1) E e
 
 -- copies of them as operands, before others: number j is the local `at j`
 abbrev pub copies : (ℕ → ℕ) → List Width → List Operand → List Operand
@@ -144,26 +155,60 @@ module _ (κs : Lfts 1) where
               (qed W (raw Q ∷ (raw P ⊛ raw X) ∷ raw F ∷ []) ∵ move ! (1 ∷ []) $ split ! $ group ! 3 $ done !) back),
         )
 
+    -- entry k of the context has the numbers' locals: each can be read
+    reads-at :
+        (k : ℕ) (ws : List Width) (bs : Blocks ws) (ns : Nums κs ws) → nth 𝓤 H A k Γ ≡ raw (cells 𝓤 H ws bs ns) →
+        AllRead ws bs ns
+    reads-at k ws bs ns e =
+        let F : SProp 𝓤 = ⋆ 𝓤 H A (del 𝓤 H A k Γ) in
+        reads-all ws bs ns F
+        (subst (λ (i : Item 𝓤). ent 𝓤 (⋆ 𝓤 H A Γ) (sep 𝓤 (mean 𝓤 H A i) F)) e (pull 𝓤 H A k Γ))
+        (subst (λ (i : Item 𝓤). ent 𝓤 (sep 𝓤 (mean 𝓤 H A i) F) (⋆ 𝓤 H A Γ)) e (unpull 𝓤 H A k Γ))
+
+    read-last :
+        (ws : List Width) (bs : Blocks (snoc ws)) (ns : Nums κs (snoc ws)) → AllRead (snoc ws) bs ns →
+        Reads K W Γ (tyInt w64) (last-block ws bs) zero (vint w64 (last κs ws ns))
+    read-last [] bs ns rs = rs .0
+    read-last (w ∷ ws) bs ns rs = read-last ws (bs .1) (ns .1) (rs .1)
+
   module _ {M : Type 1} {𝓤 : URA M} {H : Heap 𝓤} {A : Atoms 𝓤} {K : Type 0} {W : Given 𝓤 H A} {Γ : List (Item 𝓤)}
       {E : Env 𝓤 H} where
-    load-each :
+    load-with :
         K → (ws : List Width) (bs : Blocks ws) (ns : Nums κs ws) (at : ℕ → ℕ) (E′ : List (Ty × ℕ)) →
         ((j : ℕ) → getD E (at j) (noLocal 𝓤 H) ≡ getD (env ws bs E′) j (noLocal 𝓤 H)) → AllRead K W Γ ws bs ns →
-        {x : Operand} {n : ℕ} → Opd K W Γ E x (vint w64 n) → Opds K W Γ E (copies at ws (x ∷ [])) (words κs (snoc ws) (with-last κs ws ns n))
-    load-each t [] bs ns at E′ is rs last = and-then t last (no-more t)
-    load-each t (w ∷ ws) bs ns at E′ is rs last =
+        {x : Operand} {n : ℕ} → Opd K W Γ E x (vint w64 n) →
+        Opds K W Γ E (copies at ws (x ∷ [])) (words κs (snoc ws) (with-last κs ws ns n))
+    load-with t [] bs ns at E′ is rs one = and-then t one (no-more t)
+    load-with t (w ∷ ws) bs ns at E′ is rs one =
         and-then t (load t (at-local t (is zero)) (rs .0))
-        (load-each t ws (bs .1) (ns .1) (λ j. at (suc j)) E′ (λ j. is (suc j)) (rs .1) last)
+        (load-with t ws (bs .1) (ns .1) (λ j. at (suc j)) E′ (λ j. is (suc j)) (rs .1) one)
 
-    -- entry k of the context has the numbers' locals
+    load-front :
+        K → (ws : List Width) (bs : Blocks (snoc ws)) (ns : Nums κs (snoc ws)) (at : ℕ → ℕ) (E′ : List (Ty × ℕ)) →
+        ((j : ℕ) → getD E (at j) (noLocal 𝓤 H) ≡ getD (env (snoc ws) bs E′) j (noLocal 𝓤 H)) →
+        AllRead K W Γ (snoc ws) bs ns → Opds K W Γ E (copies at ws []) (words κs ws (front κs ws ns))
+    load-front t [] bs ns at E′ is rs = no-more t
+    load-front t (w ∷ ws) bs ns at E′ is rs =
+        and-then t (load t (at-local t (is zero)) (rs .0))
+        (load-front t ws (bs .1) (ns .1) (λ j. at (suc j)) E′ (λ j. is (suc j)) (rs .1))
+
+    -- the numbers and one more operand
     pub loads-with :
         K → (k : ℕ) (ws : List Width) (bs : Blocks ws) (ns : Nums κs ws) (at : ℕ → ℕ) (E′ : List (Ty × ℕ)) →
         ((j : ℕ) → getD E (at j) (noLocal 𝓤 H) ≡ getD (env ws bs E′) j (noLocal 𝓤 H)) →
-        nth 𝓤 H A k Γ ≡ raw (cells 𝓤 H ws bs ns) →
-        {x : Operand} {n : ℕ} → Opd K W Γ E x (vint w64 n) → Opds K W Γ E (copies at ws (x ∷ [])) (words κs (snoc ws) (with-last κs ws ns n))
-    loads-with t k ws bs ns at E′ is e =
-        let F : SProp 𝓤 = ⋆ 𝓤 H A (del 𝓤 H A k Γ) in
-        load-each t ws bs ns at E′ is
-        (reads-all K W Γ ws bs ns F
-        (subst (λ (i : Item 𝓤). ent 𝓤 (⋆ 𝓤 H A Γ) (sep 𝓤 (mean 𝓤 H A i) F)) e (pull 𝓤 H A k Γ))
-        (subst (λ (i : Item 𝓤). ent 𝓤 (sep 𝓤 (mean 𝓤 H A i) F) (⋆ 𝓤 H A Γ)) e (unpull 𝓤 H A k Γ)))
+        nth 𝓤 H A k Γ ≡ raw (cells 𝓤 H ws bs ns) → {x : Operand} {n : ℕ} → Opd K W Γ E x (vint w64 n) →
+        Opds K W Γ E (copies at ws (x ∷ [])) (words κs (snoc ws) (with-last κs ws ns n))
+    loads-with t k ws bs ns at E′ is e = load-with t ws bs ns at E′ is (reads-at K W Γ k ws bs ns e)
+
+    -- the last number, and those before it
+    pub loads-last :
+        K → (k : ℕ) (ws : List Width) (bs : Blocks (snoc ws)) (ns : Nums κs (snoc ws)) {i : ℕ} →
+        getD E i (noLocal 𝓤 H) ≡ (tyInt w64, last-block ws bs) → nth 𝓤 H A k Γ ≡ raw (cells 𝓤 H (snoc ws) bs ns) →
+        Opd K W Γ E (copy (place i [])) (vint w64 (last κs ws ns))
+    loads-last t k ws bs ns is e = load t (at-local t is) (read-last K W Γ ws bs ns (reads-at K W Γ k (snoc ws) bs ns e))
+
+    pub loads-front :
+        K → (k : ℕ) (ws : List Width) (bs : Blocks (snoc ws)) (ns : Nums κs (snoc ws)) (at : ℕ → ℕ) (E′ : List (Ty × ℕ)) →
+        ((j : ℕ) → getD E (at j) (noLocal 𝓤 H) ≡ getD (env (snoc ws) bs E′) j (noLocal 𝓤 H)) →
+        nth 𝓤 H A k Γ ≡ raw (cells 𝓤 H (snoc ws) bs ns) → Opds K W Γ E (copies at ws []) (words κs ws (front κs ws ns))
+    loads-front t k ws bs ns at E′ is e = load-front t ws bs ns at E′ is (reads-at K W Γ k (snoc ws) bs ns e)

@@ -1,4 +1,5 @@
-// A reader over the caller's words with its place: each function takes it apart and calls the one on a list and a place.
+// A reader over the caller's words with its place. A thin function takes it apart and calls the one on a list and a place;
+// the functions at the end have plain parameters and go through a reader.
 ghost use mathlib.Core.Path.{_≡_};
 ghost use Rattle.fields.specs.Field.{numberAt, netAt, constantAt};
 ghost use Rattle.fields.specs.Head.{headAt};
@@ -64,6 +65,20 @@ pub fn record<'a>(r: Reader<'a>, total: usize) -> cell_reader::Record
     ensures { λ c. ⌜ c ≡ recordAt (now (r .entry .list)) total (r .entry .at) ⌝ }
 {
     cell_reader::record_at(r.list, total, r.at)
+}
+
+// The number at a place of a list, through a reader.
+pub fn number_in(list: &[u32], bound: u32, end: usize, at: usize) -> fields::Number
+    ensures { λ n. ⌜ n ≡ numberAt (now (list .entry)) bound end at ⌝ }
+{
+    number(moved(open(list), at), bound, end)
+}
+
+// The net at a place of a list, through a reader.
+pub fn net_in(list: &[u32], total: usize, most: u32, end: usize, at: usize) -> fields::Scan
+    ensures { λ s. ⌜ s ≡ netAt (now (list .entry)) total most end at ⌝ }
+{
+    net(moved(open(list), at), total, most, end)
 }
 
 // The record at a place of a list, through a reader.
