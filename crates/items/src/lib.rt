@@ -43,12 +43,12 @@ pub enum NetStep {
 fn counts_at(list: &[u32], base: usize, added: usize) -> Opening
     ensures { λ r. ⌜ r ≡ countsAt (now (list .entry)) base added ⌝ }
 {
-    match fields::number_at(list, 4096, 4, 2) {
+    match reader::number_in(list, 4096, 4, 2) {
         Number::Refused(f) => Opening::Refused(f),
         Number::Value {
             n: cellreps,
             next: _,
-        } => match fields::number_at(list, 4096, 4, 3) {
+        } => match reader::number_in(list, 4096, 4, 3) {
             Number::Refused(f) => Opening::Refused(f),
             Number::Value {
                 n: netreps,
@@ -69,9 +69,9 @@ fn counts_at(list: &[u32], base: usize, added: usize) -> Opening
 pub fn header_at(list: &[u32]) -> Opening
     ensures { λ r. ⌜ r ≡ headerAt (now (list .entry)) ⌝ }
 {
-    match fields::number_at(list, 4096, 4, 0) {
+    match reader::number_in(list, 4096, 4, 0) {
         Number::Refused(f) => Opening::Refused(f),
-        Number::Value { n: base, next: _ } => match fields::number_at(list, 4096 - base, 4, 1) {
+        Number::Value { n: base, next: _ } => match reader::number_in(list, 4096 - base, 4, 1) {
             Number::Refused(f) => Opening::Refused(f),
             Number::Value { n: added, next: _ } => counts_at(list, base as usize, added as usize),
         },
@@ -83,7 +83,7 @@ fn listed_number_at(list: &[u32], at: usize) -> Number
     ensures { λ r. ⌜ r ≡ listedNumberAt (now (list .entry)) at ⌝ }
 {
     if at < list.len() {
-        fields::number_at(list, logic::LAST_PAYLOAD, list.len(), at)
+        reader::number_in(list, logic::LAST_PAYLOAD, list.len(), at)
     } else {
         Number::Refused(Fault {
             number: 1,
@@ -97,7 +97,7 @@ fn listed_net_at(list: &[u32], total: usize, at: usize) -> Scan
     ensures { λ r. ⌜ r ≡ listedNetAt (now (list .entry)) total at ⌝ }
 {
     if at < list.len() {
-        fields::net_at(list, total, 0, list.len(), at)
+        reader::net_in(list, total, 0, list.len(), at)
     } else {
         Scan::Refused(Fault {
             number: 1,

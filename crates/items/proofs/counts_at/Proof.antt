@@ -8,7 +8,7 @@ returns : tie.Need-returns
 unfolding countsAt
 returns c =
     rw (
-      ← c .before .before .before .number-at .ensures,
+      ← c .before .before .before .number-in .ensures,
       c .before .f .given .1,
     )
 
@@ -16,13 +16,13 @@ returns-2 : tie.Need-returns-2
 unfolding countsAt
 returns-2 c =
     let at-f2 = c .before in
-    let at-number-at2 = at-f2 .before .before in
-    let at-cellreps = at-number-at2 .before .before in
-    let at-number-at = at-cellreps .before .before in
+    let at-number-in2 = at-f2 .before .before in
+    let at-cellreps = at-number-in2 .before .before in
+    let at-number-in = at-cellreps .before .before in
     rw (
-      ← at-number-at .number-at .ensures,
+      ← at-number-in .number-in .ensures,
       at-cellreps .cellreps .given .1,
-      ← at-number-at2 .number-at2 .ensures,
+      ← at-number-in2 .number-in2 .ensures,
       at-f2 .f2 .given .1,
     )
 
@@ -30,13 +30,13 @@ returns-3 : tie.Need-returns-3
 unfolding countsAt
 returns-3 c =
     let at-netreps = c .before in
-    let at-number-at2 = at-netreps .before .before in
-    let at-cellreps = at-number-at2 .before .before in
-    let at-number-at = at-cellreps .before .before in
+    let at-number-in2 = at-netreps .before .before in
+    let at-cellreps = at-number-in2 .before .before in
+    let at-number-in = at-cellreps .before .before in
     rw (
-      ← at-number-at .number-at .ensures,
+      ← at-number-in .number-in .ensures,
       at-cellreps .cellreps .given .1,
-      ← at-number-at2 .number-at2 .ensures,
+      ← at-number-in2 .number-in2 .ensures,
       at-netreps .netreps .given .1,
     )
 

@@ -10,7 +10,7 @@ unfolding listedNetAt
 returns c =
     rw (
       lt-ltb _ _ (c .before .if1 .taken),
-      ← c .net-at .ensures,
+      ← c .net-in .ensures,
     )
 
 returns-2 : tie.Need-returns-2

@@ -10,7 +10,7 @@ unfolding listedNumberAt
 returns c =
     rw (
       lt-ltb _ _ (c .before .if1 .taken),
-      ← c .number-at .ensures,
+      ← c .number-in .ensures,
     )
 
 returns-2 : tie.Need-returns-2
