@@ -1,9 +1,11 @@
 -- The locals of a function's number parameters (`Numbers.antt`), as one entry of a walk's context.
---     locals, env, after       their locals before others', the environment's part for them, and the number of a later local
+--     locals, env, after       their locals before others', the environment's part for them, and the number of a
+--                      later local
 --     copies           copies of them as operands
 --     rooms, cells     what is owned of their locals before they are passed, and once they are
 --     allocs-all, passes-all, frees-all    the steps that make, fill and free them
---     loads-with, loads-last, loads-front      as a call's operands: copies of them and one more; of snoc ws, the last, and the rest
+--     loads-with, loads-last, loads-front      as a call's operands: copies of them and one more; of snoc ws, the
+--                      last, and the rest
 --     at-local         the place of a local whose entry in the environment is known
 -- The steps take `Given`. The rest assumes nothing.
 use mathlib.Core.Path.{_≡_, refl, subst}
@@ -205,10 +207,12 @@ module _ (κs : Lfts 1) where
         K → (k : ℕ) (ws : List Width) (bs : Blocks (snoc ws)) (ns : Nums κs (snoc ws)) {i : ℕ} →
         getD E i (noLocal 𝓤 H) ≡ (tyInt w64, last-block ws bs) → nth 𝓤 H A k Γ ≡ raw (cells 𝓤 H (snoc ws) bs ns) →
         Opd K W Γ E (copy (place i [])) (vint w64 (last κs ws ns))
-    loads-last t k ws bs ns is e = load t (at-local t is) (read-last K W Γ ws bs ns (reads-at K W Γ k (snoc ws) bs ns e))
+    loads-last t k ws bs ns is e =
+        load t (at-local t is) (read-last K W Γ ws bs ns (reads-at K W Γ k (snoc ws) bs ns e))
 
     pub loads-front :
-        K → (k : ℕ) (ws : List Width) (bs : Blocks (snoc ws)) (ns : Nums κs (snoc ws)) (at : ℕ → ℕ) (E′ : List (Ty × ℕ)) →
+        K → (k : ℕ) (ws : List Width) (bs : Blocks (snoc ws)) (ns : Nums κs (snoc ws)) (at : ℕ → ℕ)
+        (E′ : List (Ty × ℕ)) →
         ((j : ℕ) → getD E (at j) (noLocal 𝓤 H) ≡ getD (env (snoc ws) bs E′) j (noLocal 𝓤 H)) →
         nth 𝓤 H A k Γ ≡ raw (cells 𝓤 H (snoc ws) bs ns) → Opds K W Γ E (copies at ws []) (words κs ws (front κs ws ns))
     loads-front t k ws bs ns at E′ is e = load-front t ws bs ns at E′ is (reads-at K W Γ k (snoc ws) bs ns e)

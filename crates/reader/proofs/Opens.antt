@@ -1,8 +1,8 @@
--- The law of the functions with plain parameters over a reader: such a function opens a reader on a list, moves it to a place
--- and calls a thin function. Where the thin one meets its contract of `Thin.antt`, this one meets that of the function on a
--- list and a place: the two say the same of the same definition f.
--- The reader is held in a local between the calls, where MIR erases the lifetime of its type. All that the law knows of `open`
--- and `moved` is that each meets its contract.
+-- The law of the functions with plain parameters over a reader: such a function opens a reader on a list, moves it to
+-- a place and calls a thin function. Where the thin one meets its contract of `Thin.antt`, this one meets that of the
+-- function on a list and a place: the two say the same of the same definition f. The reader is held in a local
+-- between the calls, where MIR erases the lifetime of its type. All that the law knows of `open` and `moved` is that
+-- each meets its contract.
 -- Assumes nothing.
 use mathlib.Core.Path.{_≡_, refl, ap, _∙_}
 use Prim.Native.Nat.{ℕ, suc}
@@ -22,9 +22,11 @@ use ghost.Atoms.{Atoms, sem}
 use contract.Lifetimes.{Lfts}
 use contract.Monad.{Fun, fact}
 use contract.Running.{Running, GhostRules, givenOf, tables}
-use types.Kit.{Given, ‵, raw, _⊛_, ⋆, some, later, _$_, _∵_, !, qed, by, move, drop, use0, use1, use2, split, join, pick}
+use types.Kit.{Given, ‵, raw, _⊛_, ⋆, some, later, _$_, _∵_, !, qed, by, move, drop, use0, use1, use2, split, join}
+use types.Kit.{pick}
 use types.Kit.{fsplit, fjoin, suffices, frame, await, done}
-use types.Run.{look, init, forget, stop, from, load, and-then, no-more, land, returns, enter, alloc1, alloc0, params1, pass1}
+use types.Run.{look, init, forget, stop, from, load, and-then, no-more, land, returns, enter, alloc1, alloc0, params1}
+use types.Run.{pass1}
 use types.Run.{free1, free0}
 use sound.WpLaws.{FmC}
 use denote.RattleType.{RattleType, owns}
@@ -53,12 +55,15 @@ use Rattle.reader.proofs.moved.Symbol as moved-def
 use Rattle.reader.proofs.moved.Met as moved-thm
 use Rattle.reader.proofs.Held.{B, typedᵉ}
 use Rattle.reader.proofs.Runs.{runs}
-use Rattle.reader.proofs.Numbers.{numbers, snoc, stays, goes, Nums, Fit, spelt, machine, words, tell, fit, with-last}
-use Rattle.reader.proofs.Numbers.{front, last, with-last-is, fit-front, fit-last, ends, fits, owned-by, makes-owned}
+use Rattle.reader.proofs.Numbers.{snoc, stays, goes, Nums, Fit, spelt, machine, words, tell, fit}
+use Rattle.reader.proofs.Numbers.{with-last}
+use Rattle.reader.proofs.Numbers.{front, last, with-last-is, fit-front, fit-last, ends, fits, owned-by}
+use Rattle.reader.proofs.Numbers.{makes-owned}
 use Rattle.reader.proofs.Numbers.{had-of, makes-had}
-use Rattle.reader.proofs.Locals.{locals, after, env-after, env-last, copies, allocs-all, passes-all, frees-all, at-local}
+use Rattle.reader.proofs.Locals.{locals, after, env-after, env-last, copies, allocs-all, passes-all, frees-all}
+use Rattle.reader.proofs.Locals.{at-local}
 use Rattle.reader.proofs.Locals.{loads-last, loads-front}
-use Rattle.reader.proofs.Thin.{slice-type, called, thin, called-says, thin-says, Called, Thin}
+use Rattle.reader.proofs.Thin.{slice-type, called, thin, called-says, thin-says, Thin}
 
 -- the contracts of `open` and of `moved`
 module _ {M : Type 1} (𝓤 : URA M) (H : Heap 𝓤) (A : Atoms 𝓤) (mem : Memory → SProp 𝓤) (run : Routine → Fun 𝓤) where
@@ -68,8 +73,8 @@ module _ {M : Type 1} (𝓤 : URA M) (H : Heap 𝓤) (A : Atoms 𝓤) (mem : Mem
   abbrev Moved : Contract 𝓤
   Moved = tripleOf 𝓤 H A moved.signature (moved.spec 𝓤 H A mem run)
 
--- ws: the widths of the thin function's numbers; R: the result's type, of the MIR type ρ; f: what the result is; callee: the
--- thin function
+-- ws: the widths of the thin function's numbers; R: the result's type, of the MIR type ρ; f: what the result is;
+-- callee: the thin function
 module _ (ws : List Width) (R : RattleType) (f : (κs : Lfts 1) → List ℕ → Nums κs (snoc ws) → R .Denot) (ρ : Ty)
     (callee : Name) where
   -- the locals of the place, the last of the numbers, and of the two readers after them
@@ -184,7 +189,8 @@ module _ (ws : List Width) (R : RattleType) (f : (κs : Lfts 1) → List ℕ →
 
     moved-said :
         (r r′ : Reader) →
-        ent 𝓤 (ensured 𝓤 H A moved.ended (moved.clauses 𝓤 H A mem run) (κ, tt) (r, (n, tt)) tt r′) (fact 𝓤 (Placed r r′))
+        ent 𝓤 (ensured 𝓤 H A moved.ended (moved.clauses 𝓤 H A mem run) (κ, tt) (r, (n, tt)) tt r′)
+        (fact 𝓤 (Placed r r′))
     moved-said r r′ =
         exE 𝓤 _ (λ xs. snd∗ 𝓤 (sem 𝓤 H A (lasts moved.ended (κ, tt) (r, (n, tt)) xs)) (fact 𝓤 (Placed r r′)))
 
@@ -214,19 +220,21 @@ module _ (ws : List Width) (R : RattleType) (f : (κs : Lfts 1) → List ℕ →
 
     module _ (is-ρ : (x : R .Denot) (u : Val) → Is R x (u ∷ []) → Holds (hasTy ρ u) × WT u) (C : Calls 𝓤 H)
         (Λ : Loops 𝓤 H) (fm : FmC 𝓤 H (W .laws) C) (opens : Triple 𝓤 (C opened-def.name) (Open 𝓤 H A mem run))
-        (moves : Triple 𝓤 (C moved-def.name) (Moved 𝓤 H A mem run)) (reads : Triple 𝓤 (C callee) (Thin ws R f 𝓤 H A)) where
+        (moves : Triple 𝓤 (C moved-def.name) (Moved 𝓤 H A mem run))
+        (reads : Triple 𝓤 (C callee) (Thin ws R f 𝓤 H A)) where
       walk :
           Is (ShrSlice (named 0) κ u32) s (v ∷ []) →
           ent 𝓤 Entry (WpFn 𝓤 H C Λ code (v ∷ words (κ, tt) (snoc ws) ns) Post)
       walk p =
           qed W (raw Entry ∷ []) ∵ enter ! C Λ code (v ∷ words (κ, tt) (snoc ws) ns) _ $
-          alloc1 ! (λ l₀. alloc1 ! (λ l₁. allocs-all (κ, tt) ! (snoc ws) (λ bs. alloc1 ! (λ l₂. alloc1 ! (λ l₃. alloc0 ! $
+          alloc1 ! (λ l₀. alloc1 ! (λ l₁. allocs-all (κ, tt) ! (snoc ws) (λ bs.
+          alloc1 ! (λ l₂. alloc1 ! (λ l₃. alloc0 ! $
           let E : List (Ty × ℕ) = (T′.mir erased, l₂) ∷ (T′.mir erased, l₃) ∷ [] in
-          -- [room for the opened reader; …; room for the moved one; …; rooms for the numbers; room for _1; …; room for _0; …; Entry]
+          -- [room for the opened reader; …; for the moved one; …; for the numbers; for _1; …; for _0; …; Entry]
           params1 ! $ pass1 ! (init ! 5 refl (shr-slice-lawful 𝓤 H A W (named 0) κ u32 .typed s (v ∷ []) p .0)) $
           move ! (4 ∷ []) $ passes-all (κ, tt) ! (snoc ws) bs ns ok E $
           move ! (9 ∷ []) $ use1 W (raw (Open 𝓤 H A mem run .pre to-open) ⊛ ‵ Own) goes-open $ split ! $
-          -- [what `open` asks; what s owns; the numbers; room for the opened reader; …; for the moved one; …; _1; …; _0; …]
+          -- [what `open` asks; what s owns; the numbers; room for the opened reader; …; for the moved; …; _1; …; _0; …]
           calls-at ! fm (Open 𝓤 H A mem run) opens to-open
           (and-then ! (load ! (from ! (stop !)) (look ! 7 refl)) (no-more !)) (λ u.
           use1 W
@@ -234,7 +242,7 @@ module _ (ws : List Width) (R : RattleType) (f : (κs : Lfts 1) → List ℕ →
           raw (ensured 𝓤 H A opened.ended (opened.clauses 𝓤 H A mem run) (κ, tt) (s, tt) tt r)))) (id⊢ 𝓤 _) $
           await ! tt $ pick ! (λ r. split ! $ move ! (1 ∷ []) $
           use1 W (raw (fact 𝓤 (Opened r))) (open-said r) $ heard ! (Opened r) (λ e. split ! $ move ! (1 ∷ []) $
-          -- [what the opened reader owns; the token; what s owns; the numbers; room for it; …; for the moved one; …; _1; …; _0; …]
+          -- [what the opened reader owns; the token; what s owns; the numbers; room for it; …; for the moved; …; _1; …]
           peeks ! (B (κ, tt)) (Is (B (κ, tt))) (shows 𝓤 H A (B (κ, tt))) r (u ∷ []) (λ is.
           land ! (at-local ! (env-after 1 (snoc ws) bs E _)) (init ! 4 refl (typedᵉ (κ, tt) 𝓤 H A W r u is)) $
           use2 W (raw (Moved 𝓤 H A mem run .pre (to-moved r u))) (goes-moved r u) $
@@ -245,8 +253,9 @@ module _ (ws : List Width) (R : RattleType) (f : (κs : Lfts 1) → List ℕ →
           (later (some (λ (r′ : Reader). ((‵ (flft κ q) ⊛ ‵ ftrue) ⊛ ‵ (B (κ, tt) .own r′ (u′ ∷ []))) ⊛
           raw (ensured 𝓤 H A moved.ended (moved.clauses 𝓤 H A mem run) (κ, tt) (r, (n, tt)) tt r′)))) (id⊢ 𝓤 _) $
           await ! tt $ pick ! (λ r′. split ! $ move ! (1 ∷ []) $
-          use1 W (raw (fact 𝓤 (Placed r r′))) (moved-said r r′) $ heard ! (Placed r r′) (λ e′. split ! $ move ! (1 ∷ []) $
-          -- [what the moved reader owns; the token; what s owns; the numbers; the opened one; …; room for it; …; _1; …; _0; …]
+          use1 W (raw (fact 𝓤 (Placed r r′))) (moved-said r r′) $ heard ! (Placed r r′) (λ e′.
+          split ! $ move ! (1 ∷ []) $
+          -- [what the moved reader owns; the token; what s owns; the numbers; the opened; …; room for it; …; _1; …]
           peeks ! (B (κ, tt)) (Is (B (κ, tt))) (shows 𝓤 H A (B (κ, tt))) r′ (u′ ∷ []) (λ is′.
           land ! (at-local ! (env-after 0 (snoc ws) bs E _)) (init ! 6 refl (typedᵉ (κ, tt) 𝓤 H A W r′ u′ is′)) $
           use2 W (raw (Thin ws R f 𝓤 H A .pre (to-thin r′ u′))) (goes-thin r′ u′) $
@@ -258,7 +267,7 @@ module _ (ws : List Width) (R : RattleType) (f : (κs : Lfts 1) → List ℕ →
           raw (ensured 𝓤 H A (thin ws R f) (thin-says ws R f 𝓤) (κ, tt) (r′, ms) tt x)))) (id⊢ 𝓤 _) $
           await ! tt $ pick ! (λ x. split ! $ move ! (1 ∷ []) $
           use1 W (raw (fact 𝓤 (Found r′ x))) (thin-said r′ x) $ heard ! (Found r′ x) (λ e″. split ! $ move ! (1 ∷ []) $
-          -- [the result; the token; what s owns; the numbers; the opened reader; …; the moved one; …; _1; …; room for _0; …]
+          -- [the result; the token; what s owns; the numbers; the opened; …; the moved; …; _1; …; room for _0; …]
           peeks ! R (Is R) (shows 𝓤 H A R) x (u″ ∷ []) (λ is″.
           land ! (from ! (stop !)) (init ! 10 refl (is-ρ x u″ is″)) $ returns ! (look ! 10 refl) $
           forget ! 4 refl $ forget ! 6 refl $ forget ! 8 refl $ forget ! 10 refl $
@@ -267,7 +276,7 @@ module _ (ws : List Width) (R : RattleType) (f : (κs : Lfts 1) → List ℕ →
           move ! (5 ∷ 6 ∷ []) $ free1 ! $ move ! (3 ∷ 4 ∷ []) $ free1 ! $ free0 ! $
           by ! (exits x u″ (same r r′ x e e′ e″)))))))))))))))))))
 
-  -- the law: in an environment γ where the function is k, the thin one a routine that meets its contract, and `open` and `moved` theirs
+  -- the law: in an environment γ where the function is k, and the thin one, `open` and `moved` are their routines
   module _ {M : Type 1} (𝓤 : URA M) (H : Heap 𝓤) (𝓜 : Model 𝓤 H) (𝓖 : GhostRules 𝓤 H) (𝓡 : Running 𝓤 H 𝓜) where
     pub opens-runs :
         ((x : R .Denot) (u : Val) → Is R x (u ∷ []) → Holds (hasTy ρ u) × WT u) →
@@ -280,7 +289,8 @@ module _ (ws : List Width) (R : RattleType) (f : (κs : Lfts 1) → List ℕ →
         let A = 𝓖 .A in
         let W = givenOf 𝓤 H 𝓜 𝓖 in
         runs 𝓤 H 𝓜 𝓖 𝓡 (called ws R f) stayed
-        (goes-none-slice 𝓤 H A W 1 (0 ∷ []) tt (plain (λ _. u32)) yes, goes 𝓤 H A W (snoc ws)) (called-says ws R f 𝓤) γ k code is
+        (goes-none-slice 𝓤 H A W 1 (0 ∷ []) tt (plain (λ _. u32)) yes, goes 𝓤 H A W (snoc ws))
+        (called-says ws R f 𝓤) γ k code is
         (λ fm.
         walked 𝓤 H A (called ws R f) stayed (called-says ws R f 𝓤)
         (WpFn 𝓤 H (tables 𝓤 H 𝓜 𝓡 γ .C) (tables 𝓤 H 𝓜 𝓡 γ .Λ) code)
@@ -288,6 +298,8 @@ module _ (ws : List Width) (R : RattleType) (f : (κs : Lfts 1) → List ℕ →
         (λ κs qs bounds a g are.
         via 𝓤 _ (fst∗ 𝓤 _ (emp 𝓤))
         (walk 𝓤 H A W (𝓜 .mem) (𝓡 .run) (κs .0) (qs .0) (a .0) (a .1) (fit κs (snoc ws) (a .1) (are .1)) is-ρ _ _ fm
-        (cited 𝓤 H (Open 𝓤 H A (𝓜 .mem) (𝓡 .run)) 𝓜 𝓡 γ opened-def.name opened-def.routine opens (opened-thm.met 𝓤 H 𝓜 𝓖 𝓡))
-        (cited 𝓤 H (Moved 𝓤 H A (𝓜 .mem) (𝓡 .run)) 𝓜 𝓡 γ moved-def.name moved-def.routine moves (moved-thm.met 𝓤 H 𝓜 𝓖 𝓡))
+        (cited 𝓤 H (Open 𝓤 H A (𝓜 .mem) (𝓡 .run)) 𝓜 𝓡 γ opened-def.name opened-def.routine opens
+        (opened-thm.met 𝓤 H 𝓜 𝓖 𝓡))
+        (cited 𝓤 H (Moved 𝓤 H A (𝓜 .mem) (𝓡 .run)) 𝓜 𝓡 γ moved-def.name moved-def.routine moves
+        (moved-thm.met 𝓤 H 𝓜 𝓖 𝓡))
         (cited 𝓤 H (Thin ws R f 𝓤 H A) 𝓜 𝓡 γ callee routine calls met) (are .0))))

@@ -1,5 +1,5 @@
-// A reader over the caller's words with its place. A thin function takes it apart and calls the one on a list and a place;
-// the functions at the end have plain parameters and go through a reader.
+// A reader over the caller's words with its place. A thin function takes it apart and calls the one on a list and a
+// place; the functions at the end have plain parameters and go through a reader.
 ghost use mathlib.Core.Path.{_≡_};
 ghost use Rattle.fields.specs.Field.{numberAt, netAt, constantAt};
 ghost use Rattle.fields.specs.Head.{headAt};

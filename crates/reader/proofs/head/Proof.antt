@@ -15,7 +15,8 @@ use Rattle.reader.proofs.head.Code as code
 pub head-spec : {M : Type 1} → stated.statement M
 unfolding code.routine
 head-spec 𝓤 H 𝓜 𝓖 𝓡 =
-    thin-runs [] Answer.the-row (λ κs list a. headAt list (a .0))
-    Answer′.mir callee.name 𝓤 H 𝓜 𝓖 𝓡
+    thin-runs [] Answer.the-row
+    (λ κs list a. headAt list (a .0)) Answer′.mir callee.name 𝓤 H 𝓜 𝓖 𝓡
     (λ r u is. EL.lawful Answer.the-type Answer′.the-laws 𝓤 H (𝓖 .A) (givenOf 𝓤 H 𝓜 𝓖) tt .typed r _ is .0)
-    code.env #reader·head (code.unfolded 𝓤 H 𝓜 𝓡) callee.routine code.calls-fields·head-at (callee-thm.met 𝓤 H 𝓜 𝓖 𝓡)
+    code.env #reader·head (code.unfolded 𝓤 H 𝓜 𝓡) callee.routine
+    code.calls-fields·head-at (callee-thm.met 𝓤 H 𝓜 𝓖 𝓡)

@@ -1,6 +1,6 @@
--- `reader::moved` meets its contract: a walk of its MIR, by hand. A reader is made anew of the list that the one passed holds,
--- and another place. The struct is Copy: what it owns is had twice, one copy is kept whole for the exit, and the other, with
--- the facts of the new place for those of the old, is what the result owns.
+-- `reader::moved` meets its contract: a walk of its MIR, by hand. A reader is made anew of the list that the one
+-- passed holds, and another place. The struct is Copy: what it owns is had twice, one copy is kept whole for the
+-- exit, and the other, with the facts of the new place for those of the old, is what the result owns.
 -- Assumes nothing.
 use mathlib.Core.Path.{refl}
 use Prim.Native.Nat.{ℕ, _<_, _^_}

@@ -16,8 +16,8 @@ use Rattle.reader.proofs.number_in.Code as code
 pub number-in-spec : {M : Type 1} → stated.statement M
 unfolding code.routine
 number-in-spec 𝓤 H 𝓜 𝓖 𝓡 =
-    opens-runs (w32 ∷ w64 ∷ []) Answer.the-row (λ κs list a. numberAt list (a .0) (a .1 .0) (a .1 .1 .0))
-    Answer′.mir callee.name 𝓤 H 𝓜 𝓖 𝓡
+    opens-runs (w32 ∷ w64 ∷ []) Answer.the-row
+    (λ κs list a. numberAt list (a .0) (a .1 .0) (a .1 .1 .0)) Answer′.mir callee.name 𝓤 H 𝓜 𝓖 𝓡
     (λ r u is. EL.lawful Answer.the-type Answer′.the-laws 𝓤 H (𝓖 .A) (givenOf 𝓤 H 𝓜 𝓖) tt .typed r _ is .0)
     code.env #reader·number-in (code.unfolded 𝓤 H 𝓜 𝓡) code.calls-reader·open code.calls-reader·moved
     callee.routine code.calls-reader·number (callee-thm.met 𝓤 H 𝓜 𝓖 𝓡)

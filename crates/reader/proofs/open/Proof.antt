@@ -1,6 +1,6 @@
--- `reader::open` meets its contract: a walk of its MIR, by hand. A reader is made of the list passed and 0, in the result's
--- local. A `&[u32]` is Copy, so what it owns is had twice: once for the list at exit, and once inside the result, beside the
--- facts of the place.
+-- `reader::open` meets its contract: a walk of its MIR, by hand. A reader is made of the list passed and 0, in the
+-- result's local. A `&[u32]` is Copy, so what it owns is had twice: once for the list at exit, and once inside the
+-- result, beside the facts of the place.
 -- Assumes nothing.
 use mathlib.Core.Path.{refl}
 use Prim.Native.Nat.{ℕ}

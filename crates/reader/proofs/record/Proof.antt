@@ -16,7 +16,8 @@ use Rattle.reader.proofs.record.Code as code
 pub record-spec : {M : Type 1} → stated.statement M
 unfolding code.routine
 record-spec 𝓤 H 𝓜 𝓖 𝓡 =
-    thin-runs (w64 ∷ []) Answer.the-row (λ κs list a. recordAt list (a .0) (a .1 .0))
-    Answer′.mir callee.name 𝓤 H 𝓜 𝓖 𝓡
+    thin-runs (w64 ∷ []) Answer.the-row
+    (λ κs list a. recordAt list (a .0) (a .1 .0)) Answer′.mir callee.name 𝓤 H 𝓜 𝓖 𝓡
     (λ r u is. EL.lawful Answer.the-type Answer′.the-laws 𝓤 H (𝓖 .A) (givenOf 𝓤 H 𝓜 𝓖) tt .typed r _ is .0)
-    code.env #reader·record (code.unfolded 𝓤 H 𝓜 𝓡) callee.routine code.calls-cell-reader·record-at (callee-thm.met 𝓤 H 𝓜 𝓖 𝓡)
+    code.env #reader·record (code.unfolded 𝓤 H 𝓜 𝓡) callee.routine
+    code.calls-cell-reader·record-at (callee-thm.met 𝓤 H 𝓜 𝓖 𝓡)
