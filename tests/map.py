@@ -3,8 +3,9 @@
 
   tests/map.py [--crates DIRECTORY]     the crates to look at; those of this repository, if none is given
 
-Prints nothing but faults; the exit status is 1 where there is one. In MAP a place is `crate/File`, `crate/src` or `crate/must-fail`, and
-`crate/File`: `name`, `name` says that each name is declared there. In a table's columns but the first every name follows its place.
+Prints nothing but faults; the exit status is 1 where there is one. In MAP a place is `crate/File`, `crate/src` or
+`crate/must-fail`, and `crate/File`: `name`, `name` says that each name is declared there. In a table's columns but the
+first every name follows its place.
 """
 import argparse
 import functools
@@ -35,6 +36,10 @@ def names_in(folder):
     return {name.split('.')[0] for name in names if '.' in name} - {'Lib'}
 
 
+def source_of(folder):
+    return ''.join(text_of(os.path.join(folder, 'src', file)) for file in ('lib.rt', 'main.rt'))
+
+
 @functools.lru_cache(None)
 def declared(crates, crate, part):
     """The names that a place of a crate declares, or none where there is no such place."""
@@ -42,7 +47,7 @@ def declared(crates, crate, part):
     if part == 'must-fail':
         return names_in(os.path.join(folder, part))
     if part == 'src':
-        return {name for file in ('lib.rt', 'main.rt') for name in ITEM.findall(text_of(os.path.join(folder, 'src', file)))}
+        return set(ITEM.findall(source_of(folder)))
     text = ''.join(text_of(os.path.join(folder, kind, part + '.antt')) for kind in ('specs', 'proofs'))
     return set(LAW.findall(text)) | set(TYPE.findall(text))
 
@@ -97,8 +102,8 @@ def of_map(crates):
 def holds(crates, crate):
     """What a crate holds: code if it has a function, definitions in specs/, theorems in proofs/."""
     folder = os.path.join(crates, crate)
-    source = ''.join(text_of(os.path.join(folder, 'src', file)) for file in ('lib.rt', 'main.rt'))
-    found = (re.search(r'\bfn ', source), names_in(os.path.join(folder, 'specs')), names_in(os.path.join(folder, 'proofs')))
+    functions = re.search(r'\bfn ', source_of(folder))
+    found = functions, names_in(os.path.join(folder, 'specs')), names_in(os.path.join(folder, 'proofs'))
     return ', '.join(word for word, there in zip(HOLDS, found) if there)
 
 
