@@ -64,7 +64,8 @@ def faults_in(text, crates, strict):
             if not declared(crates, *found.groups()):
                 yield f'there is no {name}'
         elif place and FOLLOWS.fullmatch(between):
-            if name not in declared(crates, *place.groups()):
+            there = declared(crates, *place.groups())
+            if there and name not in there:
                 yield f'{name} is not in {place.group()}'
         else:
             place = None
