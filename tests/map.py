@@ -4,8 +4,8 @@
   tests/map.py [--crates DIRECTORY]     the crates to look at; those of this repository, if none is given
 
 Prints nothing but faults; the exit status is 1 where there is one. In MAP a place is `crate/File`, `crate/src` or
-`crate/must-fail`, and `crate/File`: `name`, `name` says that each name is declared there. In a table's columns but the
-first every name follows its place.
+`crate/must-fail`, and `crate/File`: `name`, `name` says that each name is declared there: in specs/ in a column of
+definitions, in proofs/ in one of theorems. In a table's columns but the first every name follows its place.
 """
 import argparse
 import functools
@@ -41,18 +41,25 @@ def source_of(folder):
 
 
 @functools.lru_cache(None)
-def declared(crates, crate, part):
-    """The names that a place of a crate declares, or none where there is no such place."""
+def declared(crates, crate, part, kinds):
+    """The names that a place of a crate declares, in its folders of these kinds; none where there is no such place."""
     folder = os.path.join(crates, crate)
     if part == 'must-fail':
         return names_in(os.path.join(folder, part))
     if part == 'src':
         return set(ITEM.findall(source_of(folder)))
-    text = ''.join(text_of(os.path.join(folder, kind, part + '.antt')) for kind in ('specs', 'proofs'))
+    if not names_in(os.path.join(folder, 'specs')):
+        kinds = 'proofs',
+    text = ''.join(text_of(os.path.join(folder, kind, part + '.antt')) for kind in kinds)
     return set(LAW.findall(text)) | set(TYPE.findall(text))
 
 
-def faults_in(text, crates, strict):
+def kinds_of(head):
+    """The folders in which the names of a column stand, by its head."""
+    return ('specs',) if 'definition' in head else ('proofs',) if 'theorem' in head else ('specs', 'proofs')
+
+
+def faults_in(text, crates, kinds, strict):
     """The faults of a piece of MAP; where it is strict, a name without a place is one."""
     place, end = None, 0
     for token in re.finditer(r'`([^`]+)`', text):
@@ -61,10 +68,10 @@ def faults_in(text, crates, strict):
         found = PLACE.fullmatch(name)
         if found:
             place = found
-            if not declared(crates, *found.groups()):
-                yield f'there is no {name}'
+            if not declared(crates, *found.groups(), kinds):
+                yield f'there is no {name}' + (f' in {" or ".join(kinds)}' if found.group(2)[0].isupper() else '')
         elif place and FOLLOWS.fullmatch(between):
-            there = declared(crates, *place.groups())
+            there = declared(crates, *place.groups(), kinds)
             if there and name not in there:
                 yield f'{name} is not in {place.group()}'
         else:
@@ -77,7 +84,7 @@ def faults_in(text, crates, strict):
 
 
 def cells_of(line):
-    return [cell.strip() for cell in line.strip().strip('|').split(' | ')]
+    return [cell.strip() for cell in line.strip()[1:-1].split('|')]
 
 
 def pieces(text):
@@ -94,9 +101,12 @@ def pieces(text):
 
 
 def of_map(crates):
+    heads, before = [], []
     for number, cells in pieces(text_of(os.path.join(ROOT, 'docs', 'MAP.md'))):
+        heads, before = before if set(cells[0]) == {'-'} else heads, cells
         for column, cell in enumerate(cells):
-            for fault in faults_in(cell, crates, column > 0):
+            kinds = kinds_of(heads[column] if len(cells) > 1 and column < len(heads) else '')
+            for fault in faults_in(cell, crates, kinds, column > 0):
                 yield f'docs/MAP.md, line {number}: {fault}'
 
 
