@@ -3,7 +3,12 @@ from dataclasses import dataclass, field
 
 REFUSED, NOTHING_ASKED, HOLDS, BROKEN, UNKNOWN, SOLVER_WRONG = (
     'REFUSED', 'NOTHING ASKED', 'HOLDS', 'BROKEN', 'UNKNOWN', 'SOLVER WRONG')
-STATUS = {HOLDS: 0, REFUSED: 1, NOTHING_ASKED: 3, BROKEN: 4, UNKNOWN: 5, SOLVER_WRONG: 6}
+# No verdict: the design could not be read, or the verifier or a solver could not be asked.
+NOT_CHECKED = 'NOT CHECKED'
+STATUS = {HOLDS: 0, REFUSED: 1, NOT_CHECKED: 2, NOTHING_ASKED: 3, BROKEN: 4, UNKNOWN: 5, SOLVER_WRONG: 6}
+BY_NO_ASSIGNMENT = 7   # the exit status of a HOLDS that is vacuous
+# From the best to the worst.
+STATUS_ORDER = [0, 3, 7, 5, 2, 1, 4, 6]
 
 
 @dataclass
@@ -28,7 +33,7 @@ class Pin:
 
 @dataclass
 class Cell:
-    """A cell of the base, an added one, or the new cell of a replacement (slot and width are then the replaced cell's)."""
+    """A cell of the base, an added one, or a replacement's new cell (slot and width are then the replaced cell's)."""
     operation: str        # 'Not'
     slot: int             # its first slot
     width: int            # its output width; it takes max(1, width) slots
@@ -59,6 +64,7 @@ class Obligation:
     replacement: int      # its index in Result.replacements, or None
     term: int             # its term's number: k14 is 14
     state: bool = None    # in the solver's example; None where there is none
+    shown: str = None     # what its nets show there: 'not1 is 1, in0 is 0'
 
 
 @dataclass
@@ -82,6 +88,7 @@ class Result:
     cells: list = field(default_factory=list)     # Cells in slot order; empty where the list is refused
     replacements: list = field(default_factory=list)
     verdict: str = None
+    vacuous: bool = False                         # of HOLDS: nothing at all satisfies the cells, so nothing is shown
     sentences: list = field(default_factory=list)  # what the verdict says, whole sentences
     hints: list = field(default_factory=list)     # (sentence, page of the course)
     fault: int = None                             # of REFUSED: the fault's number
@@ -98,7 +105,12 @@ class Result:
     @property
     def status(self):
         """The exit status of the verdict."""
-        return STATUS[self.verdict]
+        return BY_NO_ASSIGNMENT if self.vacuous else STATUS[self.verdict]
+
+    @property
+    def headline(self):
+        """The verdict as it is shown large."""
+        return f'{self.verdict} BY NO ASSIGNMENT' if self.vacuous else self.verdict
 
     def slot_text(self, slot):
         return self.names.get(slot) or f's{slot}'

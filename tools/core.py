@@ -1,0 +1,213 @@
+"""The proved verifier from Python: its C interface (include/virginalmimas.h) as a shared library, which is made once
+from the proved archive.
+
+Every entry here asks the archive and lends the room that the archive says it needs; nothing is worked out in Python.
+"""
+import ctypes
+import fcntl
+import os
+import re
+import shutil
+import subprocess
+import sys
+import time
+
+ROOT = os.path.dirname(os.path.dirname(os.path.abspath(__file__)))
+FOLDER = os.path.join(ROOT, 'target', 'vm')
+# Call words that are lent at most: their script has some 16 bytes for each.
+MOST_WORDS = 2 ** 25
+
+
+class Unavailable(Exception):
+    """A sentence that says why the verifier cannot be asked."""
+
+
+def _newest():
+    """When a source of the archive was last changed."""
+    times = [os.path.getmtime(os.path.join(ROOT, 'crates.txt'))]
+    for folder, _, names in os.walk(os.path.join(ROOT, 'crates')):
+        times += [os.path.getmtime(os.path.join(folder, name)) for name in names]
+    return max(times)
+
+
+def _prove(archive, stamp, say):
+    """Proves and writes the archive, unless it is there and no source has changed since."""
+    if os.path.exists(archive) and os.path.exists(stamp) and _newest() < os.path.getmtime(stamp):
+        return
+    if not shutil.which('rt'):
+        with open(os.path.join(ROOT, 'toolchain.txt')) as pinned:
+            kit = pinned.read().strip()
+        raise Unavailable("The proved archive is not built for these sources, and 'rt', the command of the Rattle kit "
+                          f'({kit}), is not on the PATH. Install the kit, or name the folder of a built archive in '
+                          'VIRGINALMIMAS_ARCHIVE.')
+    began, log = time.time(), os.path.join(FOLDER, 'staticlib.log')
+    say('proving the verifier and building its archive; the first time this takes some ten minutes on two cores')
+    with open(log, 'wb') as out:
+        running = subprocess.Popen(['rt', 'staticlib', 'virginalmimas'], cwd=ROOT, stdout=out, stderr=subprocess.STDOUT,
+                                   stdin=subprocess.DEVNULL)
+        try:
+            while running.poll() is None:
+                time.sleep(0.2)
+                say(f'proving the verifier, {time.time() - began:.0f} s', passing=True)
+        finally:
+            if running.poll() is None:
+                running.terminate()
+                running.wait()
+    if running.returncode != 0 or not os.path.exists(archive):
+        raise Unavailable(f'The archive was not built: rt staticlib ended with status {running.returncode}. '
+                          f'What it wrote is in {os.path.relpath(log)}.')
+    with open(stamp, 'w'):
+        pass
+    say(f'proved and built in {time.time() - began:.0f} s')
+
+
+def _linked(archive, library):
+    """Makes the shared library, unless it is there and as new as the archive."""
+    if os.path.exists(library) and os.path.getmtime(archive) <= os.path.getmtime(library):
+        return
+    compiler = next((name for name in ('cc', 'gcc', 'clang') if shutil.which(name)), None)
+    if not compiler:
+        raise Unavailable('No C compiler is on the PATH to link the proved archive with: apt-get install gcc.')
+    made = f'{library}.{os.getpid()}'
+    done = subprocess.run([compiler, '-shared', '-o', made, '-Wl,--whole-archive', archive, '-Wl,--no-whole-archive'],
+                          stdout=subprocess.PIPE, stderr=subprocess.STDOUT, stdin=subprocess.DEVNULL)
+    if done.returncode != 0:
+        raise Unavailable(f'The proved archive could not be linked: {done.stdout.decode(errors="replace").strip()}')
+    os.replace(made, library)
+
+
+def _loaded(say):
+    """The path of the shared library, made where it is missing or old."""
+    named = os.environ.get('VIRGINALMIMAS_ARCHIVE')
+    archive = os.path.join(named or os.path.join(ROOT, 'target', 'staticlib'), 'libvirginalmimas.a')
+    if named and not os.path.exists(archive):
+        raise Unavailable(f'VIRGINALMIMAS_ARCHIVE names a folder without libvirginalmimas.a: {named}.')
+    library = os.path.join(FOLDER, 'libvirginalmimas.so')
+    try:
+        os.makedirs(FOLDER, exist_ok=True)
+        with open(os.path.join(FOLDER, 'lock'), 'w') as lock:
+            fcntl.flock(lock, fcntl.LOCK_EX)
+            if not named:
+                _prove(archive, os.path.join(FOLDER, 'stamp'), say)
+            _linked(archive, library)
+    except OSError as error:
+        raise Unavailable(f'The shared library could not be made: {error.strerror}: {error.filename}.')
+    return library
+
+
+class Core:
+    """The entries of the C interface. An answer is a pair: the fault's number (0: none), and its place or the value."""
+
+    def __init__(self, say):
+        """`say` is told what long work is under way."""
+        path = _loaded(say)
+        try:
+            self.library = ctypes.CDLL(path)
+            for name in 'read verify counts check_with evaluate_with script_with answer'.split():
+                getattr(self.library, 'vm_' + name).restype = ctypes.c_uint64
+        except (OSError, AttributeError) as error:
+            raise Unavailable(f'The shared library {os.path.relpath(path)} cannot be used: {error}.')
+
+    def _ask(self, entry, *slices):
+        """An entry's answer on slices, each handed over as its pointer and its length."""
+        arguments = [part for one in slices for part in (one, ctypes.c_size_t(len(one)))]
+        answer = getattr(self.library, 'vm_' + entry)(*arguments)
+        return answer >> 48, answer & 2 ** 48 - 1
+
+    def read(self, words):
+        """The number of slots, or the fault."""
+        return self._ask('read', words32(words))
+
+    def counts(self, words):
+        """The fault and its place, or 0 and whether anything is asked; and how many terms, temporaries and words."""
+        counts = (ctypes.c_uint64 * 3)()
+        number, value = self._ask('counts', words32(words), counts)
+        return number, value if number else value >> 47, tuple(counts)
+
+    def verify(self, words, call_words, slots):
+        """The call words and the marks of an accepted list."""
+        if call_words > MOST_WORDS:
+            raise Unavailable(f'The calls of this design take {call_words:,} words; vm lends {MOST_WORDS:,} at most.')
+        calls, recorded = (ctypes.c_uint32 * call_words)(), (ctypes.c_uint8 * slots)()
+        number, place = self._ask('verify', words32(words), calls, recorded)
+        expect(number == 0, f'vm_verify answered {number} at {place}')
+        return calls, recorded
+
+    def script(self, calls, recorded, terms):
+        """The script of calls that the verifier made."""
+        tables = self._tables(len(calls), terms)
+        places = (ctypes.c_uint32 * terms)()
+        number, room = self._ask('script_with', calls, recorded, (ctypes.c_uint8 * 0)(), places, *tables)
+        expect(number == 15, f'vm_script_with answered {number} at {room}')
+        text = (ctypes.c_uint8 * room)()
+        number, length = self._ask('script_with', calls, recorded, text, places, *tables)
+        expect(number == 0, f'vm_script_with answered {number} at {length}')
+        return bytes(text)[:length]
+
+    def answer(self, reply, recorded):
+        """The fault and its place, or 0 and 0 for unsat or 1 for sat; and after sat a trit for each slot (3: none)."""
+        text, trits = (ctypes.c_uint8 * len(reply)).from_buffer_copy(reply), (ctypes.c_uint8 * len(recorded))()
+        return (*self._ask('answer', text, recorded, trits), bytes(trits))
+
+    def evaluate(self, calls, bits, terms):
+        """The number of false assertions, and the number of every term, under bits for the declared names in order."""
+        values, numbers = (ctypes.c_uint64 * terms)(), (ctypes.c_uint64 * len(bits))(*bits)
+        number, wrong = self._ask('evaluate_with', calls, numbers, values, *self._tables(len(calls), terms))
+        return number, wrong, values
+
+    def _tables(self, words, terms):
+        """Room for sorts and names: a declare takes five words, and a name nine bytes."""
+        return (ctypes.c_uint8 * terms)(), (ctypes.c_uint8 * (9 * (words // 5)))()
+
+
+def expect(held, said):
+    """What the verifier promises; anything else is a fault of vm."""
+    if not held:
+        raise Unavailable(f'{said}, which vm did not expect.')
+
+
+def words32(words):
+    return words if isinstance(words, ctypes.Array) else (ctypes.c_uint32 * len(words))(*words)
+
+
+def query(calls):
+    """The terms of the obligations: the arguments of the `and` that stands before the last not, assert and check."""
+    terms, at = [], len(calls) - 6
+    while at >= 0 and calls[at] >> 29 == 4:
+        terms.append(calls[at] & 2 ** 29 - 1)
+        at -= 1
+    return terms[::-1] if at >= 0 and calls[at] == 2 << 29 | 3 + 32 * len(terms) else []
+
+
+def unqueried(calls):
+    """The calls without the query's assertion, which stands before the last word, check."""
+    kept = list(calls[:len(calls) - 3]) + [calls[len(calls) - 1]]
+    return (ctypes.c_uint32 * len(kept))(*kept)
+
+
+def declared(script):
+    """The declared names and their widths, in the order of their declarations, from a script."""
+    found = re.findall(r'^\(declare-const (\S+) \(_ BitVec ([0-9]+)\)\)$', script, re.M)
+    return [(name, int(width)) for name, width in found]
+
+
+def progress(name='vm'):
+    """A `say` that writes to standard error; passing lines only on a terminal, each over the one before."""
+    state = {'open': False}
+
+    def say(sentence, passing=False):
+        if passing and not sys.stderr.isatty():
+            return
+        over = '\r\x1b[K' if sys.stderr.isatty() else ''
+        sys.stderr.write(f'{over}{name}: {sentence}' + ('' if passing else '.\n'))
+        sys.stderr.flush()
+        state['open'] = passing
+
+    def close():
+        if state['open']:
+            sys.stderr.write('\r\x1b[K')
+            sys.stderr.flush()
+            state['open'] = False
+
+    say.close = close
+    return say
