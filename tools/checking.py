@@ -1,14 +1,26 @@
 """From a design to its verdict: the verifier's script to a solver, and its reply back through the verifier."""
 import re
 import time
+from dataclasses import dataclass, replace
 
 import core
 import design
+import hints
 import solver
 from faults import FAULTS
 from verdict import (BROKEN, HOLDS, NOTHING_ASKED, REFUSED, SOLVER_WRONG, UNKNOWN, Obligation, Trit)
 
 TRITS = '01X'
+
+
+@dataclass
+class Answer:
+    """A solver's reply, and what the verifier's reader makes of it."""
+    reply: solver.Reply
+    number: int      # the fault of the reply, 0 if it has none
+    value: int       # its place, or 1 for sat and 0 for unsat
+    read: bytes      # after sat, the trits that the script itself asks for
+    values: dict     # the values of the names that were asked besides, None where they cannot be read
 
 
 def count(number, one, many=None):
@@ -111,24 +123,28 @@ class Checker:
             result.sentences.append(f'{said[-1][0]} gave no verdict.')
 
     def _answer(self, result, calls, recorded, parts):
+        """Puts a solver's verdict into a result."""
         names = core.declared(result.script)
-        own = f'(get-value ({" ".join(name for name, _ in names)}))\n' if names else ''
-        reply = self._reply(parts, result.script + own, result.solver)
-        first, listed, rest = solver.parts_of(reply.text)
-        asked = any(recorded)
-        number, value, trits = self.verifier.answer(first + (listed if asked else b''), recorded)
-        if reply.late or number:
-            self._unknown(result, reply, number, value)
-        elif value == 0:
+        answer = self._question(result.solver, parts, result.script, recorded, names)
+        if answer.reply.late or answer.number:
+            self._unknown(result, answer.reply, answer.number, answer.value)
+        elif answer.value == 0:
             self._holds(result, result.solver)
             self._vacuous(result, calls, recorded, parts)
         else:
-            values = solver.values_of(rest if asked else listed) if names else {}
-            self._example(result, calls, names, values, lambda found: agrees(found, recorded, trits))
+            self._sat(result, calls, recorded, names, answer)
+            if result.verdict == BROKEN and hints.undefined(result):
+                self._without_x(result, calls, recorded, names, parts)
 
-    def _reply(self, parts, script, name):
-        return self.solvers.reply(parts, script.encode(), self.seconds, lambda seconds: self.say(
+    def _question(self, name, parts, script, recorded, names):
+        """Asks a script, and for the values of names besides; the reply goes through the verifier's reader."""
+        own = f'(get-value ({" ".join(declared for declared, _ in names)}))\n' if names else ''
+        reply = self.solvers.reply(parts, (script + own).encode(), self.seconds, lambda seconds: self.say(
             f'{name} has been at work for {seconds:.0f} s', passing=True))
+        first, listed, rest = solver.parts_of(reply.text)
+        number, value, read = self.verifier.answer(first + (listed if any(recorded) else b''), recorded)
+        values = solver.values_of(rest if any(recorded) else listed) if names else {}
+        return Answer(reply, number, value, read, values)
 
     def _unknown(self, result, reply, number, place):
         """The verdict where the solver gave no answer that can be read."""
@@ -157,46 +173,67 @@ class Checker:
 
     def _vacuous(self, result, calls, recorded, parts):
         """Asks the same without the query: where this is unsat too, unsat says nothing of the edits."""
-        script = self.verifier.script(core.unqueried(calls), recorded, result.counts['terms'])
-        reply = self._reply(parts, script.decode('ascii'), result.solver)
-        first, listed, _ = solver.parts_of(reply.text)
-        number, value, _ = self.verifier.answer(first + (listed if any(recorded) else b''), recorded)
-        if reply.late or number:
+        script = self.verifier.script(core.unqueried(calls), recorded, result.counts['terms']).decode('ascii')
+        answer = self._question(result.solver, parts, script, recorded, [])
+        if answer.reply.late or answer.number:
             result.sentences.append(f'Whether anything satisfies the cells at all, {result.solver} did not say.')
-        elif value == 0:
+        elif answer.value == 0:
             result.vacuous = True
             result.sentences[:1] = [
                 f'{result.solver} answered unsat, and does so without the question too: no assignment fits the cells.',
                 'So every obligation holds by no assignment, and nothing is shown of the edits.',
                 'The cells have a current loop, such as an inverter that is fed by itself.']
 
-    def _example(self, result, calls, names, values, agreed):
+    def _sat(self, result, calls, recorded, names, answer):
         """The verdict of sat: the evaluator must find every assertion true under the solver's bits."""
-        name = result.solver
+        name, values = result.solver, answer.values
         if values is None or any(declared not in values for declared, _ in names):
             result.verdict = UNKNOWN
             result.sentences = [f'{name} answered sat, but gave no value for some name: its example cannot be tested.']
             return
-        bits = [values[declared] for declared, _ in names]
-        number, wrong, terms = self.verifier.evaluate(calls, bits, result.counts['terms'])
-        result.trits = trits_of(values)
-        if number or wrong or not agreed(result.trits):
-            why = ('a value of its example is wider than its name.' if number else
-                   f'under its bits {count(wrong, "assertion")} of the script {"is" if wrong == 1 else "are"} false.'
-                   if wrong else 'it gave one net two values.')
+        wrong = self._example(result, calls, recorded, names, answer)
+        if wrong:
             result.verdict = SOLVER_WRONG
-            result.sentences = [f'{name} answered sat, but {why}',
+            result.sentences = [f'{name} answered sat, but {wrong}.',
                                 'Its example shows nothing; --solver asks another solver.']
             return
+        false, asked = sum(not one.state for one in result.obligations), len(result.obligations)
+        verb = 'is' if false == 1 else 'are'
+        broken = 'the obligation is' if asked == 1 else f'{false} of {asked} obligations {verb}'
+        result.verdict = BROKEN
+        result.sentences = [f'The edits change the design: {name} found an example in which {broken} false.',
+                            'The proved evaluator finds every assertion of the script true there.']
+
+    def _example(self, result, calls, recorded, names, answer):
+        """Puts an example into a result, and says what is wrong with it, None where the evaluator confirms it."""
+        bits = [answer.values[declared] for declared, _ in names]
+        number, wrong, terms = self.verifier.evaluate(calls, bits, result.counts['terms'])
+        result.trits = trits_of(answer.values)
+        if number:
+            return 'a value of its example is wider than its name'
         for one in result.obligations:
             one.state = bool(terms[one.term])
             one.shown = shown(result, one)
-        false, asked = sum(not one.state for one in result.obligations), len(result.obligations)
-        result.verdict = BROKEN
-        verb = 'is' if false == 1 else 'are'
-        broken = 'the obligation is' if asked == 1 else f'{false} of {asked} obligations {verb}'
-        result.sentences = [f'The edits change the design: {name} found an example in which {broken} false.',
-                            'The proved evaluator finds every assertion of the script true there.']
+        if wrong:
+            return f'under its bits {count(wrong, "assertion")} of the script {"is" if wrong == 1 else "are"} false'
+        return None if agrees(result.trits, recorded, answer.read) else 'it gave one net two values'
+
+    def _without_x(self, result, calls, recorded, names, parts):
+        """Asks the same where no source is X: either there is a plainer example, or only an X breaks the edits."""
+        given = hints.sources(result)
+        xs = [name for name, _ in names if re.fullmatch('[np][0-9]+x', name)
+              and (name[0] == 'p' or int(name[1:-1]) in given)]
+        defined = ''.join(f'(assert (= {name} #b0))\n' for name in xs)
+        script = result.script.replace('(check-sat)\n', defined + '(check-sat)\n')
+        answer = self._question(result.solver, parts, script, recorded, names)
+        if answer.reply.late or answer.number:
+            return
+        result.two_valued = answer.value == 0
+        if answer.value:
+            plainer = replace(result, obligations=[replace(one) for one in result.obligations])
+            self._sat(plainer, calls, recorded, names, answer)
+            if plainer.verdict == BROKEN:
+                result.trits, result.obligations, result.sentences = plainer.trits, plainer.obligations, plainer.sentences
 
 
 def trits_of(values):

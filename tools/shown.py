@@ -106,7 +106,7 @@ def whole(result, colours):
     if result.verdict in (BROKEN, SOLVER_WRONG) and result.trits:
         lines += [''] + example(result)
     if result.hints:
-        lines += [''] + [f'  {sentence} See {page}.' for sentence, page in result.hints]
+        lines += [''] + [f'  Hint: {sentence}' + (f' See {page}.' if page else '') for sentence, page in result.hints]
     return '\n'.join(lines)
 
 
@@ -134,8 +134,8 @@ def many(results, colours):
 
 def as_json(result):
     """A result for scripts."""
-    keep = ('source', 'verdict', 'status', 'vacuous', 'sentences', 'hints', 'fault', 'place', 'line', 'column',
-            'counts', 'solver', 'seconds')
+    keep = ('source', 'verdict', 'status', 'vacuous', 'two_valued', 'sentences', 'hints', 'fault', 'place', 'line',
+            'column', 'counts', 'solver', 'seconds')
     found = {key: getattr(result, key) for key in keep}
     found['obligations'] = [dataclasses.asdict(one) for one in result.obligations]
     found['trits'] = {result.slot_text(slot): dataclasses.asdict(trit) for slot, trit in sorted(result.trits.items())}

@@ -90,7 +90,8 @@ class Result:
     verdict: str = None
     vacuous: bool = False                         # of HOLDS: nothing at all satisfies the cells, so nothing is shown
     sentences: list = field(default_factory=list)  # what the verdict says, whole sentences
-    hints: list = field(default_factory=list)     # (sentence, page of the course)
+    two_valued: bool = None                       # of BROKEN by an X: whether the edits hold where no source is X
+    hints: list = field(default_factory=list)     # (sentence, the course's page on it or None)
     fault: int = None                             # of REFUSED: the fault's number
     place: int = None                             # and its place in the list
     line: int = None                              # and where its word stands in the text
