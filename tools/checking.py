@@ -156,10 +156,12 @@ class Checker:
             result.sentences = [f'{name} answered unknown: it could not decide, so nothing is known.']
         elif reply.status < 0:
             result.sentences = [f'{name} was ended by signal {-reply.status} without an answer, so nothing is known.']
+        elif not reply.text.strip():
+            result.sentences = [f'{name} ended with status {reply.status} and wrote no answer, so nothing is known.']
         else:
             result.sentences = [f'The reply of {name} is no answer, so nothing is known (fault {number} at byte '
                                 f'{place}: {FAULTS[number]}).']
-        said = (reply.text.decode(errors='replace').strip() or reply.errors)[:300]
+        said = ' '.join((reply.text.decode(errors='replace').strip() or reply.errors).split())[:300]
         if said and number != 18:
             result.sentences.append(f'It wrote: {said}')
 
@@ -233,7 +235,8 @@ class Checker:
             plainer = replace(result, obligations=[replace(one) for one in result.obligations])
             self._sat(plainer, calls, recorded, names, answer)
             if plainer.verdict == BROKEN:
-                result.trits, result.obligations, result.sentences = plainer.trits, plainer.obligations, plainer.sentences
+                result.trits, result.obligations = plainer.trits, plainer.obligations
+                result.sentences = plainer.sentences
 
 
 def trits_of(values):

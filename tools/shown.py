@@ -150,20 +150,34 @@ def comments(result, spans):
     for start, end in spans:
         if start < 4:
             sizes = [word & notation.LAST for word in words[:end]]
-            found.append(', '.join(f'{size} {what}' for size, what in zip(sizes, HEADER)))
+            parts = [f'{size} {one if size == 1 else many}' for size, (one, many) in zip(sizes, HEADER)]
+            found.append(', '.join(parts) if all(word >> 29 == notation.NUMBER for word in words[:end]) else '')
         elif start in slots:
             slot, width = slots[start]
             name = names.get(slot, '').partition('[')[0]
             run = f's{slot}' + (f' to s{slot + width - 1}' if width > 1 else '')
             found.append(run + (f', {name}' if name else ''))
-        elif words[start] >> 29 == notation.NUMBER:
+        elif words[start] >> 29 == notation.NUMBER and end - start > 2:
             found.append(f'replaces the cell at s{words[start] & notation.LAST}')
+        elif end - start == 2 and all(word >> 29 == notation.NET for word in words[start:end]):
+            old, new = (notation.word_text(word, names) for word in words[start:end])
+            found.append(f'{old} is replaced by {new}')
         else:
-            found.append('replaces a net by another' if end - start == 2 else '')
+            found.append('')
     return found
 
 
-HEADER = ('slots of the base', 'added slots', 'cell replacements', 'net replacements')
+HEADER = (('slot of the base', 'slots of the base'), ('added slot', 'added slots'),
+          ('cell replacement', 'cell replacements'), ('net replacement', 'net replacements'))
+
+
+def listing(result):
+    """A list in notation, a record a line, with what each record is in a comment."""
+    spans = list(notation.records(result.words))
+    texts = [' '.join(notation.record_tokens(result.words, start, end)) for start, end in spans]
+    width = max([len(text) for text in texts if len(text) <= 60], default=0)
+    return [f'{text.ljust(width)}  ; {comment}' if comment else text
+            for text, comment in zip(texts, comments(result, spans))]
 
 
 def explained(number):

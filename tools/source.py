@@ -9,6 +9,8 @@ from verdict import Result
 
 MOST_BYTES = 2 ** 24
 ENDINGS = ('.txt', '.words')
+# In a directory, the verdicts that its designs should have; no design.
+EXPECTED = 'expected.txt'
 
 
 class BadSource(Exception):
@@ -97,7 +99,7 @@ def files(paths):
         for folder, folders, names in os.walk(path):
             folders[:] = sorted(name for name in folders if not name.startswith('.'))
             inside += [os.path.join(folder, name) for name in sorted(names)
-                       if name.endswith(ENDINGS) and not name.startswith('.')]
+                       if name.endswith(ENDINGS) and name != EXPECTED and not name.startswith('.')]
         if not inside:
             raise BadSource(path, f'No file of this directory ends in {" or ".join(ENDINGS)}.')
         found += inside
