@@ -140,17 +140,19 @@ class _Node:
 
 
 def _nodes(boxes, wires):
-    """The nodes of a band by layer, and for each wire the nodes it passes."""
+    """The nodes of a band by layer, and those that each wire passes; wires from one source cross layers together."""
     nodes = {box.key: _Node(box.layer, box.height, box) for box in boxes}
-    layers = {}
+    layers, crossings, paths = {}, {}, []
     for node in nodes.values():
         layers.setdefault(node.layer, []).append(node)
-    paths = []
     for wire in wires:
         path = [nodes[wire.source]]
         for layer in range(path[0].layer + 1, nodes[wire.target].layer):
-            path.append(_Node(layer, 8))
-            layers[layer].append(path[-1])
+            key = wire.source, wire.style, layer
+            if key not in crossings:
+                crossings[key] = _Node(layer, 8)
+                layers[layer].append(crossings[key])
+            path.append(crossings[key])
         path.append(nodes[wire.target])
         _link(path, wire)
         paths.append((wire, path))
@@ -160,10 +162,11 @@ def _nodes(boxes, wires):
 def _link(path, wire):
     for at in range(len(path) - 1):
         one, other = path[at], path[at + 1]
-        leaves = TITLE / 2 if one.box else 4
+        leaves = one.box.out_y() - one.box.y if one.box else 4
         enters = other.box.row_y(wire.row) - other.box.y if other.box else 4
-        one.after.append((other, enters, leaves))
-        other.before.append((one, leaves, enters))
+        if other.box or (one, leaves, enters) not in other.before:
+            one.after.append((other, enters, leaves))
+            other.before.append((one, leaves, enters))
 
 
 def _place(layer, wanted):
@@ -217,23 +220,23 @@ def _band(boxes, wires, top, widths):
 
 
 def _points(wire, path, left, widths):
-    """The points of a wire: from the right side of its source, through the layers, to the left side of its target."""
+    """The points of a wire: straight to the end of its layer, curved to the next, straight across it, and so on."""
     source, target = path[0].box, path[-1].box
-    points = [(source.x + source.width, source.row_y(-1))]
+    points = [(source.x + source.width, source.out_y()), (left[source.layer] + widths[source.layer], source.out_y())]
     for node in path[1:-1]:
         points += [(left[node.layer], node.y + 4), (left[node.layer] + widths[node.layer], node.y + 4)]
     return points + [(target.x, target.row_y(wire.row))]
 
 
-def _back(wires, boxes, bottom):
+def _back(wires, boxes, bottom, widths):
     """Leads the wires that close a loop below the band and back; where the band ends then."""
     for number, wire in enumerate(wires):
         source, target = boxes[wire.source], boxes[wire.target]
         low, out = bottom + 12 + 9 * number, 14 + 4 * (number % 6)
-        right, into = source.x + source.width, target.row_y(wire.row)
-        leave = source.row_y(-1)
-        wire.points = [(right, leave), (right + out, leave), (right + out, low), (target.x - out, low),
-                       (target.x - out, into), (target.x, into)]
+        right, leave = source.x + widths[source.layer] + out, source.out_y()
+        left, enter = target.x - out, target.row_y(wire.row)
+        wire.points = [(source.x + source.width, leave), (right, leave), (right, low), (left, low), (left, enter),
+                       (target.x, enter)]
     return bottom + (12 + 9 * len(wires) if wires else 0)
 
 
@@ -276,7 +279,7 @@ def _fill(drawing, boxes, inner, widths):
         wires = [wire for wire in inner if boxes[wire.source].band == band == boxes[wire.target].band]
         drawing.bands.append(top)
         bottom = _band(inside, wires, top, widths)
-        top = _back([wire for wire in wires if wire.back], boxes, bottom) + BAND_GAP
+        top = _back([wire for wire in wires if wire.back], boxes, bottom, widths) + BAND_GAP
     _stubs(drawing, boxes)
     drawing.width = max(box.x + box.width for box in drawing.boxes) + MARGIN + 24
     drawing.height = top - BAND_GAP + MARGIN
@@ -312,7 +315,7 @@ def _curve(wire):
     parts = [f'M{points[0][0]},{points[0][1]}']
     for at in range(1, len(wire.points)):
         (x0, y0), (x1, y1) = wire.points[at - 1], wire.points[at]
-        if at % 2 == 0:
+        if at % 2:
             parts.append(f'L{points[at][0]},{points[at][1]}')
         else:
             bend = max(18, (x1 - x0) / 2)
@@ -344,7 +347,8 @@ def trit_svg(x, y, text, hidden):
 def _trits_svg(box):
     top = box.y + TITLE + LINE * len(box.rows) + 3
     parts = []
-    for at, (text, hidden) in enumerate(box.trits):
+    short = -len(box.trits) % TRITS_A_ROW if len(box.trits) > TRITS_A_ROW else 0
+    for at, (text, hidden) in enumerate(box.trits, short):
         row, column = divmod(at, TRITS_A_ROW)
         parts.append(trit_svg(box.x + PAD + column * TRIT, top + row * (TRIT + 4), text, hidden))
     return parts

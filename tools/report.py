@@ -149,6 +149,12 @@ def _trits(shown):
     return ''.join('<span class="four">' + ''.join(_trit(*each) for each in group) + '</span>' for group in groups)
 
 
+def _table(title, heads, rows):
+    head = ''.join(f'<th>{each}</th>' for each in heads)
+    return (f'<h2>{title}</h2><div class="wide"><table><thead><tr>{head}</tr></thead><tbody>' + '\n'.join(rows)
+            + '</tbody></table></div>')
+
+
 def _obligations(result):
     if not result.obligations:
         return ''
@@ -158,29 +164,27 @@ def _obligations(result):
     rows = []
     for number, each in enumerate(result.obligations):
         css, text = states[each.state]
-        rows.append(f'<tr class="{css}"><td>{number}</td><td>{escape(each.edit)}</td><td class="mono">k{each.term}</td>'
+        edit = boxes.condensed(each.edit)
+        rows.append(f'<tr class="{css}"><td>{number}</td><td>{escape(edit)}</td><td class="mono">k{each.term}</td>'
                     f'<td class="state">{text}</td></tr>')
-    heads = ''.join(f'<th>{each}</th>' for each in ('no.', 'edit', 'term', 'state'))
-    return (f'<h2>Obligations</h2><table><thead><tr>{heads}</tr></thead><tbody>'
-            + '\n'.join(rows) + '</tbody></table>')
+    return _table('Obligations', ('no.', 'edit', 'term', 'state'), rows)
 
 
 def _cells(result):
     if not result.cells:
         return ''
     example = bool(result.trits)
-    heads = ['slots', 'cell'] + (['was', 'now', 'hidden under X'] if example else [])
     rows = [_cell_row(result, cell, example) for cell in result.cells]
-    title = "Cells and nets in the solver's example" if example else 'Cells'
-    return (f'<h2>{title}</h2><div class="wide"><table><thead><tr>' + ''.join(f'<th>{each}</th>' for each in heads)
-            + '</tr></thead><tbody>' + '\n'.join(rows) + '</tbody></table></div>')
+    if example:
+        return _table("Cells and nets in the solver's example", ('slots', 'cell', 'was', 'now', 'hidden under X'), rows)
+    return _table('Cells', ('slots', 'cell'), rows)
 
 
 def _cell_row(result, cell, example):
     first, last = cell.slot, cell.slot + max(1, cell.width) - 1
     slots = f's{first}' if first == last else f's{first}..s{last}'
     name = boxes.slots_text(result, cell) + ': ' if first in result.names else ''
-    text = escape(name + cell.text) + (' <span class="tag">added</span>' if cell.added else '')
+    text = escape(name + boxes.condensed(cell.text)) + (' <span class="tag">added</span>' if cell.added else '')
     ages = [(age, boxes.trits_of(result, cell, age)) for age in ('was', 'now')]
     cells = ''.join(f'<td class="trits">{_trits(shown)}</td>' for _, shown in ages) if example else ''
     if example:
