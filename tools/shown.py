@@ -68,7 +68,7 @@ def hidden(trits, ages):
 
 
 def obligations(result):
-    states = {True: 'true', False: 'FALSE', None: 'holds' if result.verdict == HOLDS else 'asked'}
+    states = {True: 'true', False: 'FALSE', None: 'holds' if result.headline == HOLDS else 'asked'}
     return table([[states[one.state], one.edit + (f': {one.shown}' if one.shown and one.state is False else '')]
                   for one in result.obligations])
 
