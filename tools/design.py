@@ -55,7 +55,8 @@ def cell_of(words, place, slot, names, end):
         pins.append(Pin(role, [net_of(word) for word in words[at:at + count]]))
         at += count
     patterns = _patterns(words, at, numbers['n'], numbers['k']) if operation == 'Match' else None
-    text = ' '.join([operation] + [notation.word_text(word, names) for word in words[place + 1:end]])
+    fields = [notation.word_text(word, names) for word in words[place + 1:end]]
+    text = ' '.join([operation] + notation.shortened(fields))
     return Cell(operation, slot, notation.output_width(words, place), text, numbers, pins, place, patterns=patterns)
 
 
@@ -83,8 +84,11 @@ def fill(result):
 
 
 def owners(result):
-    """The cell that each slot belongs to."""
-    return {slot: cell for cell in result.cells for slot in range(cell.slot, cell.slot + max(1, cell.width))}
+    """The cell that each slot belongs to; made once."""
+    if not result.owners:
+        for cell in result.cells:
+            result.owners.update((slot, cell) for slot in range(cell.slot, cell.slot + max(1, cell.width)))
+    return result.owners
 
 
 def reads_past(result, slot):

@@ -283,6 +283,23 @@ def record_tokens(words, start, end, names=None):
     return tokens
 
 
+def shortened(tokens):
+    """Tokens with runs of a cell's slots (a[0..3]) and of three and more equal nets (0*8) put together."""
+    made, at = [], 0
+    while at < len(tokens):
+        slot, run = re.fullmatch(r'(\w+)\[([0-9]+)\]', tokens[at]), 1
+        while slot and tokens[at + run:at + run + 1] == [f'{slot.group(1)}[{int(slot.group(2)) + run}]']:
+            run += 1
+        if run > 1:
+            made.append(f'{slot.group(1)}[{slot.group(2)}..{int(slot.group(2)) + run - 1}]')
+        else:
+            while tokens[at + run:at + run + 1] == [tokens[at]] and not tokens[at].startswith('#'):
+                run += 1
+            made += [f'{tokens[at]}*{run}'] if run > 2 else tokens[at:at + run]
+        at += run
+    return made
+
+
 def show(words, names=None):
     """The notation of a list, a text for the header and for each record or pair."""
     return [' '.join(record_tokens(words, start, end, names)) for start, end in records(words)]

@@ -2,6 +2,7 @@
 import dataclasses
 import os
 
+import design
 import faults
 import notation
 import source
@@ -9,6 +10,10 @@ from verdict import BROKEN, HOLDS, NOT_CHECKED, NOTHING_ASKED, REFUSED, SOLVER_W
 
 COLOURS = {HOLDS: '1;32', BROKEN: '1;31', REFUSED: '1;35', NOTHING_ASKED: '1;33', UNKNOWN: '1;36',
            SOLVER_WRONG: '1;37;41', NOT_CHECKED: '1;34', HOLDS + ' BY NO ASSIGNMENT': '1;30;43'}
+
+
+# Rows of a table of cells; of obligations half as many.
+MOST_ROWS = 40
 
 
 def coloured(stream):
@@ -43,18 +48,37 @@ def cut(text, most=60):
     return text if len(text) <= most else text[:most - 3] + '...'
 
 
-def example(result):
-    """The table of cells with their trits, highest first."""
+def near(result, most):
+    """The cells that a table of at most so many shows: those of false obligations, and then what they read."""
+    owned, slots = design.owners(result), []
+    for one in result.obligations:
+        if one.state is False and one.replacement is not None:
+            edit = result.replacements[one.replacement]
+            nets = [net for pin in edit.cell.pins for net in pin.nets] if edit.cell else [edit.old, edit.new]
+            slots += [edit.slot] * (edit.cell is not None) + [net.slot for net in nets]
+    kept = {}
+    for slot in slots:
+        if slot in owned and owned[slot].slot not in kept and len(kept) < most:
+            kept[owned[slot].slot] = owned[slot]
+            slots += [net.slot for pin in owned[slot].pins for net in pin.nets]
+    return [kept[slot] for slot in sorted(kept)]
+
+
+def example(result, all_of_it=False):
+    """The table of cells with their trits, highest first; of a large design the part where an obligation is false."""
+    few = all_of_it or len(result.cells) <= MOST_ROWS
+    cells = result.cells if few else near(result, MOST_ROWS)
     ages = [age for age in ('was', 'now') if any(getattr(trit, age) for trit in result.trits.values())]
     under = any(trit.hidden_now is not None or trit.hidden_was is not None for trit in result.trits.values())
     rows = [['slots', 'cell'] + ages + ['under X'] * under]
-    for cell in result.cells:
+    for cell in cells:
         trits = [result.trits.get(slot) for slot in reversed(range(cell.slot, cell.slot + max(1, cell.width)))]
         if any(trits):
             rows.append([run_of(cell), cut(label(result, cell))]
                         + [''.join(getattr(trit, age, None) or '-' for trit in trits) for age in ages]
                         + [hidden(trits, ages)] * under)
-    return table(rows)
+    left = len(result.cells) - len(cells)
+    return table(rows) + [f'  {left} more cells; --all shows them'] * (left > 0)
 
 
 def hidden(trits, ages):
@@ -67,10 +91,16 @@ def hidden(trits, ages):
     return ', '.join(texts)
 
 
-def obligations(result):
+def obligations(result, all_of_it=False):
+    """The obligations with their states, the false ones first; of many, some."""
     states = {True: 'true', False: 'FALSE', None: 'holds' if result.headline == HOLDS else 'asked'}
-    return table([[states[one.state], one.edit + (f': {one.shown}' if one.shown and one.state is False else '')]
-                  for one in result.obligations])
+    found = sorted(result.obligations, key=lambda one: one.state is not False)
+    kept = found if all_of_it else found[:MOST_ROWS // 2]
+    rows = [[states[one.state], one.edit + (f': {one.shown}' if one.shown and one.state is False else '')]
+            for one in kept]
+    left = [states[one.state] for one in found[len(kept):]]
+    more = ' and '.join(f"{left.count(state)} more of '{state}'" for state in dict.fromkeys(left))
+    return table(rows) + [f'  {more}; --all shows them'] * (more != '')
 
 
 def fault(result):
@@ -95,16 +125,16 @@ def _in_words(words, place):
     return [(' '.join(tokens) + ' ')[cutting:cutting + 100], ' ' * (len(before) - cutting) + '^' * size]
 
 
-def whole(result, colours):
-    """A result in full."""
+def whole(result, colours, all_of_it=False):
+    """A result in full; of long lists a part, unless all of it is asked for."""
     lines = [f'{paint(result.headline, colours)}  {result.source}', '']
     lines += ['  ' + sentence for sentence in result.sentences]
     if result.verdict == REFUSED:
         lines += [''] + fault(result)
     if result.obligations:
-        lines += [''] + obligations(result)
+        lines += [''] + obligations(result, all_of_it)
     if result.verdict in (BROKEN, SOLVER_WRONG) and result.trits:
-        lines += [''] + example(result)
+        lines += [''] + example(result, all_of_it)
     if result.hints:
         lines += [''] + [f'  Hint: {sentence}' + (f' See {page}.' if page else '') for sentence, page in result.hints]
     return '\n'.join(lines)

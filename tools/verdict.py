@@ -87,6 +87,7 @@ class Result:
     added: int = 0                                # added slots
     cells: list = field(default_factory=list)     # Cells in slot order; empty where the list is refused
     replacements: list = field(default_factory=list)
+    owners: dict = field(default_factory=dict)    # slot -> Cell; design.owners fills it
     verdict: str = None
     vacuous: bool = False                         # of HOLDS: nothing at all satisfies the cells, so nothing is shown
     sentences: list = field(default_factory=list)  # what the verdict says, whole sentences
