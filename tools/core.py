@@ -31,7 +31,7 @@ def _newest():
 
 
 def _prove(archive, stamp, say):
-    """Proves and writes the archive, unless it is there and no source has changed since."""
+    """Proves and writes the archive, unless it is there and no source has changed since its making began."""
     if os.path.exists(archive) and os.path.exists(stamp) and _newest() < os.path.getmtime(stamp):
         return
     if not shutil.which('rt'):
@@ -48,7 +48,7 @@ def _prove(archive, stamp, say):
         try:
             while running.poll() is None:
                 time.sleep(0.2)
-                say(f'proving the verifier, {time.time() - began:.0f} s', passing=True)
+                say(f'proving the verifier, {time.time() - began:.0f} s: {_last_line(log)}', passing=True)
         finally:
             if running.poll() is None:
                 running.terminate()
@@ -58,7 +58,16 @@ def _prove(archive, stamp, say):
                           f'What it wrote is in {os.path.relpath(log)}.')
     with open(stamp, 'w'):
         pass
+    os.utime(stamp, (began, began))
     say(f'proved and built in {time.time() - began:.0f} s')
+
+
+def _last_line(path):
+    """The end of what is written to a file so far, for a progress line."""
+    with open(path, 'rb') as file:
+        file.seek(max(0, os.path.getsize(path) - 400))
+        lines = file.read().decode(errors='replace').split('\n')
+    return next((line.strip()[:50] for line in reversed(lines[:-1]) if line.strip()), '')
 
 
 def _linked(archive, library):

@@ -136,7 +136,9 @@ def whole(result, colours, all_of_it=False):
     if result.verdict in (BROKEN, SOLVER_WRONG) and result.trits:
         lines += [''] + example(result, all_of_it)
     if result.hints:
-        lines += [''] + [f'  Hint: {sentence}' + (f' See {page}.' if page else '') for sentence, page in result.hints]
+        lines.append('')
+        for sentence, page in result.hints:
+            lines += [f'  Hint: {sentence}'] + [f'        See {page}.'] * (page is not None)
     return '\n'.join(lines)
 
 
