@@ -3,7 +3,6 @@
 `boxes_of(result)` gives the boxes by their keys, and the wires. A flip-flop's past has a box of its own, and so has a
 clock's: both are sources.
 """
-import re
 from dataclasses import dataclass, field
 
 from verdict import HOLDS
@@ -93,26 +92,6 @@ def nets_text(nets, names):
         else:
             runs.append([net])
     return ' '.join(_run(run, names) for run in runs)
-
-
-def condensed(text):
-    """A record's text with its runs shortened: a[0] a[1] a[2] becomes a[0..2], 0 0 0 becomes 0*3."""
-    runs = []
-    for token in text.split(' '):
-        if runs and _goes_on(runs[-1], token):
-            runs[-1].append(token)
-        else:
-            runs.append([token])
-    return ' '.join(run[0] if len(run) == 1 else f'{run[0]}*{len(run)}' if run[0] == run[1]
-                    else range_text(run[0], run[-1]) for run in runs)
-
-
-def _goes_on(run, token):
-    """Whether a run of equal constants or of rising slots goes on with a token."""
-    if token == run[-1]:
-        return token in ('0', '1', 'X') and token == run[0]
-    one, other = (re.fullmatch(r'(\w+\[|s)([0-9]+)(\]?)', each) for each in (run[-1], token))
-    return bool(one and other and one[1] == other[1] and int(other[2]) == int(one[2]) + 1)
 
 
 def slots_text(result, cell):

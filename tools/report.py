@@ -161,34 +161,35 @@ def _obligations(result):
     unjudged = {HOLDS: '✓ holds in every case', BY_NO_ASSIGNMENT: 'holds by no assignment: nothing is shown'}
     states = {True: ('kept', '✓ holds in the example'), False: ('broken', '✗ broken in the example'),
               None: ('', unjudged.get(result.headline, 'not judged'))}
+    example = any(each.shown for each in result.obligations)
     rows = []
     for number, each in enumerate(result.obligations):
         css, text = states[each.state]
-        edit = boxes.condensed(each.edit)
-        rows.append(f'<tr class="{css}"><td>{number}</td><td>{escape(edit)}</td><td class="mono">k{each.term}</td>'
-                    f'<td class="state">{text}</td></tr>')
-    return _table('Obligations', ('no.', 'edit', 'term', 'state'), rows)
+        shown = f'<td>{escape(each.shown or "")}</td>' if example else ''
+        rows.append(f'<tr class="{css}"><td>{number}</td><td>{escape(each.edit)}</td><td class="mono">k{each.term}</td>'
+                    f'<td class="state">{text}</td>{shown}</tr>')
+    return _table('Obligations', ['no.', 'edit', 'term', 'state'] + ['what its nets show'] * example, rows)
 
 
 def _cells(result):
     if not result.cells:
         return ''
-    example = bool(result.trits)
-    rows = [_cell_row(result, cell, example) for cell in result.cells]
-    if example:
-        return _table("Cells and nets in the solver's example", ('slots', 'cell', 'was', 'now', 'hidden under X'), rows)
-    return _table('Cells', ('slots', 'cell'), rows)
+    columns = [age for age in ('was', 'now') if any(getattr(trit, age) for trit in result.trits.values())]
+    hidden = any('X' in (trit.now, trit.was) for trit in result.trits.values())
+    heads = ['slots', 'cell'] + columns + ['hidden under X'] * hidden
+    rows = [_cell_row(result, cell, columns, hidden) for cell in result.cells]
+    return _table("Cells and nets in the solver's example" if columns else 'Cells', heads, rows)
 
 
-def _cell_row(result, cell, example):
+def _cell_row(result, cell, columns, hidden):
     first, last = cell.slot, cell.slot + max(1, cell.width) - 1
     slots = f's{first}' if first == last else f's{first}..s{last}'
     name = boxes.slots_text(result, cell) + ': ' if first in result.names else ''
-    text = escape(name + boxes.condensed(cell.text)) + (' <span class="tag">added</span>' if cell.added else '')
-    ages = [(age, boxes.trits_of(result, cell, age)) for age in ('was', 'now')]
-    cells = ''.join(f'<td class="trits">{_trits(shown)}</td>' for _, shown in ages) if example else ''
-    if example:
-        cells += f'<td class="mono">{", ".join(_hidden(age, shown) for age, shown in ages if _hidden(age, shown))}</td>'
+    text = escape(name + cell.text) + (' <span class="tag">added</span>' if cell.added else '')
+    ages = [(age, boxes.trits_of(result, cell, age)) for age in columns]
+    cells = ''.join(f'<td class="trits">{_trits(shown)}</td>' for _, shown in ages)
+    if hidden:
+        cells += f'<td class="mono">{", ".join(filter(None, (_hidden(*each) for each in ages)))}</td>'
     return f'<tr><td class="mono slot">{slots}</td><td class="mono">{text}</td>{cells}</tr>'
 
 
@@ -202,9 +203,9 @@ def _hidden(age, shown):
 def _script(result):
     if not result.script:
         return ''
-    lines = result.script.count('\n')
-    return (f'<h2>Script</h2><details><summary>The {lines:,} lines that the solver was given</summary>'
-            f'<pre>{escape(result.script)}</pre></details>')
+    lines = _many(result.script.count('\n'), 'line')
+    given = f'The {lines} that the solver was given' if result.solver else f'The {lines}, which no solver was given'
+    return f'<h2>Script</h2><details><summary>{given}</summary><pre>{escape(result.script)}</pre></details>'
 
 
 def _footer(result):
