@@ -176,6 +176,10 @@ def example_fits(worked, result, given):
     if now is None:
         return None
     fits = all(trit.now in (None, now[slot]) for slot, trit in result.trits.items())
+    for one in result.obligations:
+        edit = result.replacements[one.replacement]
+        if edit.kind == 'cell' and one.state is False:
+            fits = fits and one.shown.endswith(f'the new one {"".join(reversed(worked.rule(edit.cell, now, was)))}')
     return fits and worked.obligations(now, was) == [one.state for one in result.obligations]
 
 

@@ -6,6 +6,7 @@ from dataclasses import dataclass, replace
 import core
 import design
 import hints
+import notation
 import solver
 from faults import FAULTS
 from verdict import (BROKEN, HOLDS, NOTHING_ASKED, REFUSED, SOLVER_WRONG, UNKNOWN, Obligation, Trit)
@@ -33,11 +34,28 @@ def refuse(result, number, place):
     result.verdict, result.fault, result.place = REFUSED, number, place
     if result.text is not None:
         result.line, result.column = _position(result, place)
-    result.sentences = [f'Fault {number}: {FAULTS[number]}.']
+    sentence = FAULTS[number]
+    if number == 1:
+        sentence = 'words remain after the end of the list' if place < len(result.words) else 'the list ends early'
+    result.sentences = [f'Fault {number}: {sentence}.']
     if not result.words:
         result.sentences.append('The file has no words at all.')
     elif place < 4 and number in (1, 2, 4):
         result.sentences.append('A list begins with four numbers: #base #added #cellreps #netreps.')
+    elif number in (1, 2, 6, 11):
+        result.sentences += miscounted(result.words)
+
+
+def miscounted(words):
+    """For each number of the header that differs from what the list has, a sentence that tells both."""
+    slots = sum(max(1, width) for _, width in notation.slots_of_cells(words).values())
+    edits = [words[start] >> 29 == notation.NUMBER for start, _ in notation.records(words)
+             if start >= 4 and words[start] >> 29 != notation.HEAD]
+    base, added, cell_edits, net_edits = (word & notation.LAST for word in words[:4])
+    numbers = ((base + added, slots, 'slot'), (cell_edits, edits.count(True), 'cell replacement'),
+               (net_edits, edits.count(False), 'net replacement'))
+    return [f'The header speaks of {count(said, kind)}, but the list seems to have {found or "none"}.'
+            for said, found, kind in numbers if said != found]
 
 
 def _position(result, place):
@@ -215,7 +233,7 @@ class Checker:
             return 'a value of its example is wider than its name'
         for one in result.obligations:
             one.state = bool(terms[one.term])
-            one.shown = shown(result, one)
+            one.shown = None if one.state else shown(result, one, new_trits(calls, terms, one.term))
         if wrong:
             return f'under its bits {count(wrong, "assertion")} of the script {"is" if wrong == 1 else "are"} false'
         return None if agrees(result.trits, recorded, answer.read) else 'it gave one net two values'
@@ -260,14 +278,24 @@ def agrees(trits, recorded, read):
                for slot, mark in enumerate(recorded) if mark)
 
 
-def shown(result, obligation):
+def new_trits(calls, terms, obligation):
+    """A function from a width to the trits, highest first, that an obligation's new side shows; None if not known."""
+    found = core.refined(calls, obligation)
+    if found is None:
+        return None
+    x, y = terms[found[0]], terms[found[1]]
+    return lambda width: ''.join('X' if x >> at & 1 else str(y >> at & 1) for at in reversed(range(width)))
+
+
+def shown(result, obligation, new):
     """What the nets of an obligation show in the example."""
     if obligation.replacement is None:
         return None
     edit = result.replacements[obligation.replacement]
     if edit.kind == 'cell':
         now = [result.trits.get(slot, Trit()).now or '-' for slot in range(edit.slot, edit.slot + edit.cell.width)]
-        return f'the old cell gives {"".join(reversed(now))}'
+        told = f', the new one {new(edit.cell.width)}' if new else ''
+        return f'the old cell gives {"".join(reversed(now))}{told}'
     past = 'new state' not in obligation.edit and design.reads_past(result, edit.new.slot)
     values = [_value(result, edit.old, False), _value(result, edit.new, past)]
     return ', '.join(value for value in values if value) or None

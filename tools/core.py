@@ -8,6 +8,7 @@ import fcntl
 import os
 import re
 import shutil
+import struct
 import subprocess
 import sys
 import time
@@ -186,6 +187,23 @@ def query(calls):
         terms.append(calls[at] & 2 ** 29 - 1)
         at -= 1
     return terms[::-1] if at >= 0 and calls[at] == 2 << 29 | 3 + 32 * len(terms) else []
+
+
+def refined(calls, term):
+    """The terms of the x and y bits that an obligation's old net must refine to, None if they are not found.
+
+    Seven records in a row make the obligation (`tvRefines`), three words each but the first; the second reads x first,
+    the fifth reads y last.
+    """
+    binary, content = 2 << 29 | 10 + 32 * 2, bytes(calls)
+    record = struct.pack('=3I', 2 << 29 | 3 + 32 * 2, 4 << 29 | term - 4, 4 << 29 | term - 1) if term > 5 else None
+    at = content.find(record) if record else -1
+    while at % 4 and at >= 0:
+        at = content.find(record, at + 1)
+    place = at // 4
+    if place < 17 or calls[place - 15] != binary or calls[place - 6] != binary:
+        return None
+    return calls[place - 14] & 2 ** 29 - 1, calls[place - 4] & 2 ** 29 - 1
 
 
 def unqueried(calls):
