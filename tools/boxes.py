@@ -3,6 +3,7 @@
 `boxes_of(result)` gives the boxes by their keys, and the wires. A flip-flop's past has a box of its own, and so has a
 clock's: both are sources.
 """
+import re
 from dataclasses import dataclass, field
 
 from verdict import HOLDS
@@ -244,15 +245,23 @@ class _Graph:
         return cell is not None and cell.operation == 'Dff'
 
     def _cell_replacement(self, index, edit):
-        old = self.cell_of[edit.slot]
-        new = self._add(Box(('new', index), 'edit', f'{edit.cell.operation} for {slots_text(self.result, old)}', 'new'))
+        old, slots = self.cell_of[edit.slot], slots_text(self.result, self.cell_of[edit.slot])
+        new = self._add(Box(('new', index), 'edit', f'{edit.cell.operation} for {slots}', 'new'))
+        new.trits = self._new_trits(index)
         self._pins(new, edit.cell)
         if not old.width:
             return
-        box = self._judged(index, f'{slots_text(self.result, old)} → new')
-        row = self._text_row(box, 'old', slots_text(self.result, old))
-        self._wire(('now', old.slot), box, row, 'edit')
+        box = self._judged(index, f'{slots} → new')
+        self._wire(('now', old.slot), box, self._text_row(box, 'old', slots), 'edit')
         self._wire(new.key, box, self._text_row(box, 'new', edit.cell.operation), 'edit')
+        for row, trits in zip(box.rows, (trits_of(self.result, old, 'now'), new.trits)):
+            row.trit = trits[0] if len(trits) == 1 else None
+
+    def _new_trits(self, index):
+        """What a new cell gives in the example, which is told with its obligation."""
+        told = [each.shown or '' for each in self.result.obligations if each.replacement == index]
+        found = re.search('the new one ([01X]+)', told[0]) if told else None
+        return [(sign, False) for sign in found.group(1)] if found else []
 
 
 def _inactive(cell, role):

@@ -81,6 +81,13 @@ def _mark_loops(boxes, wires):
         wire.back = wire.looped and order[wire.source] >= order[wire.target]
 
 
+def has_loop(result):
+    """Whether the cells of a result have a current loop."""
+    boxes, wires = boxes_of(result)
+    _mark_loops(boxes, wires)
+    return any(wire.looped for wire in wires)
+
+
 def _layer(boxes, wires):
     """Each box goes one layer after the last box it reads."""
     readers, waiting = {}, {key: 0 for key in boxes}

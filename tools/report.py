@@ -47,16 +47,28 @@ def _breakable(obligations):
 
 def _verdict(result):
     word = result.headline
-    sentences = ''.join(f'<p>{escape(each)}</p>' for each in result.sentences if not each.startswith('Asked:'))
+    sentences = [each for each in result.sentences if not each.startswith('Asked:')]
+    broken = [each for each in result.obligations if each.state is False and each.shown]
+    if result.verdict == BROKEN and broken:
+        sentences.append(f'{broken[0].edit}: {broken[0].shown}.')
+    text = ''.join(f'<p>{escape(each)}</p>' for each in sentences)
     return (f'<header class="verdict {CLASSES[word]}"><svg viewBox="0 0 64 64" aria-hidden="true">{SHAPES[word]}</svg>'
-            f'<div><h1>{word}</h1><p class="asked">{asked(result)}</p>{sentences}</div></header>')
+            f'<div><h1>{word}</h1><p class="asked">{asked(result)}</p>{text}</div></header>')
+
+
+LOOP = ('The cells have a current loop. Where it has no assignment nothing is judged, so this HOLDS may speak of '
+        'fewer cases than the design has.', 'course/d-added-flip-flops.md')
 
 
 def _hints(result):
-    if not result.hints:
+    """What to beware of, and the page of the course that tells more."""
+    hints = list(result.hints)
+    if result.headline == HOLDS and drawing.has_loop(result):
+        hints.append(LOOP)
+    if not hints:
         return ''
     parts = [f'<p>{escape(sentence)}{f" See <code>{escape(where)}</code>." if where else ""}</p>'
-             for sentence, where in result.hints]
+             for sentence, where in hints]
     return '<div class="hints">' + ''.join(parts) + '</div>'
 
 
@@ -126,7 +138,7 @@ def _drawing(result):
     if any(wire.style == 'past' for wire in found.wires):
         sentences.append('A dotted line reads the past.')
     if any(wire.looped for wire in found.wires):
-        sentences.append('Thick lines are a current loop: cases in which its cells have no assignment are not judged.')
+        sentences.append('Thick lines are a current loop.')
     if len(found.bands) > 1:
         sentences.append('The drawing goes on below each dotted line; a short line into a box comes from another row, '
                          'from the net that the box names.')
@@ -158,7 +170,7 @@ def _table(title, heads, rows):
 def _obligations(result):
     if not result.obligations:
         return ''
-    unjudged = {HOLDS: '✓ holds in every case', BY_NO_ASSIGNMENT: 'holds by no assignment: nothing is shown'}
+    unjudged = {HOLDS: '✓ no case breaks it', BY_NO_ASSIGNMENT: 'holds by no assignment: nothing is shown'}
     states = {True: ('kept', '✓ holds in the example'), False: ('broken', '✗ broken in the example'),
               None: ('', unjudged.get(result.headline, 'not judged'))}
     example = any(each.shown for each in result.obligations)
