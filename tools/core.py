@@ -5,6 +5,7 @@ Every entry here asks the archive and lends the room that the archive says it ne
 """
 import ctypes
 import fcntl
+import glob
 import os
 import re
 import shutil
@@ -12,6 +13,7 @@ import struct
 import subprocess
 import sys
 import time
+import zlib
 
 ROOT = os.path.dirname(os.path.dirname(os.path.abspath(__file__)))
 FOLDER = os.path.join(ROOT, 'target', 'vm')
@@ -31,10 +33,13 @@ def _newest():
     return max(times)
 
 
+def _proved(archive, stamp):
+    """Whether the archive is there and no source has changed since its making began."""
+    return os.path.exists(archive) and os.path.exists(stamp) and _newest() < os.path.getmtime(stamp)
+
+
 def _prove(archive, stamp, say):
-    """Proves and writes the archive, unless it is there and no source has changed since its making began."""
-    if os.path.exists(archive) and os.path.exists(stamp) and _newest() < os.path.getmtime(stamp):
-        return
+    """Proves and writes the archive."""
     if not shutil.which('rt'):
         with open(os.path.join(ROOT, 'toolchain.txt')) as pinned:
             kit = pinned.read().strip()
@@ -71,10 +76,8 @@ def _last_line(path):
     return next((line.strip()[:50] for line in reversed(lines[:-1]) if line.strip()), '')
 
 
-def _linked(archive, library):
-    """Makes the shared library, unless it is there and as new as the archive."""
-    if os.path.exists(library) and os.path.getmtime(archive) <= os.path.getmtime(library):
-        return
+def _link(archive, library):
+    """Makes the shared library from the archive, and removes older ones beside it."""
     compiler = next((name for name in ('cc', 'gcc', 'clang') if shutil.which(name)), None)
     if not compiler:
         raise Unavailable('No C compiler is on the PATH to link the proved archive with: apt-get install gcc.')
@@ -83,26 +86,60 @@ def _linked(archive, library):
                           stdout=subprocess.PIPE, stderr=subprocess.STDOUT, stdin=subprocess.DEVNULL)
     if done.returncode != 0:
         raise Unavailable(f'The proved archive could not be linked: {done.stdout.decode(errors="replace").strip()}')
+    for old in glob.glob(os.path.join(glob.escape(os.path.dirname(library)), '*.so')):
+        os.remove(old)
     os.replace(made, library)
 
 
+def _library(archive, folder):
+    """The name of the shared library of an archive as it is now."""
+    state = os.stat(archive)
+    key = zlib.crc32(f'{os.path.realpath(archive)} {state.st_mtime_ns} {state.st_size}'.encode())
+    return os.path.join(folder, f'libvirginalmimas-{key:08x}.so')
+
+
+def _folders():
+    """Where shared libraries are kept: in the repository, and in the user's own cache where that cannot be written."""
+    cache = os.environ.get('XDG_CACHE_HOME') or os.path.join(os.path.expanduser('~'), '.cache')
+    return FOLDER, os.path.join(cache, 'virginalmimas')
+
+
+def _found(archive):
+    """The shared library of an archive, None if it is still to be made."""
+    return next((path for path in (_library(archive, folder) for folder in _folders()) if os.path.exists(path)), None)
+
+
+def _locked(folder, work):
+    """Does work in a folder, one process at a time."""
+    os.makedirs(folder, exist_ok=True)
+    with open(os.path.join(folder, 'lock'), 'w') as lock:
+        fcntl.flock(lock, fcntl.LOCK_EX)
+        return work()
+
+
+def _made(archive, folder):
+    library = _library(archive, folder)
+    if not os.path.exists(library):
+        _link(archive, library)
+    return library
+
+
 def _loaded(say):
-    """The path of the shared library, made where it is missing or old."""
-    named = os.environ.get('VIRGINALMIMAS_ARCHIVE')
+    """The path of the shared library, proved and made where it is missing or old."""
+    named, stamp = os.environ.get('VIRGINALMIMAS_ARCHIVE'), os.path.join(FOLDER, 'stamp')
     archive = os.path.join(named or os.path.join(ROOT, 'target', 'staticlib'), 'libvirginalmimas.a')
     if named and not os.path.exists(archive):
         raise Unavailable(f'VIRGINALMIMAS_ARCHIVE names a folder without libvirginalmimas.a: {named}.')
-    library = os.path.join(FOLDER, 'libvirginalmimas.so')
+    own, cache = _folders()
+    folder = own if os.access(own if os.path.isdir(own) else ROOT, os.W_OK) else cache
     try:
-        os.makedirs(FOLDER, exist_ok=True)
-        with open(os.path.join(FOLDER, 'lock'), 'w') as lock:
-            fcntl.flock(lock, fcntl.LOCK_EX)
-            if not named:
-                _prove(archive, os.path.join(FOLDER, 'stamp'), say)
-            _linked(archive, library)
+        if not named and not _proved(archive, stamp):
+            if folder != own:
+                raise Unavailable(f'The proved archive is not built for these sources, and you may not write in {ROOT}.')
+            _locked(own, lambda: _proved(archive, stamp) or _prove(archive, stamp, say))
+        return _found(archive) or _locked(folder, lambda: _made(archive, folder))
     except OSError as error:
-        raise Unavailable(f'The shared library could not be made: {error.strerror}: {error.filename}.')
-    return library
+        raise Unavailable(f'The shared library could not be made: {(error.strerror or "").lower()}: {error.filename}.')
 
 
 class Core:
