@@ -135,7 +135,7 @@ def _loaded(say):
     try:
         if not named and not _proved(archive, stamp):
             if folder != own:
-                raise Unavailable(f'The proved archive is not built for these sources, and you may not write in {ROOT}.')
+                raise Unavailable(f'The proved archive is not built for these sources, but you cannot write in {ROOT}.')
             _locked(own, lambda: _proved(archive, stamp) or _prove(archive, stamp, say))
         return _found(archive) or _locked(folder, lambda: _made(archive, folder))
     except OSError as error:
