@@ -103,24 +103,24 @@ def slots_text(result, cell):
     return first if cell.width < 2 else f'{first}..{result.slot_text(cell.slot + cell.width - 1)}'
 
 
+def trit_at(result, slot, age):
+    """The trit of a slot now or before, None where the example has none, and whether a 1 is hidden under it."""
+    trit = result.trits.get(slot)
+    if trit is None:
+        return None, False
+    shown, hidden = (trit.now, trit.hidden_now) if age == 'now' else (trit.was, trit.hidden_was)
+    return shown, shown == 'X' and bool(hidden)
+
+
 def trits_of(result, cell, age):
-    """The trits of a cell's slots, highest first, each with whether a 1 is hidden under it."""
-    shown = []
-    for slot in range(cell.slot + max(1, cell.width) - 1, cell.slot - 1, -1):
-        trit = result.trits.get(slot)
-        if trit is None:
-            shown.append((None, False))
-        else:
-            shown.append((trit.now, bool(trit.hidden_now)) if age == 'now' else (trit.was, bool(trit.hidden_was)))
+    """The trits of a cell's slots, highest first; none where the example has none of them."""
+    shown = [trit_at(result, slot, age) for slot in range(cell.slot + max(1, cell.width) - 1, cell.slot - 1, -1)]
     return shown if any(text for text, _ in shown) else []
 
 
 def trit_of(result, net, age):
     """The trit of a net, or None where the example has none or the net is a constant."""
-    trit = result.trits.get(net.slot)
-    if trit is None:
-        return None
-    shown = (trit.now, bool(trit.hidden_now)) if age == 'now' else (trit.was, bool(trit.hidden_was))
+    shown = trit_at(result, net.slot, age)
     return shown if shown[0] else None
 
 

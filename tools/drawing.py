@@ -382,11 +382,12 @@ def _box_svg(box):
 
 
 def svg(drawing, label='The cells and nets of the design'):
-    """The drawing as SVG, without styles: the page has them."""
+    """The drawing as SVG, enlarged where there is room; the page has its styles."""
     scale = min(LARGEST_SCALE, max(1, (WIDEST + MARGIN) / drawing.width))
     size = ' '.join(_number(value) for value in (drawing.width, drawing.height))
     parts = [f'<svg xmlns="http://www.w3.org/2000/svg" role="img" aria-label="{escape(label)}" viewBox="0 0 {size}" '
-             f'width="{_number(drawing.width * scale)}" height="{_number(drawing.height * scale)}">']
+             f'width="{_number(drawing.width * scale)}" height="{_number(drawing.height * scale)}" '
+             f'style="min-width: {_number(drawing.width)}px">']
     for top in drawing.bands[1:]:
         y = _number(top - BAND_GAP / 2)
         parts.append(f'<path class="band" d="M{MARGIN},{y} L{_number(drawing.width - MARGIN)},{y}"/>')

@@ -74,20 +74,24 @@ def _hints(result):
 
 # The design and its fault
 
-def _caret(result, number, line):
-    """The line of a text at which the list is refused, with a caret under its word."""
-    if result.line != number or result.column is None:
-        return escape(line)
-    sentence = f'{" " * (result.column - 1)}^ fault {result.fault}'
-    return f'{escape(line)}\n<span class="caret">{escape(sentence)}</span>'
+def _place(result):
+    """The line at which a list is refused, from 1, and the column; of words, the record and its first column."""
+    if result.verdict != REFUSED or result.text is not None:
+        return result.line, result.column
+    records = list(notation.records(result.words))
+    found = [at for at, (start, end) in enumerate(records, 1) if start <= (result.place or 0) < end]
+    return (found[0] if found else len(records)), 1
 
 
 def _design(result):
-    lines = result.text.rstrip('\n').split('\n') if result.text else notation.show(result.words)
-    text = '\n'.join(_caret(result, number, line) for number, line in enumerate(lines, 1))
-    fold = result.verdict != REFUSED and len(lines) > 24
-    body = f'<pre>{text}</pre>'
-    if fold:
+    lines = notation.show(result.words) if result.text is None else result.text.rstrip('\n').split('\n')
+    number, column = _place(result)
+    shown = [escape(line) for line in lines]
+    if result.verdict == REFUSED and number and number <= len(shown):
+        caret = ' ' * (column - 1) + '^ fault ' + str(result.fault)
+        shown.insert(number, f'<span class="caret">{caret}</span>')
+    body = '<pre>' + '\n'.join(shown) + '</pre>'
+    if result.verdict != REFUSED and len(lines) > 24:
         body = f'<details><summary>{len(lines):,} lines</summary>{body}</details>'
     return f'<h2>The design</h2>{_fault(result)}{body}'
 
@@ -96,7 +100,10 @@ def _fault(result):
     if result.verdict != REFUSED or result.fault is None:
         return ''
     where = f', line {result.line}, column {result.column}' if result.line else ''
-    sentence = f'Fault {result.fault} at word {result.place}{where}.'
+    word = ''
+    if result.fault < 14 and result.place < len(result.words):
+        word = f', which is {notation.word_text(result.words[result.place], result.names)}'
+    sentence = f'Fault {result.fault} at word {result.place}{word}{where}.'
     return f'<p class="asked">{escape(sentence)}</p>'
 
 
@@ -226,12 +233,12 @@ def _footer(result):
         parts.append(f'solver {result.solver}')
     if result.seconds is not None:
         parts.append(f'{result.seconds:.2f} s')
-    return f'<footer>{escape(", ".join(parts))}.</footer>'
+    return f'<footer>{escape(", ".join(parts))}.</footer>' if parts else ''
 
 
 def page(result):
     """The page of a result."""
-    name = os.path.basename(result.source or '') or 'design'
+    name = 'standard input' if result.source == '-' else os.path.basename(result.source)
     body = '\n'.join(part for part in (
         f'<p class="file">{escape(name)}</p>', _verdict(result), _hints(result), _drawing(result), _obligations(result),
         _cells(result), _design(result), _script(result), _footer(result)) if part)
