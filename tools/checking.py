@@ -1,4 +1,5 @@
 """From a design to its verdict: the verifier's script to a solver, and its reply back through the verifier."""
+import os
 import re
 import time
 from dataclasses import dataclass, replace
@@ -12,6 +13,8 @@ from faults import FAULTS
 from verdict import (BROKEN, HOLDS, NOTHING_ASKED, REFUSED, SOLVER_WRONG, UNKNOWN, Obligation, Trit)
 
 TRITS = '01X'
+# Of what two solvers tell, the first of these counts.
+GRAVITY = (SOLVER_WRONG, BROKEN, HOLDS, UNKNOWN)
 
 
 @dataclass
@@ -122,23 +125,22 @@ class Checker:
         return result
 
     def _ask(self, result, calls, recorded):
-        """Asks each solver; an example that the evaluator confirms outweighs an unsat."""
-        said = []
+        """Asks each solver, and takes the gravest of what they tell; what the others tell is added."""
+        told = []
         for parts in self.commands():
-            result.solver = parts[0].rpartition('/')[2]
-            self._answer(result, calls, recorded, parts)
-            said.append((result.solver, result.verdict))
-            if result.verdict in (BROKEN, SOLVER_WRONG):
-                break
-        wrong = [name for name, verdict in said if verdict == HOLDS]
-        if result.verdict == BROKEN and wrong:
-            result.verdict, result.vacuous = SOLVER_WRONG, False
-            result.sentences.insert(0, f'{" and ".join(wrong)} answered unsat, but the example of {result.solver} '
-                                    'breaks an obligation.')
-        if result.verdict == UNKNOWN and wrong:
-            result.verdict, result.solver = HOLDS, wrong[0]
-            self._holds(result, wrong[0])
-            result.sentences.append(f'{said[-1][0]} gave no verdict.')
+            one = replace(result, obligations=[replace(obligation) for obligation in result.obligations])
+            one.solver = os.path.basename(parts[0])
+            self._answer(one, calls, recorded, parts)
+            told.append(one)
+        grave = min(told, key=lambda one: (GRAVITY.index(one.verdict), not one.vacuous))
+        others = [one for one in told if one is not grave]
+        grave.sentences += [f'{one.solver} says {one.headline}.' for one in others]
+        denied = [one.solver for one in others if one.verdict == HOLDS]
+        if grave.verdict == BROKEN and denied:
+            grave.verdict = SOLVER_WRONG
+            grave.sentences.insert(0, f'{" and ".join(denied)} answered unsat, but {grave.solver} has an example that '
+                                   'breaks an obligation.')
+        vars(result).update(vars(grave))
 
     def _answer(self, result, calls, recorded, parts):
         """Puts a solver's verdict into a result."""
@@ -202,7 +204,7 @@ class Checker:
             result.sentences[:1] = [
                 f'{result.solver} answered unsat, and does so without the question too: no assignment fits the cells.',
                 'So every obligation holds by no assignment, and nothing is shown of the edits.',
-                'The cells have a current loop, such as an inverter that is fed by itself.']
+                'Then the cells have a current loop, such as an inverter that is fed by itself.']
 
     def _sat(self, result, calls, recorded, names, answer):
         """The verdict of sat: the evaluator must find every assertion true under the solver's bits."""
