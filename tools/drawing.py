@@ -13,7 +13,8 @@ CHARACTER, PAD = 7.3, 8
 TRIT, TRITS_A_ROW = 16, 16
 COLUMN_GAP, ROW_GAP, BAND_GAP, MARGIN = 54, 16, 34, 14
 WIDEST = 1120
-MOST_BOXES, PART = 160, 40
+MOST_BOXES = 160   # that a drawing shows
+FEW, PART = 48, 24   # of more than FEW boxes the PART nearest to a broken edit are drawn first
 LARGEST_SCALE = 1.4
 
 
@@ -25,7 +26,6 @@ class Drawing:
     height: float = 0
     bands: list = field(default_factory=list)   # the y at which each band begins
     stubs: list = field(default_factory=list)   # (x, y, style): reads whose source is in another band or not drawn
-    whole: bool = True        # every box of the design is drawn
 
 
 # Layers
@@ -247,16 +247,15 @@ def _back(wires, boxes, bottom, widths):
     return bottom + (12 + 9 * len(wires) if wires else 0)
 
 
-def draw(result, most=MOST_BOXES):
-    """The drawing of a result, None where nothing is drawn. Of more than `most` boxes only those nearest to the first
-    broken edit are drawn, and none where there is no such edit."""
+def draw(result, part=False):
+    """The drawing of a result, or of the boxes nearest to its first broken edit; None where there are no boxes to draw,
+    or more than MOST_BOXES."""
     boxes, wires = boxes_of(result)
-    whole = len(boxes) <= most
-    if not whole:
+    if part:
         boxes = _nearest(boxes, wires)
-    if not boxes:
+    if not 0 < len(boxes) <= MOST_BOXES:
         return None
-    drawing = Drawing(list(boxes.values()), [wire for wire in wires if wire.target in boxes], whole=whole)
+    drawing = Drawing(list(boxes.values()), [wire for wire in wires if wire.target in boxes])
     inner = [wire for wire in drawing.wires if wire.source in boxes]
     _mark_loops(boxes, inner)
     _layer(boxes, inner)

@@ -131,25 +131,40 @@ def _sample(kind):
 
 
 def _drawing(result):
+    """The drawing of the whole design; of a large one the part at a broken edit first, and the whole in a fold-out."""
     if not result.cells and not result.replacements:
         return ''
-    found = drawing.draw(result)
+    whole = drawing.draw(result)
     many = f'{_many(len(result.cells), "cell")} and {_many(len(result.replacements), "edit")}'
-    if found is None:
-        return f'<h2>Drawing</h2><p>{many} are more than a drawing can show: the tables below have all of them.</p>'
+    if whole and len(whole.boxes) <= drawing.FEW:
+        return '<h2>Drawing</h2>' + _drawn(result, whole)
+    part = drawing.draw(result, part=True)
+    parts = ['<h2>Drawing</h2>']
+    if part:
+        sentence = f'The design has {many}. These are the {len(part.boxes)} boxes nearest to the first broken edit.'
+        parts.append(f'<p>{sentence}</p>{_drawn(result, part)}')
+    if whole and part:
+        parts.append(f'<details><summary>The whole design: {len(whole.boxes)} boxes</summary>{_drawn(result, whole)}'
+                     '</details>')
+    elif whole:
+        parts.append(_drawn(result, whole))
+    else:
+        parts.append(f'<p>{many} are more than a drawing can show: the tables below have all of them.</p>')
+    return ''.join(parts)
+
+
+def _drawn(result, found):
+    """A drawing with its legend and what is to be known of its lines."""
     sentences = ['Reads run from left to right. Nets stand in the order of the notation, lowest first; trits highest '
                  'first.']
-    if not found.whole:
-        sentences.insert(0, f'{many} are more than a drawing can show. These are the {len(found.boxes)} boxes nearest '
-                            'to the first broken edit; the tables below have all.')
     if any(wire.style == 'past' for wire in found.wires):
         sentences.append('A dotted line reads the past.')
     if any(wire.looped for wire in found.wires):
         sentences.append('Thick lines are a current loop.')
-    if len(found.bands) > 1:
-        sentences.append('The drawing goes on below each dotted line; a short line into a box comes from another row, '
-                         'from the net that the box names.')
-    return (f'<h2>Drawing</h2><p>{" ".join(sentences)}</p>{_legend(result, found.boxes)}'
+    if found.stubs:
+        sentences.append('A short line into a box comes from a net that is drawn elsewhere or not at all, and that the '
+                         'box names.')
+    return (f'<p>{" ".join(sentences)}</p>{_legend(result, found.boxes)}'
             f'<div class="scroll" tabindex="0">{drawing.svg(found)}</div>')
 
 
