@@ -1,0 +1,254 @@
+#!/usr/bin/env python3
+# Random accepted designs through z3 and cvc5: no error line, both agree, every reply reads back, the evaluator confirms
+# every example, working out from an example's sources gives the example, and where sources are few the verdict is that
+# of trying all of them.
+#
+#   tests/vm_solvers.py [COUNT [SEED]]      1,000 designs from seed 1
+import itertools, os, random, sys, time
+
+ROOT = os.path.dirname(os.path.dirname(os.path.abspath(__file__)))
+sys.pycache_prefix = os.path.join(ROOT, 'target', 'pycache')
+sys.path[:0] = [os.path.join(ROOT, 'tools'), os.path.join(ROOT, 'tests')]
+import checking
+import core
+import design
+import notation
+import solver
+from verdict import BROKEN, HOLDS, NOTHING_ASKED, Result
+from vm_working_out import Design
+
+FEW = 3 ** 6
+CONSTANT_RUNS = ('clear value', 'reset value')
+CONTROLS = ('clock', 'clear', 'reset', 'enable')
+
+
+class Maker:
+    """Makes an accepted design at random."""
+
+    def __init__(self, seed):
+        self.random = random.Random(seed)
+        self.base = self.random.randint(2, 9)
+        self.added = self.random.choice((0, 0, 1, 3, 5))
+        self.total, self.voids = self.base + self.added, set()
+
+    def constant(self):
+        return self.random.choice('01X')
+
+    def net(self, below):
+        """A net of an earlier slot, or seldom of any; a constant at times."""
+        most = self.total if self.random.random() < 0.015 else below
+        slots = [slot for slot in range(most) if slot not in self.voids]
+        return f's{self.random.choice(slots)}' if slots and self.random.random() < 0.85 else self.constant()
+
+    def cell(self, operation, room, below):
+        """The record of a cell whose outputs take at most `room` slots, and its width."""
+        kinds, runs = design.LAYOUTS[operation]
+        pick = self.random.randint
+        numbers = {'n': pick(1, max(1, min(3, room - (operation == 'Adc')))), 'm': pick(0, 3), 'stride': pick(0, 3),
+                   'k': pick(1, max(1, min(3, room))), 'reset over enable': pick(0, 1)}
+        numbers['u'] = pick(0, numbers['n'])
+        numbers['offset'] = pick(0, numbers['n'] - numbers['u'])
+        words = [operation] + [f'#{numbers[kind]}' for kind in kinds]
+        for role, many in runs:
+            for _ in range(numbers.get(many, many)):
+                words.append(self.constant() if role in CONSTANT_RUNS else self.pin(operation, role, below))
+        if operation == 'Match':
+            for _ in range(numbers['k']):
+                alternates = pick(0, 2)
+                words += [f'#{alternates}'] + [self.constant() for _ in range(alternates * numbers['n'])]
+        text = ' '.join(words)
+        parsed = notation.parse('#0 #0 #0 #0, ' + text)[0]
+        return text, notation.output_width(parsed, 4)
+
+    def pin(self, operation, role, below):
+        """A net for a place of a cell; controls are inverted at times, and a Dff's are often plain."""
+        inverted = operation in ('Aig', 'Dff') and role in CONTROLS + ('left', 'right') and self.random.random() < 0.25
+        if operation == 'Dff' and role in ('clear', 'reset', 'enable') and self.random.random() < 0.6:
+            return '1' if role == 'enable' else '0'
+        return '!' * inverted + self.net(below)
+
+    def run(self, start, end, weights):
+        """Cells for the slots from start to end."""
+        records, at = [], start
+        while at < end:
+            operation = self.random.choices(*zip(*weights))[0]
+            text, width = self.cell(operation, end - at, at)
+            if max(1, width) <= end - at:
+                if operation == 'Void' and start == 0:
+                    self.voids.add(at)
+                records.append((at, text, width))
+                at += max(1, width)
+        return records
+
+    def words(self):
+        weights = [(name, 3) for name in notation.OPERATIONS] + [('Input', 12), ('Dff', 6), ('Mux', 3)]
+        weights = [(name, 0.4 if name in ('Void', 'Note', 'IoBuf') else weight) for name, weight in weights]
+        base = self.run(0, self.base, weights)
+        added = self.run(self.base, self.total, [(name, weight) for name, weight in weights if name != 'Input'])
+        added = self.copies(base, added)
+        edits = self.cell_edits(base)
+        pairs = self.net_edits(base, added)
+        if not edits and not pairs and self.random.random() < 0.8:
+            pairs = [f's{self.random.randrange(self.base)} {self.net(self.total)}']
+        head = f'#{self.base} #{self.added} #{len(edits)} #{len(pairs)}'
+        return notation.parse('\n'.join([head] + [text for _, text, _ in base + added] + edits + pairs))[0]
+
+    def copies(self, base, added):
+        """The added cells, some of them made copies of cells of the base of the same width."""
+        made = []
+        for slot, text, width in added:
+            same = [other for _, other, wide in base
+                    if wide == width and not other.startswith(('Input', 'Void', 'IoBuf'))]
+            made.append((slot, self.random.choice(same) if same and self.random.random() < 0.5 else text, width))
+        return made
+
+    def cell_edits(self, base):
+        edits = []
+        for slot, text, width in base:
+            if text.startswith(('Void', 'Input')) or self.random.random() < 0.7:
+                continue
+            if width and not text.startswith('Note') and self.random.random() < 0.6:
+                edits.append(f'#{slot} {self.turned(text)}')
+            elif width:
+                edits += [f'#{slot} {new}' for new in self.other(width, slot)]
+        return edits
+
+    def other(self, width, slot):
+        """Another cell of a width, if one is met."""
+        operations = [name for name in notation.OPERATIONS if name not in ('Void', 'Input', 'Note')]
+        made = [self.cell(self.random.choice(operations), width, slot) for _ in range(10)]
+        return [text for text, wide in made if wide == width][:1]
+
+    def turned(self, text):
+        """The same cell, with its operands turned round where this changes nothing."""
+        words = text.split()
+        if words[0] in ('And', 'Or', 'Xor', 'Mul', 'Eq'):
+            n = int(words[1][1:])
+            return ' '.join(words[:2] + words[2 + n:] + words[2:2 + n])
+        return text
+
+    def net_edits(self, base, added):
+        pairs, copied = [], {text: slot for slot, text, width in added if width}
+        for slot, text, width in base:
+            for at in range(slot, slot + max(1, width)):
+                if self.random.random() < 0.85 and not (text in copied and self.random.random() < 0.7):
+                    continue
+                copy = copied.get(text)
+                to = f's{copy + at - slot}' if copy is not None and self.random.random() < 0.8 else self.net(self.total)
+                pairs.append(f's{at} {to}')
+        return pairs
+
+
+def sources(result, worked):
+    """The given trits that the script names: (age, slot)."""
+    named = [name for name, _ in core.declared(result.script) if name.endswith('x') and name[0] in 'np']
+    return [('was' if name[0] == 'p' else 'now', int(name[1:-1])) for name in named
+            if name[0] == 'p' or worked.source(int(name[1:-1]))]
+
+
+def filled(worked, chosen):
+    """Two tables of given trits; those that the script does not name are 0."""
+    now = {slot: '0' for slot in worked.owner if worked.source(slot)}
+    was = {slot: '0' for slot in worked.owner}
+    for (age, slot), trit in chosen:
+        (now if age == 'now' else was)[slot] = trit
+    return now, was
+
+
+def tried(worked, given):
+    """Whether some choice of the sources breaks an obligation, by working out; None with a current loop."""
+    for choice in itertools.product('01X', repeat=len(given)):
+        now, was = filled(worked, zip(given, choice))
+        if any(was[a] != was[b] for a, b in worked.joined):
+            continue
+        now = worked.worked_out(now, was)
+        if now is None:
+            return None
+        if not all(worked.obligations(now, was)):
+            return True
+    return False
+
+
+def example_fits(worked, result, given):
+    """Whether working out from an example's sources gives its trits and its obligations; None with a current loop."""
+    now, was = filled(worked, [((age, slot), getattr(result.trits[slot], age)) for age, slot in given])
+    now = worked.worked_out(now, was)
+    if now is None:
+        return None
+    fits = all(trit.now in (None, now[slot]) for slot, trit in result.trits.items())
+    for one in result.obligations:
+        edit = result.replacements[one.replacement]
+        if edit.kind == 'cell' and one.state is False:
+            fits = fits and one.shown.endswith(f'the new one {"".join(reversed(worked.rule(edit.cell, now, was)))}')
+    return fits and worked.obligations(now, was) == [one.state for one in result.obligations]
+
+
+class Watched(solver.Solvers):
+    """Solvers whose replies may have no error line, but where unsat leaves no values to ask for."""
+
+    def reply(self, parts, script, seconds, tick=None):
+        reply = super().reply(parts, script, seconds)
+        if b'error' in reply.text and not reply.text.startswith(b'unsat'):
+            raise SystemExit(f'{parts[0]}: {reply.text.decode(errors="replace")[:500]}')
+        return reply
+
+
+def main(count=1000, seed=1):
+    verifier, solvers = core.Core(core.progress('solvers')), Watched()
+    checkers = [checking.Checker(verifier, lambda name=name: [solver.command(name)], 60, solvers)
+                for name in ('z3', 'cvc5')]
+    tally, began = {}, time.time()
+    for at in range(seed, seed + count):
+        words = accepted(at, verifier)
+        results = [checker.check(Result(f'seed {at}', words=words)) for checker in checkers]
+        judge(at, results, tally)
+        if sys.stderr.isatty():
+            print(f'\r{at - seed + 1} of {count}', end='', file=sys.stderr)
+    counts = ', '.join(f'{number} {what}' for what, number in sorted(tally.items()))
+    print(f'solvers: {count} designs in {time.time() - began:.0f} s: {counts}')
+
+
+def accepted(seed, verifier):
+    """The words of an accepted design; one that reads a Void further on is made anew."""
+    for again in range(20):
+        words = Maker(seed + again * 10 ** 9).words()
+        number, place = verifier.read(words)
+        if number != 10:
+            break
+    if number:
+        raise SystemExit(f'seed {seed}: refused {number} at {place}: {", ".join(notation.show(words))}')
+    return words
+
+
+def judge(at, results, tally):
+    """Holds two results of a design to each other and to working out."""
+    first, second = results
+    text = ', '.join(notation.show(first.words))
+    told = first.headline, second.headline
+    if told[0] != told[1] or first.verdict not in (HOLDS, BROKEN, NOTHING_ASKED):
+        raise SystemExit(f'seed {at}: {told}, {first.sentences}, {second.sentences}: {text}')
+    if len(design.obligations(first)) != len(first.obligations):
+        raise SystemExit(f'seed {at}: the edits of the obligations are not told: {text}')
+    tally[first.headline] = tally.get(first.headline, 0) + 1
+    worked = Design(first)
+    given = sources(first, worked)
+    for result in results:
+        if result.verdict == BROKEN:
+            fits = example_fits(worked, result, given)
+            if fits is False:
+                raise SystemExit(f'seed {at}: the example of {result.solver} is not what working out gives: {text}')
+            note(tally, 'examples worked out' if fits else 'examples with a loop')
+    if first.verdict == NOTHING_ASKED or 3 ** len(given) > FEW:
+        return
+    broken = tried(worked, given)
+    if broken is not None and (broken != (first.verdict == BROKEN) or first.vacuous):
+        raise SystemExit(f'seed {at}: {told[0]}, but trying all sources says {"broken" if broken else "holds"}: {text}')
+    note(tally, 'tried with all sources' if broken is not None else 'with few sources and a loop')
+
+
+def note(tally, what):
+    tally[what] = tally.get(what, 0) + 1
+
+
+if __name__ == '__main__':
+    main(*(int(argument) for argument in sys.argv[1:3]))

@@ -1,0 +1,184 @@
+#!/usr/bin/env python3
+# What vm says without the proved archive and without a solver: notation with names, bad files and texts, bad arguments,
+# words and faults. Every refusal is a sentence and has its exit status; there is never a traceback.
+import importlib.machinery, importlib.util, io, os, struct, sys, tempfile
+
+ROOT = os.path.dirname(os.path.dirname(os.path.abspath(__file__)))
+sys.pycache_prefix = os.path.join(ROOT, 'target', 'pycache')
+sys.path.insert(0, os.path.join(ROOT, 'tools'))
+import faults
+import notation
+import shown
+import solver
+import source
+import verdict
+
+done = 0
+
+
+def same(found, expected, what):
+    global done
+    done += 1
+    if found != expected:
+        sys.exit(f'tests/vm_text.py: {what}:\n  found    {found!r}\n  expected {expected!r}')
+
+
+def vm(*arguments, given=b''):
+    """What vm does in the folder, where there is no rt, no solver and no archive: its status and what it writes."""
+    kept = sys.argv, sys.stdin, sys.stdout, sys.stderr
+    streams = [io.TextIOWrapper(io.BytesIO(content), encoding='utf-8') for content in (given, b'', b'')]
+    sys.argv, (sys.stdin, sys.stdout, sys.stderr) = ['vm', *arguments], streams
+    try:
+        status = command.main()
+    except SystemExit as end:
+        status = end.code
+    finally:
+        sys.argv, sys.stdin, sys.stdout, sys.stderr = kept
+    for stream in streams:
+        stream.flush()
+    return status, *(stream.buffer.getvalue().decode() for stream in streams[1:])
+
+
+def loaded():
+    """The command as a module."""
+    loader = importlib.machinery.SourceFileLoader('vm', os.path.join(ROOT, 'vm'))
+    made = importlib.util.module_from_spec(importlib.util.spec_from_loader('vm', loader))
+    loader.exec_module(made)
+    return made
+
+
+def refused(text):
+    try:
+        notation.parse_named(text)
+    except notation.NotWord as error:
+        return error.line, error.column, error.reason
+
+
+def names():
+    """Names stand for slots, and texts with and without them have the same words."""
+    plain = '#14 #0 #1 #1, Input #4, Buf #4 s0 s1 s2 s3, Adc #4 s0*4 s4 s5 s6 s7 0, Void, #4 Not #4 s3*4, s5 s3'
+    named = '''#14 #0 #1 #1            ; a comment, with a: colon
+        a: Input #4, b: Buf #4 a[0..3]
+        sum: Adc #4 a*4 b[0..3] 0
+        gone: Void
+        #b Not #4 a[3]*4
+        b[1] a[3]'''
+    words, places, found = notation.parse_named(named)
+    same(words, notation.parse(plain)[0], 'named words')
+    same((places[0], places[4], places[6], places[8]), ((1, 1), (2, 12), (2, 25), (2, 32)), 'places')
+    same([found.get(slot) for slot in (0, 3, 12, 13, 14)], ['a[0]', 'a[3]', 'sum[4]', 'gone', None], 'names of slots')
+    ring = notation.parse('#1 #0 #0 #0, Not #1 s0')[0]
+    same(notation.parse('#1 #0 #0 #0, r: Not #1 r')[0], ring, 'a name before its cell')
+    same(notation.parse('#2 #0 #0 #0, c: Input #1, Aig !c c')[0][7:9], [1 << 29 | 2, 2], 'an inverted name')
+
+
+def bad_texts():
+    for text, line, column, part in (
+            ('#0,\nNott #1', 2, 1, "Is it 'Not'?"),
+            ('#1 #0 #0 #0\n  a: Input #1\n  a: Input #1', 3, 3, 'given twice; the first is at line 2'),
+            ('a:Input #1', 1, 1, "'a: Input'"),
+            ('s0: Input #1', 1, 1, 'cannot be the name'),
+            ('Not: Input #1', 1, 1, 'cannot be the name'),
+            ('a:', 1, 1, 'its cell must stand'),
+            ('a: #3', 1, 1, 'its cell must stand'),
+            ('#2 #0 #0 #0, a: Input #2, Buf #1 a[2]', 1, 34, 'its last is a[1]'),
+            ('#2 #0 #0 #0, a: Input #2, Buf #2 a[1..0]', 1, 34, 'runs downwards'),
+            ('#1 #0 #0 #0, Not #1 b', 1, 21, 'no cell has this name'),
+            ('0*x', 1, 1, 'how often'), ('0*99999', 1, 1, 'how often'),
+            ('#0 é', 1, 4, 'no word of the notation'), ('#536870912', 1, 1, 'no word')):
+        found = refused(text)
+        same(found and found[:2], (line, column), text)
+        same(part in found[2], True, f'{text}: {found[2]}')
+
+
+def both_ways():
+    """Any words are shown and read back, each record on a line, comments and all."""
+    state = 1
+    for _ in range(300):
+        words = []
+        for _ in range(state % 23):
+            state = state * 1103515245 + 12345 & 0x7fffffff
+            words.append((state >> 3 & 7) << 29 | (state >> 7) % (40 if state & 64 else 2 ** 29))
+        state = state * 1103515245 + 12345 & 0x7fffffff
+        result = verdict.Result('-', words=words)
+        same(notation.parse('\n'.join(shown.listing(result)))[0], words, f'shown and read back: {words}')
+
+
+def files():
+    """Bad files and texts: a sentence, the place, carets, and status 2."""
+    write('good.txt', b'#2 #0 #0 #1\r\n; caf\xc3\xa9\r\nin: Input #1\r\nnot1: Not #1 in, not1 in\r\n')
+    write('bad.txt', b'#2 #0 #0 #1\n\tInput #1, Nott #1 s0\n')
+    write('latin.txt', b'; caf\xe9\n')
+    write('wide.txt', '#0'.encode('utf-16'))
+    write('five.words', b'\0\0\0\x60\0')
+    write('long.txt', b' ' * (source.MOST_BYTES + 1))
+    write('control.txt', b'\x1b[31m')
+    os.makedirs('none')
+    for name, part in (('bad.txt', "bad.txt, line 2, column 12: 'Nott' is no word"), ('latin.txt', 'byte 5'),
+                       ('wide.txt', 'UTF-16'), ('five.words', 'middle of a word'), ('long.txt', 'more than'),
+                       ('none', 'No file of this'), ('gone', 'There is no such file.'),
+                       ('control.txt', 'line 1, column 1')):
+        status, out, err = vm('check', name)
+        same((status, out, part in err), (2, '', True), f'check {name}: {err}')
+        same('\x1b' in err, False, f'{name}: what it holds moves the cursor')
+        same(vm('show', name)[0], 2, f'show {name}')
+    lines = vm('check', 'bad.txt')[2].split('\n')
+    same(lines[1:3], ['    \tInput #1, Nott #1 s0', '    \t          ^^^^'], 'carets')
+    source.open = forbidden
+    same(vm('check', 'good.txt')[::2], (2, 'vm: good.txt: You are not allowed to read this file.\n'), 'no permission')
+    del source.open
+    status, out, err = vm('check', 'bad.txt', '--json')
+    same((status, '"line": 2' in out, '"verdict": "NOT CHECKED"' in out), (2, True, True), 'JSON of a bad text')
+
+
+def commands():
+    words, _ = notation.parse('#2 #0 #0 #1, Input #1, Not #1 s0, s1 s0')
+    packed = struct.pack(f'<{len(words)}I', *words)
+    same(vm('words', 'good.txt', '-o', 'good.words')[0], 0, 'words')
+    same(open('good.words', 'rb').read(), packed, 'the words of a text')
+    same(vm('words', '--hex', 'good.words')[1].split('\n')[1], '40000035 60000001', 'words in hexadecimal')
+    same(vm('show', '-', given=packed)[1].split('\n')[2], 'Not #1 s0    ; s1', 'show of words')
+    same(vm('words', 'good.txt', '-o', 'none/x/y')[0], 2, 'words that cannot be written')
+    for number in faults.FAULTS:
+        same(shown.explained(number).startswith(f'Fault {number}: '), True, f'explain {number}')
+    same(vm('explain', '1', '20')[0], 0, 'explain two')
+    same(vm('explain')[1].count('\n'), len(faults.FAULTS), 'explain')
+    good = ('check', 'good.txt')
+    for arguments in ((), ('check',), ('explain', '21'), ('explain', 'x'), ('nothing',), good + ('--jobs', '0'),
+                      good + ('--timeout', '-1'), good + ('--timeout', 'nan'), good + ('--solver', '"')):
+        same(vm(*arguments)[0], 2, f'vm {arguments}')
+    status, helped, _ = vm('check', '--help')
+    same((status, [number for number in range(8) if f'  {number}  ' in helped]), (0, list(range(8))), 'check --help')
+    for arguments in (good, ('script', 'good.txt'), good + ('bad.txt',), ('report', 'good.txt')):
+        status, _, err = vm(*arguments)
+        same((status, 'libvirginalmimas.a' in err), (2, True), f'{arguments} without an archive: {err}')
+    status, _, err = vm(*good, '--solver', 'z3')
+    same((status, 'apt-get install z3' in err), (2, True), f'a missing solver: {err}')
+
+
+def replies():
+    """The parts of a reply, and the values in it."""
+    first, second = b'\n((a #b0))', b'\n((b #x0f) (c (_ bv3 8)))\n'
+    same(solver.parts_of(b'sat' + first + second), (b'sat', first, second), 'parts')
+    same(solver.parts_of(b'unsat\n'), (b'unsat', b'\n', b''), 'a reply without a list')
+    same(solver.values_of(b'((b #x0f) (c (_ bv3 8))\n (d #b101))'), {'b': 15, 'c': 3, 'd': 5}, 'values')
+    for text in (b'', b'(error "no")', b'((a true))', b'((a #b2))'):
+        same(solver.values_of(text), None, f'no values: {text}')
+
+
+def forbidden(*arguments):
+    raise PermissionError
+
+
+def write(name, content):
+    with open(name, 'wb') as file:
+        file.write(content)
+
+
+command = loaded()
+os.environ.update(PATH='', VIRGINALMIMAS_ARCHIVE='/nowhere', VM_TRACE='1')
+with tempfile.TemporaryDirectory() as folder:
+    os.chdir(folder)
+    for group in (names, bad_texts, both_ways, files, commands, replies):
+        group()
+print(f'vm without an archive: {done} tests passed')

@@ -1,0 +1,60 @@
+"""Where a result shows what surprises people, a sentence on it and the page of the course that tells more."""
+import glob
+import os
+
+import design
+from verdict import BROKEN
+
+GIVEN = ('Input', 'IoBuf')
+
+
+def sources(result):
+    """The slots whose current net is a source: it is not worked out from others."""
+    replaced = {edit.old.slot for edit in result.replacements if edit.kind == 'net' and edit.old != edit.new}
+    return {slot for slot, cell in design.owners(result).items()
+            if cell.operation in GIVEN or not cell.width and not (cell.operation == 'Void' and slot in replaced)}
+
+
+def undefined(result):
+    """The sources that are X in the example, as texts."""
+    given = sources(result)
+    return [result.slot_text(slot) + (' (before)' if slot not in given or trit.now != 'X' else '')
+            for slot, trit in sorted(result.trits.items()) if trit.was == 'X' or slot in given and trit.now == 'X']
+
+
+def _inner_clocks(result):
+    """The flip-flops whose clock is the output of plain logic."""
+    owned, new = design.owners(result), [edit.cell for edit in result.replacements if edit.kind == 'cell']
+    plain = {slot for slot, cell in owned.items() if cell.operation not in GIVEN + ('Void', 'Dff') and cell.width}
+    return [result.slot_text(cell.slot).partition('[')[0] for cell in result.cells + new
+            if cell.operation == 'Dff' and cell.width and cell.pins[0].nets[0].slot in plain]
+
+
+def _twins(result):
+    """Whether a flip-flop replaced by another fails only against the other's old state."""
+    states = {}
+    for one in result.obligations:
+        states.setdefault(one.replacement, []).append(one.state)
+    return [True, False] in states.values()
+
+
+def of(result, root):
+    """Sentences, each with its page, None where the course has none."""
+    found, given = [], undefined(result) if result.verdict == BROKEN else []
+    if given:
+        some = ', '.join(given[:3]) + (' and others' if len(given) > 3 else '')
+        found.append((f'In the example {some} {"is" if len(given) == 1 else "are"} X.'
+                      + (' Where every source is 0 or 1, the edits hold.' if result.two_valued else ''), 'a'))
+    if result.verdict == BROKEN and _inner_clocks(result):
+        found.append((f'The clock of {", ".join(_inner_clocks(result)[:3])} comes from a cell, and what a cell gave '
+                      'before is free.', 'c'))
+    if result.verdict == BROKEN and _twins(result):
+        found.append(('A flip-flop replaced by another is held to its old state too, and only this fails.', 'e'))
+    if result.vacuous:
+        found.append(('A loop leaves nothing to prove.', '04'))
+    return [(sentence, _page(root, prefix)) for sentence, prefix in found]
+
+
+def _page(root, prefix):
+    pages = sorted(glob.glob(os.path.join(glob.escape(root), 'course', prefix + '-*.md')))
+    return os.path.relpath(pages[0], root) if pages else None
