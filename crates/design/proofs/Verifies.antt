@@ -13,7 +13,6 @@ use Rattle.cell.specs.Design.{Design, total}
 use Rattle.engine.specs.Encode.{encode}
 use Rattle.engine.specs.Emit.{overwrite}
 use Rattle.builder.specs.declared.Counts.{Counts}
-use Rattle.net_steps.specs.Did.{Asks}
 use Rattle.design_list.specs.declared.Extent.{Extent}
 use Rattle.design_list.specs.declared.SlotTable.{SlotTable}
 use Rattle.design_list.specs.declared.SlotTable.the-variants as T
@@ -23,9 +22,9 @@ use Rattle.design_list.specs.Table.{Tabled, tableAnswer, tableAfter}
 use Rattle.order.specs.Verify.{built, verify}
 use Rattle.slots.specs.Tells.{Tells}
 use Rattle.slots.proofs.Laws.{table-tells}
-use Rattle.net_pairs.specs.declared.Walked.{Walked}
-use Rattle.walk.specs.Works.{Works}
-use Rattle.design.specs.declared.Tally.{Tally}
+use Rattle.running.specs.declared.Tally.{Tally}
+use Rattle.running.specs.Passes as running
+use Rattle.running.specs.Passes.{nothing}
 use Rattle.design.specs.declared.Verified.the-variants.{Refused, NothingAsked, Asked}
 use Rattle.design.specs.Verified.{told, verified, unroomed, over, callWords, marks, writtenMarks}
 use Rattle.design.specs.Answered.{
@@ -39,7 +38,6 @@ use Rattle.design.specs.Answered.{
   slices-after,
 }
 use Rattle.design.specs.Required.{words-are}
-use Rattle.design.specs.Passes.{nothing}
 use Rattle.design.specs.Verifies.{Ready, toldBy, Tallied, Passes, Verifies}
 use Rattle.design.proofs.Passed.{passed}
 
@@ -92,32 +90,26 @@ module _ {w : List ℕ} {x : Extent} {table : List ℕ} (ready : Ready w x table
   pub table-low : length table ≤ 4096
   table-low = let low = accepted-read w (ready .is) .low in let size = ready .size in omega arith
 
-  pub few-obligations : {calls names marks calls₁ names₁ marks₁ eqs₁ : List ℕ} {c : Counts} {s : Walked}
-      → Works (ready .d) calls names marks (replicate 12288 0) c calls₁ names₁ marks₁ eqs₁ s → s .obligations ≤ 12288
-  few-obligations works = works .few (let e = length-replicate {A = ℕ} 12288 0 in omega arith)
-
-  pub obligations-fit : {calls names marks calls₁ names₁ marks₁ eqs₁ : List ℕ} {c : Counts} {s : Walked}
-      → Works (ready .d) calls names marks (replicate 12288 0) c calls₁ names₁ marks₁ eqs₁ s → length eqs₁ ≡ length {A = ℕ} (replicate 12288 0)
-      → s .obligations ≤ length eqs₁
-  obligations-fit works long = let few = few-obligations works in let e = length-replicate {A = ℕ} 12288 0 in omega arith
-
-  pub passes : {calls marks calls₁ names₁ marks₁ eqs₁ calls₂ : List ℕ} {s : Walked} {c₂ : Counts} → length calls < 2 ^ 64
-      → marks ≡ replicate (length table) 0
-      → Works (ready .d) calls (take (4 * length table) (replicate 16384 0)) marks (replicate 12288 0) nothing calls₁ names₁ marks₁ eqs₁ s
-      → length eqs₁ ≡ length {A = ℕ} (replicate 12288 0) → Asks (take (s .obligations) eqs₁) calls₁ (s .counts) calls₂ c₂
-      → Passes (ready .d) calls calls₂ marks₁ (record { counts = c₂; obligations = s .obligations })
-  passes {eqs₁ = eqs₁} {s = s} short none works long asks =
+  pub passes : {calls marks calls′ names′ marks′ eqs′ : List ℕ} {p : Tally} → length calls < 2 ^ 64 → marks ≡ replicate (length table) 0
+      → running.Passed (ready .d) nothing calls (take (4 * length table) (replicate 16384 0)) marks (replicate 12288 0) calls′ names′ marks′ eqs′
+      (p .counts) (p .obligations)
+      → Passes (ready .d) calls calls′ marks′ p
+  passes {eqs′ = eqs′} {p} short none ran =
       let low = table-low in
       let named = take-replicate (4 * length table) 16384 0 (omega arith) in
-      let first = works .first (let e = length-replicate {A = ℕ} 12288 0 in omega arith) in
-      let fit = obligations-fit works long in
-      let did = rw (named, none, ready .size, ← first) at (works .did) in
-      let all = passed w (ready .is) short did asks in
+      let many = length-replicate {A = ℕ} 12288 0 in
+      let same = ran .same in
+      let few = ran .works .few (omega arith) in
+      let long = ran .long in
+      let fit : p .obligations ≤ length eqs′ = omega arith in
+      let first = ap (λ (n : ℕ). take n eqs′) same ∙ ran .works .first (omega arith) in
+      let did = rw (named, none, ready .size, ← first) at (ran .works .did) in
+      let all = passed w (ready .is) short did (ran .asks) in
       record {
         wrote = all .wrote;
         counts = all .counts;
         marks = all .marks;
-        asked = λ n. told-as (s .obligations) (take (s .obligations) eqs₁) n (taken-count (s .obligations) eqs₁ fit) ∙ ap (λ (l : List ℕ). told l n) (all .asked);
+        asked = λ n. told-as (p .obligations) (take (p .obligations) eqs′) n (taken-count (p .obligations) eqs′ fit) ∙ ap (λ (l : List ℕ). told l n) (all .asked);
       }
 
   pub tallied : {calls calls′ marks′ : List ℕ} {p : Tally} → Passes (ready .d) calls calls′ marks′ p

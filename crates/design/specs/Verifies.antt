@@ -11,7 +11,7 @@ use Rattle.design_list.specs.Read.{accepted, read}
 use Rattle.order.specs.Verify.{built, verify}
 use Rattle.builder.specs.declared.Counts.{Counts}
 use Rattle.slots.specs.Tells.{Tells}
-use Rattle.design.specs.declared.Tally.{Tally}
+use Rattle.running.specs.declared.Tally.{Tally}
 use Rattle.design.specs.declared.Verified.{Verified}
 use Rattle.design.specs.declared.Verified.the-variants.{NothingAsked, Asked}
 use Rattle.design.specs.Verified.{counted, told, verified, callsAfter, recordedAfter}

@@ -4,6 +4,7 @@ use builder::Counts;
 use design_list::Extent;
 use design_list::SlotTable;
 use logic::Fault;
+use running::Tally;
 ghost use mathlib.Core.Path.{_≡_};
 ghost use lib.ListN.{length, replicate};
 ghost use Rattle.design.specs.Verified.{unroomed};
@@ -16,12 +17,6 @@ pub enum Verified {
     Asked(Counts),
 }
 
-// What a pass counted, and how many obligations it asked.
-struct Tally {
-    counts: Counts,
-    obligations: usize,
-}
-
 // The steps of an accepted list and `check`, from no names and no marks.
 fn pass(list: &[u32], x: Extent, table: &[u32], calls: &mut [u32], marks: &mut [u8]) -> Tally
     requires { ⌜ Ready (now list) x (now table) × (now marks ≡ replicate (length (now table)) 0) ⌝ }
@@ -31,14 +26,9 @@ fn pass(list: &[u32], x: Extent, table: &[u32], calls: &mut [u32], marks: &mut [
     let mut names = [0u32; 16384];
     let mut eqs = [0u32; 12288];
     let places = 4 * table.len();
-    let nothing = Counts {
-        terms: 0,
-        temporaries: 0,
-        words: 0,
-    };
     let replacements = x.replacements;
     let pairs = x.pairs;
-    let s = walk::work(
+    running::run(
         list,
         replacements,
         pairs,
@@ -47,14 +37,7 @@ fn pass(list: &[u32], x: Extent, table: &[u32], calls: &mut [u32], marks: &mut [
         &mut names[..places],
         marks,
         &mut eqs,
-        nothing,
-    );
-    let obligations = s.obligations;
-    let counts = steps::check(calls, s.counts, &eqs[..obligations]);
-    Tally {
-        counts,
-        obligations,
-    }
+    )
 }
 
 // What a pass over an accepted list counts where it writes nowhere.
