@@ -22,6 +22,8 @@ use Rattle.design_list.specs.Table.{Tabled, tableAnswer, tableAfter}
 use Rattle.order.specs.Verify.{built, verify}
 use Rattle.slots.specs.Tells.{Tells}
 use Rattle.slots.proofs.Laws.{table-tells}
+use Rattle.walk.specs.Works.{mostObligations}
+use Rattle.walk.proofs.Room.{most-low}
 use Rattle.running.specs.declared.Tally.{Tally}
 use Rattle.running.specs.Passes as running
 use Rattle.running.specs.Passes.{nothing}
@@ -38,7 +40,7 @@ use Rattle.design.specs.Answered.{
   slices-after,
 }
 use Rattle.design.specs.Required.{words-are}
-use Rattle.design.specs.Verifies.{Ready, toldBy, Tallied, Passes, Verifies}
+use Rattle.design.specs.Verifies.{Ready, Blank, toldBy, Tallied, Passes, Verifies}
 use Rattle.design.proofs.Passed.{passed}
 
 -- ---- lists of zeros
@@ -51,11 +53,24 @@ take-replicate (suc n) (suc m) v h = ap (λ (l : List ℕ). v ∷ l) (take-repli
 pub part-count : (n m v : ℕ) → n ≤ m → n ≡ length (take n (replicate m v))
 part-count n m v h = sym (ap length (take-replicate n m v h) ∙ length-replicate {A = ℕ} n v)
 
-pub part-zeros : (n m : ℕ) → n ≤ m → take {A = ℕ} n (replicate m 0) ≡ replicate n 0
-part-zeros n m h = take-replicate n m 0 h
+-- Tables cleared, as much of them as a design's slots need.
+pub blank-of : (table : List ℕ) (n m : ℕ) → 4 * length table ≤ n → length table ≤ m
+    → Blank table (take (4 * length table) (replicate n 0)) (take (length table) (replicate m 0))
+blank-of table n m names marks = record {
+  unnamed = take-replicate (4 * length table) n 0 names;
+  unmarked = take-replicate (length table) m 0 marks;
+}
 
 pub taken-count : (n : ℕ) (l : List ℕ) → n ≤ length l → n ≡ length (take n l)
 taken-count n l h = let e = length-take n l in omega arith
+
+-- The same tables cleared again.
+pub blank-again : {table names₀ marks₀ names marks : List ℕ} {n m : ℕ} → Blank table names₀ marks₀ → n ≡ length names₀ → names ≡ replicate n 0
+    → length table ≡ m → marks ≡ replicate m 0 → Blank table names marks
+blank-again {table} blank kept unnamed lent unmarked = record {
+  unnamed = unnamed ∙ ap (λ (k : ℕ). replicate k 0) (kept ∙ ap length (blank .unnamed) ∙ length-replicate {A = ℕ} (4 * length table) 0);
+  unmarked = unmarked ∙ ap (λ (k : ℕ). replicate k 0) (sym lent);
+}
 
 drop-all : (l : List ℕ) (n : ℕ) → n ≡ length l → drop n l ≡ []
 drop-all [] n h = rw h
@@ -90,20 +105,24 @@ module _ {w : List ℕ} {x : Extent} {table : List ℕ} (ready : Ready w x table
   pub table-low : length table ≤ 4096
   table-low = let low = accepted-read w (ready .is) .low in let size = ready .size in omega arith
 
-  pub passes : {calls marks calls′ names′ marks′ eqs′ : List ℕ} {p : Tally} → length calls < 2 ^ 64 → marks ≡ replicate (length table) 0
-      → running.Passed (ready .d) nothing calls (take (4 * length table) (replicate 16384 0)) marks (replicate 12288 0) calls′ names′ marks′ eqs′
-      (p .counts) (p .obligations)
+  -- Room for the obligations of a small design, and of any.
+  pub small-room : length table ≤ 256 → x .netreps ≤ 384 → mostObligations (ready .d) ≤ 1024
+  small-room slots pairs = let size = ready .size in let same = ready .netreps in omega arith
+
+  pub large-room : mostObligations (ready .d) ≤ 12288
+  large-room = most-low w (ready .is)
+
+  pub passes : {calls names marks eqs calls′ names′ marks′ eqs′ : List ℕ} {p : Tally} → length calls < 2 ^ 64 → Blank table names marks
+      → mostObligations (ready .d) ≤ length eqs
+      → running.Passed (ready .d) nothing calls names marks eqs calls′ names′ marks′ eqs′ (p .counts) (p .obligations)
       → Passes (ready .d) calls calls′ marks′ p
-  passes {eqs′ = eqs′} {p} short none ran =
-      let low = table-low in
-      let named = take-replicate (4 * length table) 16384 0 (omega arith) in
-      let many = length-replicate {A = ℕ} 12288 0 in
+  passes {eqs′ = eqs′} {p} short blank room ran =
       let same = ran .same in
-      let few = ran .works .few (omega arith) in
+      let few = ran .works .few room in
       let long = ran .long in
       let fit : p .obligations ≤ length eqs′ = omega arith in
-      let first = ap (λ (n : ℕ). take n eqs′) same ∙ ran .works .first (omega arith) in
-      let did = rw (named, none, ready .size, ← first) at (ran .works .did) in
+      let first = ap (λ (n : ℕ). take n eqs′) same ∙ ran .works .first room in
+      let did = rw (blank .unnamed, blank .unmarked, ready .size, ← first) at (ran .works .did) in
       let all = passed w (ready .is) short did (ran .asks) in
       record {
         wrote = all .wrote;
@@ -173,6 +192,7 @@ record Reads (w : List ℕ) (x : Extent) : Type 0 where
   d : Design
   is : read w ≡ accepted d (x .replacements) (x .pairs)
   slots : x .base + x .added ≡ total d
+  netreps : x .netreps ≡ length (d .netReps)
 
 module _ (w : List ℕ) {before after : List ℕ} {a : SlotTable} (long : length before ≡ 4096) (tabled : Tabled (read w) before after a) where
   reads : {x : Extent} → a ≡ T.Filled x → Reads w x
@@ -196,6 +216,7 @@ module _ (w : List ℕ) {before after : List ℕ} {a : SlotTable} (long : length
             d = d;
             is = rw (← same-x) is;
             slots = rw (← same-x) refl;
+            netreps = rw (← same-x) refl;
           }
 
   pub slots-low : {x : Extent} → a ≡ T.Filled x → x .base + x .added ≤ 4096
@@ -219,6 +240,7 @@ module _ (w : List ℕ) {before after : List ℕ} {a : SlotTable} (long : length
         is = known .is;
         tells = tells;
         size = sym count ∙ same;
+        netreps = known .netreps;
       }
 
   reads-refused : {e : Fault} → a ≡ T.Refused e → read w ≡ refused e
