@@ -100,7 +100,7 @@ fn cell(cell: &Word) -> Listed {
 }
 
 /// The design of a list, with every cell and replacement as it stands there.
-fn design_as_listed(list: &List) -> Design {
+pub fn design_as_listed(list: &List) -> Design {
     let mut design = Design::new();
     for word in &list.base {
         door::push_base(&mut design, cell(word));

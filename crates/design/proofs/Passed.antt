@@ -21,7 +21,8 @@ use Rattle.builder.proofs.Laws.{wrote-calls}
 use Rattle.net_steps.specs.Did.{Did, Asks, queryTerms}
 use Rattle.design.specs.Verified.{temporaries, counted}
 use Rattle.design.specs.Answered.{few-counts, temporaries-are}
-use Rattle.design.specs.Passes.{nothing, Passed}
+use Rattle.running.specs.Passes.{nothing}
+use Rattle.design.specs.Passes.{Passed}
 
 -- The query makes two terms.
 asked-terms : (l : List ℕ) (s : St) → terms (asked l s) ≡ queryTerms l

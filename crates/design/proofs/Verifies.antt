@@ -13,7 +13,6 @@ use Rattle.cell.specs.Design.{Design, total}
 use Rattle.engine.specs.Encode.{encode}
 use Rattle.engine.specs.Emit.{overwrite}
 use Rattle.builder.specs.declared.Counts.{Counts}
-use Rattle.net_steps.specs.Did.{Asks}
 use Rattle.design_list.specs.declared.Extent.{Extent}
 use Rattle.design_list.specs.declared.SlotTable.{SlotTable}
 use Rattle.design_list.specs.declared.SlotTable.the-variants as T
@@ -23,9 +22,11 @@ use Rattle.design_list.specs.Table.{Tabled, tableAnswer, tableAfter}
 use Rattle.order.specs.Verify.{built, verify}
 use Rattle.slots.specs.Tells.{Tells}
 use Rattle.slots.proofs.Laws.{table-tells}
-use Rattle.net_pairs.specs.declared.Walked.{Walked}
-use Rattle.walk.specs.Works.{Works}
-use Rattle.design.specs.declared.Tally.{Tally}
+use Rattle.walk.specs.Works.{mostObligations}
+use Rattle.walk.proofs.Room.{most-low}
+use Rattle.running.specs.declared.Tally.{Tally}
+use Rattle.running.specs.Passes as running
+use Rattle.running.specs.Passes.{nothing}
 use Rattle.design.specs.declared.Verified.the-variants.{Refused, NothingAsked, Asked}
 use Rattle.design.specs.Verified.{told, verified, unroomed, over, callWords, marks, writtenMarks}
 use Rattle.design.specs.Answered.{
@@ -39,8 +40,7 @@ use Rattle.design.specs.Answered.{
   slices-after,
 }
 use Rattle.design.specs.Required.{words-are}
-use Rattle.design.specs.Passes.{nothing}
-use Rattle.design.specs.Verifies.{Ready, toldBy, Tallied, Passes, Verifies}
+use Rattle.design.specs.Verifies.{Ready, Blank, toldBy, Tallied, Passes, Verifies}
 use Rattle.design.proofs.Passed.{passed}
 
 -- ---- lists of zeros
@@ -53,11 +53,24 @@ take-replicate (suc n) (suc m) v h = ap (λ (l : List ℕ). v ∷ l) (take-repli
 pub part-count : (n m v : ℕ) → n ≤ m → n ≡ length (take n (replicate m v))
 part-count n m v h = sym (ap length (take-replicate n m v h) ∙ length-replicate {A = ℕ} n v)
 
-pub part-zeros : (n m : ℕ) → n ≤ m → take {A = ℕ} n (replicate m 0) ≡ replicate n 0
-part-zeros n m h = take-replicate n m 0 h
+-- Tables cleared, as much of them as a design's slots need.
+pub blank-of : (table : List ℕ) (n m : ℕ) → 4 * length table ≤ n → length table ≤ m
+    → Blank table (take (4 * length table) (replicate n 0)) (take (length table) (replicate m 0))
+blank-of table n m names marks = record {
+  unnamed = take-replicate (4 * length table) n 0 names;
+  unmarked = take-replicate (length table) m 0 marks;
+}
 
 pub taken-count : (n : ℕ) (l : List ℕ) → n ≤ length l → n ≡ length (take n l)
 taken-count n l h = let e = length-take n l in omega arith
+
+-- The same tables cleared again.
+pub blank-again : {table names₀ marks₀ names marks : List ℕ} {n m : ℕ} → Blank table names₀ marks₀ → n ≡ length names₀ → names ≡ replicate n 0
+    → length table ≡ m → marks ≡ replicate m 0 → Blank table names marks
+blank-again {table} blank kept unnamed lent unmarked = record {
+  unnamed = unnamed ∙ ap (λ (k : ℕ). replicate k 0) (kept ∙ ap length (blank .unnamed) ∙ length-replicate {A = ℕ} (4 * length table) 0);
+  unmarked = unmarked ∙ ap (λ (k : ℕ). replicate k 0) (sym lent);
+}
 
 drop-all : (l : List ℕ) (n : ℕ) → n ≡ length l → drop n l ≡ []
 drop-all [] n h = rw h
@@ -92,32 +105,30 @@ module _ {w : List ℕ} {x : Extent} {table : List ℕ} (ready : Ready w x table
   pub table-low : length table ≤ 4096
   table-low = let low = accepted-read w (ready .is) .low in let size = ready .size in omega arith
 
-  pub few-obligations : {calls names marks calls₁ names₁ marks₁ eqs₁ : List ℕ} {c : Counts} {s : Walked}
-      → Works (ready .d) calls names marks (replicate 12288 0) c calls₁ names₁ marks₁ eqs₁ s → s .obligations ≤ 12288
-  few-obligations works = works .few (let e = length-replicate {A = ℕ} 12288 0 in omega arith)
+  -- Room for the obligations of a small design, and of any.
+  pub small-room : length table ≤ 256 → x .netreps ≤ 384 → mostObligations (ready .d) ≤ 1024
+  small-room slots pairs = let size = ready .size in let same = ready .netreps in omega arith
 
-  pub obligations-fit : {calls names marks calls₁ names₁ marks₁ eqs₁ : List ℕ} {c : Counts} {s : Walked}
-      → Works (ready .d) calls names marks (replicate 12288 0) c calls₁ names₁ marks₁ eqs₁ s → length eqs₁ ≡ length {A = ℕ} (replicate 12288 0)
-      → s .obligations ≤ length eqs₁
-  obligations-fit works long = let few = few-obligations works in let e = length-replicate {A = ℕ} 12288 0 in omega arith
+  pub large-room : mostObligations (ready .d) ≤ 12288
+  large-room = most-low w (ready .is)
 
-  pub passes : {calls marks calls₁ names₁ marks₁ eqs₁ calls₂ : List ℕ} {s : Walked} {c₂ : Counts} → length calls < 2 ^ 64
-      → marks ≡ replicate (length table) 0
-      → Works (ready .d) calls (take (4 * length table) (replicate 16384 0)) marks (replicate 12288 0) nothing calls₁ names₁ marks₁ eqs₁ s
-      → length eqs₁ ≡ length {A = ℕ} (replicate 12288 0) → Asks (take (s .obligations) eqs₁) calls₁ (s .counts) calls₂ c₂
-      → Passes (ready .d) calls calls₂ marks₁ (record { counts = c₂; obligations = s .obligations })
-  passes {eqs₁ = eqs₁} {s = s} short none works long asks =
-      let low = table-low in
-      let named = take-replicate (4 * length table) 16384 0 (omega arith) in
-      let first = works .first (let e = length-replicate {A = ℕ} 12288 0 in omega arith) in
-      let fit = obligations-fit works long in
-      let did = rw (named, none, ready .size, ← first) at (works .did) in
-      let all = passed w (ready .is) short did asks in
+  pub passes : {calls names marks eqs calls′ names′ marks′ eqs′ : List ℕ} {p : Tally} → length calls < 2 ^ 64 → Blank table names marks
+      → mostObligations (ready .d) ≤ length eqs
+      → running.Passed (ready .d) nothing calls names marks eqs calls′ names′ marks′ eqs′ (p .counts) (p .obligations)
+      → Passes (ready .d) calls calls′ marks′ p
+  passes {eqs′ = eqs′} {p} short blank room ran =
+      let same = ran .same in
+      let few = ran .works .few room in
+      let long = ran .long in
+      let fit : p .obligations ≤ length eqs′ = omega arith in
+      let first = ap (λ (n : ℕ). take n eqs′) same ∙ ran .works .first room in
+      let did = rw (blank .unnamed, blank .unmarked, ready .size, ← first) at (ran .works .did) in
+      let all = passed w (ready .is) short did (ran .asks) in
       record {
         wrote = all .wrote;
         counts = all .counts;
         marks = all .marks;
-        asked = λ n. told-as (s .obligations) (take (s .obligations) eqs₁) n (taken-count (s .obligations) eqs₁ fit) ∙ ap (λ (l : List ℕ). told l n) (all .asked);
+        asked = λ n. told-as (p .obligations) (take (p .obligations) eqs′) n (taken-count (p .obligations) eqs′ fit) ∙ ap (λ (l : List ℕ). told l n) (all .asked);
       }
 
   pub tallied : {calls calls′ marks′ : List ℕ} {p : Tally} → Passes (ready .d) calls calls′ marks′ p
@@ -181,6 +192,7 @@ record Reads (w : List ℕ) (x : Extent) : Type 0 where
   d : Design
   is : read w ≡ accepted d (x .replacements) (x .pairs)
   slots : x .base + x .added ≡ total d
+  netreps : x .netreps ≡ length (d .netReps)
 
 module _ (w : List ℕ) {before after : List ℕ} {a : SlotTable} (long : length before ≡ 4096) (tabled : Tabled (read w) before after a) where
   reads : {x : Extent} → a ≡ T.Filled x → Reads w x
@@ -204,6 +216,7 @@ module _ (w : List ℕ) {before after : List ℕ} {a : SlotTable} (long : length
             d = d;
             is = rw (← same-x) is;
             slots = rw (← same-x) refl;
+            netreps = rw (← same-x) refl;
           }
 
   pub slots-low : {x : Extent} → a ≡ T.Filled x → x .base + x .added ≤ 4096
@@ -227,6 +240,7 @@ module _ (w : List ℕ) {before after : List ℕ} {a : SlotTable} (long : length
         is = known .is;
         tells = tells;
         size = sym count ∙ same;
+        netreps = known .netreps;
       }
 
   reads-refused : {e : Fault} → a ≡ T.Refused e → read w ≡ refused e

@@ -9,10 +9,6 @@ use Rattle.order.specs.Verify.{built, verify}
 use Rattle.builder.specs.declared.Counts.{Counts}
 use Rattle.design.specs.Verified.{counted}
 
--- No term, no temporary and no word yet.
-abbrev pub nothing : Counts
-nothing = record { terms = 0; temporaries = 0; words = 0 }
-
 pub record Passed (d : Design) (calls calls′ marks′ : List ℕ) (c : Counts) (eqs : List ℕ) : Type 0 where
   pub wrote : Wrote calls 0 (encode (verify d)) calls′ (c .words)
   pub counts : c ≡ counted (verify d)

@@ -1,8 +1,8 @@
 -- What the code of the order of work is given and what it leaves: `verify` is to answer `verified`, and to leave the two slices as it says.
 use mathlib.Core.Path.{_≡_}
 use mathlib.Core.List.{List}
-use Prim.Native.Nat.{ℕ, zero, suc}
-use lib.ListN.{length}
+use Prim.Native.Nat.{ℕ, zero, suc, _*_, _≤_}
+use lib.ListN.{length, replicate}
 use Rattle.cell.specs.Design.{Design, total}
 use Rattle.engine.specs.Encode.{encode}
 use Rattle.engine.specs.Emit.{Wrote}
@@ -11,17 +11,28 @@ use Rattle.design_list.specs.Read.{accepted, read}
 use Rattle.order.specs.Verify.{built, verify}
 use Rattle.builder.specs.declared.Counts.{Counts}
 use Rattle.slots.specs.Tells.{Tells}
-use Rattle.design.specs.declared.Tally.{Tally}
+use Rattle.walk.specs.Works.{mostObligations}
+use Rattle.running.specs.declared.Tally.{Tally}
 use Rattle.design.specs.declared.Verified.{Verified}
 use Rattle.design.specs.declared.Verified.the-variants.{NothingAsked, Asked}
 use Rattle.design.specs.Verified.{counted, told, verified, callsAfter, recordedAfter}
 
--- An accepted list with the table of its slots.
+-- An accepted list with the table of its slots and what the reader counted.
 pub record Ready (w : List ℕ) (x : Extent) (table : List ℕ) : Type 0 where
   pub d : Design
   pub is : read w ≡ accepted d (x .replacements) (x .pairs)
   pub tells : Tells d table
   pub size : length table ≡ total d
+  pub netreps : x .netreps ≡ length (d .netReps)
+
+-- Tables of no names and no marks for its slots.
+pub record Blank (table names marks : List ℕ) : Type 0 where
+  pub unnamed : names ≡ replicate (4 * length table) 0
+  pub unmarked : marks ≡ replicate (length table) 0
+
+-- Room for the terms of its obligations.
+abbrev pub Roomy : List ℕ → Extent → List ℕ → ℕ → Type 0
+Roomy w x table room = (ready : Ready w x table) → mostObligations (ready .d) ≤ room
 
 -- The answer of a pass, by its number of obligations.
 abbrev pub toldBy : ℕ → Counts → Verified

@@ -4,10 +4,12 @@ use builder::Counts;
 use design_list::Extent;
 use design_list::SlotTable;
 use logic::Fault;
+use running::Tally;
 ghost use mathlib.Core.Path.{_≡_};
+ghost use Prim.Native.Nat.{_≤_};
 ghost use lib.ListN.{length, replicate};
 ghost use Rattle.design.specs.Verified.{unroomed};
-ghost use Rattle.design.specs.Verifies.{Ready, toldBy, Tallied, Passes, Verifies};
+ghost use Rattle.design.specs.Verifies.{Ready, Blank, Roomy, toldBy, Tallied, Passes, Verifies};
 
 // A refusal, a list with no obligation, or one whose obligations are asked.
 pub enum Verified {
@@ -16,56 +18,41 @@ pub enum Verified {
     Asked(Counts),
 }
 
-// What a pass counted, and how many obligations it asked.
-struct Tally {
-    counts: Counts,
-    obligations: usize,
-}
-
-// The steps of an accepted list and `check`, from no names and no marks.
-fn pass(list: &[u32], x: Extent, table: &[u32], calls: &mut [u32], marks: &mut [u8]) -> Tally
-    requires { ⌜ Ready (now list) x (now table) × (now marks ≡ replicate (length (now table)) 0) ⌝ }
+// The steps of an accepted list and `check`, from no names and no marks, with room for its obligations' terms.
+fn pass(
+    list: &[u32],
+    x: Extent,
+    table: &[u32],
+    calls: &mut [u32],
+    names: &mut [u32],
+    marks: &mut [u8],
+    eqs: &mut [u32],
+) -> Tally
+    requires { ⌜ Ready (now list) x (now table) × Blank (now table) (now names) (now marks)
+        × Roomy (now list) x (now table) (length (now eqs)) ⌝ }
     ensures { λ r. ⌜ ((ready : Ready (now (list .entry)) x (now (table .entry))) → Passes (ready .d)
         (now (calls .entry)) (now (calls .exit)) (now (marks .exit)) r) ⌝ }
 {
-    let mut names = [0u32; 16384];
-    let mut eqs = [0u32; 12288];
-    let places = 4 * table.len();
-    let nothing = Counts {
-        terms: 0,
-        temporaries: 0,
-        words: 0,
-    };
     let replacements = x.replacements;
     let pairs = x.pairs;
-    let s = walk::work(
-        list,
-        replacements,
-        pairs,
-        table,
-        calls,
-        &mut names[..places],
-        marks,
-        &mut eqs,
-        nothing,
-    );
-    let obligations = s.obligations;
-    let counts = steps::check(calls, s.counts, &eqs[..obligations]);
-    Tally {
-        counts,
-        obligations,
-    }
+    running::run(list, replacements, pairs, table, calls, names, marks, eqs)
 }
 
 // What a pass over an accepted list counts where it writes nowhere.
-fn dry_run(list: &[u32], x: Extent, table: &[u32]) -> Tally
-    requires { ⌜ Ready (now list) x (now table) ⌝ }
+fn dry_run(
+    list: &[u32],
+    x: Extent,
+    table: &[u32],
+    names: &mut [u32],
+    marks: &mut [u8],
+    eqs: &mut [u32],
+) -> Tally
+    requires { ⌜ Ready (now list) x (now table) × Blank (now table) (now names) (now marks)
+        × Roomy (now list) x (now table) (length (now eqs)) ⌝ }
     ensures { λ r. ⌜ ((ready : Ready (now (list .entry)) x (now (table .entry))) → Tallied (ready .d) r) ⌝ }
 {
     let mut none = [0u32; 1];
-    let mut marks = [0u8; 4096];
-    let slots = table.len();
-    pass(list, x, table, &mut none[..0], &mut marks[..slots])
+    pass(list, x, table, &mut none[..0], names, marks, eqs)
 }
 
 // No mark at any slot.
@@ -76,6 +63,17 @@ fn clear(marks: &mut [u8])
     while at < marks.len() {
         marks[at] = 0;
         at += 1;
+    }
+}
+
+// No name for any slot.
+fn clear_names(names: &mut [u32])
+    ensures { λ _. ⌜ now (names .exit) ≡ replicate (length (now (names .entry))) 0 ⌝ }
+{
+    let mut place: usize = 0;
+    while place < names.len() {
+        names[place] = 0;
+        place += 1;
     }
 }
 
@@ -90,19 +88,23 @@ fn told(p: Tally) -> Verified
     Verified::Asked(counts)
 }
 
-// Nothing is written unless all fits.
-fn verify_read(
+// Nothing is written unless all fits. The two passes share the lent tables.
+fn verify_in(
     list: &[u32],
     x: Extent,
     table: &[u32],
     calls: &mut [u32],
     recorded: &mut [u8],
+    names: &mut [u32],
+    marks: &mut [u8],
+    eqs: &mut [u32],
 ) -> Verified
-    requires { ⌜ Ready (now list) x (now table) ⌝ }
+    requires { ⌜ Ready (now list) x (now table) × Blank (now table) (now names) (now marks)
+        × Roomy (now list) x (now table) (length (now eqs)) ⌝ }
     ensures { λ r. ⌜ Verifies (now (list .entry)) (now (calls .entry)) (now (recorded .entry))
         (now (calls .exit)) (now (recorded .exit)) r ⌝ }
 {
-    let dry = dry_run(list, x, table);
+    let dry = dry_run(list, x, table, names, marks, eqs);
     let words = dry.counts.words;
     if calls.len() < words {
         return Verified::Refused(Fault {
@@ -117,9 +119,143 @@ fn verify_read(
             place: slots,
         });
     }
-    let marks = &mut recorded[..slots];
-    clear(marks);
-    told(pass(list, x, table, calls, marks))
+    let written = &mut recorded[..slots];
+    clear(written);
+    clear_names(names);
+    told(pass(list, x, table, calls, names, written, eqs))
+}
+
+// A design of at most 256 slots and 384 net replacements, with tables of its size.
+fn verify_small(
+    list: &[u32],
+    x: Extent,
+    table: &[u32],
+    calls: &mut [u32],
+    recorded: &mut [u8],
+) -> Verified
+    requires { ⌜ Ready (now list) x (now table) × (length (now table) ≤ 256) × (x .netreps ≤ 384) ⌝ }
+    ensures { λ r. ⌜ Verifies (now (list .entry)) (now (calls .entry)) (now (recorded .entry))
+        (now (calls .exit)) (now (recorded .exit)) r ⌝ }
+{
+    let mut names = [0u32; 1024];
+    let mut marks = [0u8; 256];
+    let mut eqs = [0u32; 1024];
+    let slots = table.len();
+    let places = 4 * slots;
+    verify_in(
+        list,
+        x,
+        table,
+        calls,
+        recorded,
+        &mut names[..places],
+        &mut marks[..slots],
+        &mut eqs,
+    )
+}
+
+// A design of any size.
+fn verify_large(
+    list: &[u32],
+    x: Extent,
+    table: &[u32],
+    calls: &mut [u32],
+    recorded: &mut [u8],
+) -> Verified
+    requires { ⌜ Ready (now list) x (now table) ⌝ }
+    ensures { λ r. ⌜ Verifies (now (list .entry)) (now (calls .entry)) (now (recorded .entry))
+        (now (calls .exit)) (now (recorded .exit)) r ⌝ }
+{
+    let mut names = [0u32; 16384];
+    let mut marks = [0u8; 4096];
+    let mut eqs = [0u32; 12288];
+    let slots = table.len();
+    let places = 4 * slots;
+    verify_in(
+        list,
+        x,
+        table,
+        calls,
+        recorded,
+        &mut names[..places],
+        &mut marks[..slots],
+        &mut eqs,
+    )
+}
+
+// What a small design counts.
+fn count_small(list: &[u32], x: Extent, table: &[u32]) -> Tally
+    requires { ⌜ Ready (now list) x (now table) × (length (now table) ≤ 256) × (x .netreps ≤ 384) ⌝ }
+    ensures { λ r. ⌜ ((ready : Ready (now (list .entry)) x (now (table .entry))) → Tallied (ready .d) r) ⌝ }
+{
+    let mut names = [0u32; 1024];
+    let mut marks = [0u8; 256];
+    let mut eqs = [0u32; 1024];
+    let slots = table.len();
+    let places = 4 * slots;
+    dry_run(
+        list,
+        x,
+        table,
+        &mut names[..places],
+        &mut marks[..slots],
+        &mut eqs,
+    )
+}
+
+// What a design of any size counts.
+fn count_large(list: &[u32], x: Extent, table: &[u32]) -> Tally
+    requires { ⌜ Ready (now list) x (now table) ⌝ }
+    ensures { λ r. ⌜ ((ready : Ready (now (list .entry)) x (now (table .entry))) → Tallied (ready .d) r) ⌝ }
+{
+    let mut names = [0u32; 16384];
+    let mut marks = [0u8; 4096];
+    let mut eqs = [0u32; 12288];
+    let slots = table.len();
+    let places = 4 * slots;
+    dry_run(
+        list,
+        x,
+        table,
+        &mut names[..places],
+        &mut marks[..slots],
+        &mut eqs,
+    )
+}
+
+// Nothing is written unless all fits.
+fn verify_read(
+    list: &[u32],
+    x: Extent,
+    table: &[u32],
+    calls: &mut [u32],
+    recorded: &mut [u8],
+) -> Verified
+    requires { ⌜ Ready (now list) x (now table) ⌝ }
+    ensures { λ r. ⌜ Verifies (now (list .entry)) (now (calls .entry)) (now (recorded .entry))
+        (now (calls .exit)) (now (recorded .exit)) r ⌝ }
+{
+    let pairs = x.netreps;
+    if table.len() <= 256 {
+        if pairs <= 384 {
+            return verify_small(list, x, table, calls, recorded);
+        }
+    }
+    verify_large(list, x, table, calls, recorded)
+}
+
+// What a pass counts.
+fn count_read(list: &[u32], x: Extent, table: &[u32]) -> Tally
+    requires { ⌜ Ready (now list) x (now table) ⌝ }
+    ensures { λ r. ⌜ ((ready : Ready (now (list .entry)) x (now (table .entry))) → Tallied (ready .d) r) ⌝ }
+{
+    let pairs = x.netreps;
+    if table.len() <= 256 {
+        if pairs <= 384 {
+            return count_small(list, x, table);
+        }
+    }
+    count_large(list, x, table)
 }
 
 // `Design::verify` of a list of words: its answer, the call words in the first slice, and the marks of the slots recorded in the second. A refusal
@@ -148,7 +284,7 @@ pub fn counts(list: &[u32]) -> Verified
         SlotTable::Refused(f) => Verified::Refused(f),
         SlotTable::Filled(x) => {
             let slots = x.base + x.added;
-            told(dry_run(list, x, &table[..slots]))
+            told(count_read(list, x, &table[..slots]))
         }
     }
 }

@@ -14,11 +14,11 @@ use Rattle.order.specs.Verify.{eachCell, eachPair, steps}
 use Rattle.slots.specs.Tells.{widthIn, Tells}
 use Rattle.net_pairs.specs.declared.Walked.{Walked}
 use Rattle.net_pairs.specs.Does.{obligedIn, Does}
-use Rattle.walk.specs.Works.{Works}
+use Rattle.walk.specs.Works.{mostObligations, Works}
 use Rattle.walk_cell.specs.Cursor.{isNext, newAt, repAfter, stepsAt, Readable}
 use Rattle.net_pairs.proofs.Does.{does-append, Left, left-start, left-turn, left-end}
 use Rattle.walk.proofs.Cells.{Place, place-start, here-cell, here-new, cell-turn, cells-end}
-use Rattle.walk.proofs.Room.{obligations-low, kept-first}
+use Rattle.walk.proofs.Room.{obligations-few, kept-first}
 
 -- Along the cells.
 pub record Along (d : Design) (w table : List ℕ) (replacements pairs slot at rep : ℕ) (calls₀ names₀ marks₀ eqs₀ : List ℕ) (s₀ : Walked) (calls names marks eqs : List ℕ) (s : Walked) : Type 0 where
@@ -74,7 +74,7 @@ pub works : (w : List ℕ) {d : Design} {replacements pairs : ℕ} → read w �
     → Works d calls names marks eqs c calls₂ names₂ marks₂ eqs₂ s₂
 works w {d} accepts {eqs = eqs} cells pairs =
     let whole = does-append (eachCell d (d .cells)) (eachPair d (d .netReps)) cells pairs in
-    let few : obligedIn (steps d) ≤ 12288 = obligations-low w accepts in
+    let few : obligedIn (steps d) ≤ mostObligations d = obligations-few w accepts in
     let many = whole .many in
     record {
       terms = whole .terms;

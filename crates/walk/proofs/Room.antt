@@ -1,5 +1,4 @@
--- An accepted list has at most 12,288 obligations: at most one for each of at most 4,096 cells, and at most two for each of at most 4,096 net
--- replacements.
+-- How many obligations an accepted list has: at most one for each cell and two for each net replacement, so at most 12,288.
 use mathlib.Core.Path.{_≡_, refl, ap, _∙_}
 use mathlib.Core.Bool.{Bool, true, false, cond}
 use mathlib.Core.Option.{Option, none, some}
@@ -26,6 +25,7 @@ use Rattle.accepted.specs.Replacements.{climb-read, IsPair, pair-read}
 use Rattle.accepted.specs.Laid.{accepted-laid}
 use Rattle.order.specs.Verify.{Step, addCell, withNew, cellSteps, pairSteps, eachCell, eachPair, steps, newCellIn}
 use Rattle.net_pairs.specs.Does.{obligedIn, Kept}
+use Rattle.walk.specs.Works.{mostObligations}
 use Rattle.walk_cell.specs.Cursor.{stepsAt}
 use Rattle.net_pairs.proofs.Does.{obliged-append}
 use Rattle.walk_cell.proofs.Steps.{added-none}
@@ -103,17 +103,23 @@ header-pairs w {h} read = base-read (numberAt w 4096 4 0) read
     base-read (N.Refused f) e = let z : _≡_ {A = ℕ} 0 1 = cc in absurd (omega arith)
     base-read (N.Value base next) e = added-read base (numberAt w (4096 - base) 4 1) e
 
-pub obligations-low : (w : List ℕ) {d : Design} {replacements pairs : ℕ} → read w ≡ accepted d replacements pairs → obligedIn (steps d) ≤ 12288
-obligations-low w {d} {pairs = pairs} accepts =
-    let is = accepted-read w accepts in
-    let cells = run-length 0 (total d) (d .cells) (accepted-laid w accepts .run) in
-    let slots = is .low in
-    let run = climb-read (IsPair w (total d)) (netPair w) (pairAt w (total d)) (pair-read w (total d)) (is .header .netreps) 0 pairs (is .end) (is .pairs-read) in
-    let few : length (d .netReps) ≡ is .header .netreps = ap length (is .pairs-are) ∙ run .many in
-    let low = header-pairs w (is .header-read) in
-    let first = cells-oblige d (d .cells) in
-    let then = pairs-oblige d (d .netReps) in
-    rw (obliged-append (eachCell d (d .cells)) (eachPair d (d .netReps))) (omega arith)
+module _ (w : List ℕ) {d : Design} {replacements pairs : ℕ} (accepts : read w ≡ accepted d replacements pairs) where
+  pub obligations-few : obligedIn (steps d) ≤ mostObligations d
+  obligations-few =
+      let cells = run-length 0 (total d) (d .cells) (accepted-laid w accepts .run) in
+      let first = cells-oblige d (d .cells) in
+      let then = pairs-oblige d (d .netReps) in
+      rw (obliged-append (eachCell d (d .cells)) (eachPair d (d .netReps))) (omega arith)
+
+  -- At most 4,096 slots and as many net replacements.
+  pub most-low : mostObligations d ≤ 12288
+  most-low =
+      let is = accepted-read w accepts in
+      let slots = is .low in
+      let run = climb-read (IsPair w (total d)) (netPair w) (pairAt w (total d)) (pair-read w (total d)) (is .header .netreps) 0 pairs (is .end) (is .pairs-read) in
+      let few : length (d .netReps) ≡ is .header .netreps = ap length (is .pairs-are) ∙ run .many in
+      let low = header-pairs w (is .header-read) in
+      omega arith
 
 -- The terms kept from 0 on are the first words of the table.
 pub kept-first : {eqs terms eqs′ : List ℕ} {n : ℕ} → Kept eqs 0 terms eqs′ n → length terms ≤ length eqs → take n eqs′ ≡ terms

@@ -28,7 +28,7 @@ slots-fit c =
       tabled .slot-table .kept .1 .0 ∙ zeros,
     )
 
-slots-count : tie.Need-slice-aggregate-dry-run
+slots-count : tie.Need-slice-aggregate-count-read
 slots-count c =
     let filled = c .before .before .before in
     let tabled = filled .before .before .before in
@@ -39,8 +39,8 @@ slots-count c =
       tabled .slot-table .kept .1 .0 ∙ zeros,
     ))
 
-dry-run-requires : tie.Need-dry-run-requires
-dry-run-requires c κs =
+count-read-requires : tie.Need-count-read-requires
+count-read-requires c κs =
     let filled = c .before .before .before in
     let tabled = filled .before .before .before in
     ready-of _ zeros (tabled .slot-table .ensures) (filled .x .given .1) (tabled .slot-table .kept .1 .0 ∙ zeros)
@@ -58,11 +58,11 @@ returns-2 c =
     let tabled = filled .before .before .before in
     let ready =
     ready-of _ zeros (tabled .slot-table .ensures) (filled .x .given .1) (tabled .slot-table .kept .1 .0 ∙ zeros) in
-    c .told .ensures ∙ told-unroomed ready (counted .dry-run .ensures ready)
+    c .told .ensures ∙ told-unroomed ready (counted .count-read .ensures ready)
 
 pub counts-spec : {M : Type 1} → statement M
 counts-spec =
     tie.close
     (tie.spec
     (λ c. search needs) (λ c κs. search needs) (λ c. search needs) (λ c. search needs) add-slots slots-fit slots-count
-    dry-run-requires (λ c κs. search needs) returns returns-2)
+    count-read-requires (λ c κs. search needs) returns returns-2)
