@@ -5,10 +5,10 @@ use engine::Compare;
 use logic::Term;
 ghost use mathlib.Core.Path.{_≡_};
 ghost use Prim.Native.Nat.{_+_, _<_, _%_};
-ghost use lib.ListN.{getD};
+ghost use lib.ListN.{length, getD};
 ghost use Rattle.logic.specs.Word.{payloadOf};
 ghost use Rattle.engine.specs.Encode.{opOf, makesTerm, offset, operationAt, countAt, argumentAt, nextAt};
-ghost use Rattle.engine.specs.Structure.{placeOfTerm};
+ghost use Rattle.engine.specs.Structure.{termPlace, placeOfTerm};
 ghost use Rattle.engine.specs.Emit.{counted};
 ghost use Rattle.call_list.specs.Operations.{opFrom, isDeclare};
 ghost use Rattle.call_list.specs.Records.{madeAt};
@@ -180,24 +180,32 @@ pub fn terms_after(calls: &[u32], at: usize, terms: usize) -> usize
     terms
 }
 
-// The place of the record that makes a term; the place past the last record where there is none.
-pub fn place_of_term(calls: &[u32], term: Term) -> usize
-    ensures { λ r. ⌜ r ≡ placeOfTerm (now (calls .entry)) (term .0) ⌝ }
+// The place of the record that makes the term number `left` among those made from a place on; the place past the last record where there is
+// none.
+pub fn place_from(calls: &[u32], from: usize, left: u32) -> usize
+    ensures { λ r. ⌜ r ≡ termPlace (length (now (calls .entry))) (now (calls .entry)) from left ⌝ }
 {
-    let mut at = 0;
-    let mut left = term.0;
+    let mut at = from;
+    let mut more = left;
     while at < calls.len() {
         if makes_term(operation_at(calls, at)) {
-            if left == 0 {
+            if more == 0 {
                 return at;
             }
-            left -= 1;
+            more -= 1;
             at = next_record(calls, at);
         } else {
             at = next_record(calls, at);
         }
     }
     at
+}
+
+// The place of the record that makes a term; the place past the last record where there is none.
+pub fn place_of_term(calls: &[u32], term: Term) -> usize
+    ensures { λ r. ⌜ r ≡ placeOfTerm (now (calls .entry)) (term .0) ⌝ }
+{
+    place_from(calls, 0, term.0)
 }
 
 // The 16-bit number j of a literal, or 0 past the last.

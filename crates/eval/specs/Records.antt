@@ -5,6 +5,7 @@ use Prim.Native.Nat.{ℕ, _+_, _^_}
 use lib.ListN.{length, getD, set}
 use lib.Dec.{eqb, ltb}
 use Rattle.bitvec.specs.Bits.{bit}
+use Rattle.engine.specs.Sorts.{Sort}
 use Rattle.engine.specs.Encode.{Op, makesTerm, operationAt, nextAt}
 use Rattle.engine.specs.Encode as o
 use Rattle.call_list.specs.Operations.{isDeclare}
@@ -43,9 +44,9 @@ abbrev pub falseBy : List ℕ → List ℕ → ℕ → ℕ
 falseBy slice w at = falseOf (operationAt w at) (numberIn slice (payloads w at 0))
 
 -- The number of its term, if it makes one.
-abbrev pub valuesNext : List ℕ → List ℕ → List ℕ → ℕ → ℕ → ℕ → List ℕ
-valuesNext table slice w terms given at =
-    pickList (makesTerm (operationAt w at)) (set slice terms (recordValue table slice w terms given at)) slice
+abbrev pub valuesNext : (ℕ → Sort) → List ℕ → List ℕ → ℕ → ℕ → ℕ → List ℕ
+valuesNext sort slice w terms given at =
+    pickList (makesTerm (operationAt w at)) (set slice terms (recordValue sort slice w terms given at)) slice
 
 -- How far a list is evaluated, after the record at its place.
 abbrev pub progressNext : List ℕ → Progress → ℕ → Progress

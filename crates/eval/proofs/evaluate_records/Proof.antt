@@ -12,14 +12,17 @@ use Rattle.eval.proofs.evaluate_records.Statement.{statement}
 use Rattle.eval.proofs.evaluate_records.Tie as tie
 
 abbrev Inv-loop : tie.InvT-loop
-Inv-loop calls bits values₀ sorts done₀ values done = (length values ≡ length values₀) × EvaluatedTo calls bits values₀ sorts values done
+Inv-loop calls bits values₀ sorts recent₀ places gap done₀ values recent done =
+    (length values ≡ length values₀) × (length recent ≡ length recent₀) × EvaluatedTo gap calls bits values₀ sorts places values recent done
 
 abbrev μ-loop : tie.MeasureT-loop
-μ-loop calls bits values₀ sorts done₀ values done = length calls - done .at
+μ-loop calls bits values₀ sorts recent₀ places gap done₀ values recent done = length calls - done .at
 
 loop-holds : tie.Need-loop-holds Inv-loop μ-loop
 loop-holds c =
-    let start = c .before .before .before .before in (refl, evaluated-start (start .pre))
+    let entry = c .before .before .before in
+    let start = entry .before .before .before in
+    (refl, refl, evaluated-start (start .args .recent .now) (start .pre))
 
 operation-at-requires : tie.Need-operation-at-requires Inv-loop μ-loop
 operation-at-requires c κs = search needs
@@ -43,7 +46,7 @@ add-falses c =
     omega (
       arith,
       inside .if1 .taken,
-      state .inv .1 .few-falses,
+      state .inv .2 .few-falses,
       c .before .false-of .ensures,
       false-low (opFrom (c .before .before .before .before .before .operation-at .result)) (c .before .before .number-at .result),
     )
@@ -54,19 +57,26 @@ number-at-requires-2 c κs = search needs
 write-value-requires : tie.Need-write-value-requires Inv-loop μ-loop
 write-value-requires c κs = search needs
 
+note-recent-requires : tie.Need-note-recent-requires Inv-loop μ-loop
+note-recent-requires c κs = search needs
+
 progress-after-requires : tie.Need-progress-after-requires Inv-loop μ-loop
 progress-after-requires c κs =
-    let written = c .before .before in
-    let counted = written .before .before .before .before in
+    let noted = c .before .before in
+    let written = noted .before .before .before .before in
+    let given = written .before .before .before in
+    let counted = given .before .before in
     let read = counted .before in
     let inside = read .before .before .before .before in
     let state = inside .before .before .loop in
-    (inside .if1 .taken, state .inv .1 .few-terms, state .inv .1 .few-names)
+    (inside .if1 .taken, state .inv .2 .few-terms, state .inv .2 .few-names)
 
 loop-less : tie.Need-loop-less Inv-loop μ-loop
 loop-less c =
-    let written = c .before .before .before in
-    let counted = written .before .before .before .before in
+    let noted = c .before .before .before in
+    let written = noted .before .before .before .before in
+    let given = written .before .before .before in
+    let counted = given .before .before in
     let read = counted .before in
     let inside = read .before .before .before .before in
     let state = inside .before .before .loop in
@@ -74,29 +84,36 @@ loop-less c =
 
 loop-again : tie.Need-loop-again Inv-loop μ-loop
 loop-again c =
-    let written = c .before .before .before in
-    let counted = written .before .before .before .before in
+    let noted = c .before .before .before in
+    let written = noted .before .before .before .before in
+    let given = written .before .before .before in
+    let counted = given .before .before in
     let read = counted .before in
     let inside = read .before .before .before .before in
     let state = inside .before .before .loop in (
       written .write-value .kept .1 .0 ∙ state .inv .0,
+      noted .note-recent .kept .1 .1 .0 ∙ state .inv .1,
       rw (
         c .progress-after .ensures,
+        noted .note-recent .ensures,
         written .write-value .ensures,
-        written .before .before .number-at2 .ensures,
+        given .number-at2 .ensures,
         counted .false-of .ensures,
         read .number-at .ensures,
         read .before .argument-at .ensures,
         read .before .before .before .operation-at .ensures,
       )
-          (evaluated-next (state .inv .1) (inside .if1 .taken)),
+          (evaluated-next (state .inv .2) (inside .if1 .taken)),
     )
 
 same-length : tie.Need-same-length Inv-loop μ-loop
 same-length c = c .before .before .loop .inv .0
 
+same-length-2 : tie.Need-same-length-2 Inv-loop μ-loop
+same-length-2 c = c .before .before .loop .inv .1
+
 returns : tie.Need-returns Inv-loop μ-loop
-returns c = evaluated-end (c .before .before .loop .inv .1) (c .if1 .left)
+returns c = evaluated-end (c .before .before .loop .inv .2) (c .if1 .left)
 
 pub evaluate-records-spec : {M : Type 1} → statement M
 evaluate-records-spec =
@@ -113,8 +130,10 @@ evaluate-records-spec =
     add-falses
     number-at-requires-2
     write-value-requires
+    note-recent-requires
     progress-after-requires
     loop-less
     loop-again
     same-length
+    same-length-2
     returns)
