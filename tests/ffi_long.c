@@ -74,7 +74,7 @@ static void chain(size_t length) {
 /* A fan: equations of the first name with every other. */
 static void fan(size_t length) {
     for (size_t k = 0; k < length / 2; k++) declare(1, k % 3 == 0);
-    for (uint32_t k = 0; terms < length; k++) binary(EQUAL, 0, k);
+    for (uint32_t k = 0; terms < length; k++) binary(EQUAL, 0, k % (uint32_t)(length / 2));
     assert_term((uint32_t)terms - 1), assert_term((uint32_t)length / 2);
 }
 

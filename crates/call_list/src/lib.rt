@@ -11,7 +11,9 @@ ghost use Rattle.engine.specs.Encode.{opOf, makesTerm, offset, operationAt, cou
 ghost use Rattle.engine.specs.Structure.{termPlace, placeOfTerm};
 ghost use Rattle.engine.specs.Emit.{counted};
 ghost use Rattle.call_list.specs.Operations.{opFrom, isDeclare};
+ghost use Rattle.bitvec.specs.Bits.{bit};
 ghost use Rattle.call_list.specs.Records.{madeAt};
+ghost use Rattle.call_list.specs.Cursors.{passed};
 ghost use Rattle.call_list.specs.Literal.{payloads, digitOr, fourDigits};
 
 // The operations of the calls.
@@ -180,8 +182,39 @@ pub fn terms_after(calls: &[u32], at: usize, terms: usize) -> usize
     terms
 }
 
-// The place of the record that makes the term number `left` among those made from a place on; the place past the last record where there is
-// none.
+// How far a list is read: the place, and the terms made and names declared before it.
+pub struct Cursor {
+    pub at: usize,
+    pub terms: usize,
+    pub declared: usize,
+}
+
+// A count, one higher where a test holds; the largest number stays.
+fn count_if(holds: bool, count: usize) -> usize
+    ensures { λ r. ⌜ r ≡ counted (count + bit holds) ⌝ }
+{
+    if holds {
+        if count < 18446744073709551615 {
+            return count + 1;
+        }
+    }
+    count
+}
+
+// How far a list is read after the record at a cursor's place; the largest numbers stay.
+pub fn next(calls: &[u32], cursor: Cursor) -> Cursor
+    ensures { λ r. ⌜ r ≡ passed (now (calls .entry)) cursor ⌝ }
+{
+    let operation = operation_at(calls, cursor.at);
+    Cursor {
+        at: next_record(calls, cursor.at),
+        terms: count_if(makes_term(operation), cursor.terms),
+        declared: count_if(is_declare(operation), cursor.declared),
+    }
+}
+
+// The place of the record that makes the term number `left` among those made from a place on; the place past the last
+// record where there is none.
 pub fn place_from(calls: &[u32], from: usize, left: u32) -> usize
     ensures { λ r. ⌜ r ≡ termPlace (length (now (calls .entry))) (now (calls .entry)) from left ⌝ }
 {

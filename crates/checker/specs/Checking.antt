@@ -16,10 +16,11 @@ use Rattle.engine.specs.Encode.{Op, makesTerm, operationAt, countAt, callOf, ca
 use Rattle.engine.specs.Encode as o
 use Rattle.engine.specs.WellFormed.{declares, headStands, wellFormed, readFrom, outcome}
 use Rattle.engine.specs.Steps.{read-end, read-step, read-head}
+use Rattle.call_list.specs.declared.Cursor.{Cursor}
+use Rattle.call_list.specs.Cursors.{nothingRead, cursorNext, bit-low}
 use Rattle.call_list.specs.Operations.{isDeclare, declares-of}
 use Rattle.checker.specs.declared.CallList.{CallList}
 use Rattle.checker.specs.declared.CallList.the-variants.{WellFormed, Malformed}
-use Rattle.checker.specs.declared.Seen.{Seen}
 use Rattle.term_table.specs.Near.{sortNear, noteSort, noteRecent, notePlace}
 use Rattle.term_table.specs.Sorted.{ReadTo, read-start}
 use Rattle.term_table.specs.Placed.{Placed}
@@ -40,7 +41,7 @@ use Rattle.name_table.specs.Named.{NamesTo, TopsTo, names-none, names-next, top
 use Rattle.term_table.specs.Tables.{pickList}
 use Rattle.call_list.specs.Literal.{payloads}
 use lib.Dec.{ltb}
-use Rattle.checker.specs.Tables.{checkedAs, isCheck, seenNext, faultBy, wrongAs}
+use Rattle.checker.specs.Tables.{checkedAs, isCheck, faultBy, wrongAs}
 use Rattle.checker.specs.TableLaws.{Says, fault-none, fault-some}
 
 -- The tables of a well-formed list: the places and sorts of its first terms, and its names of low indexes.
@@ -74,7 +75,7 @@ checked-whole {w} {places} c = record {
 }
 
 -- Between two records: what the calls so far leave, as the tables and counts have it, and what remains to be read.
-pub record Checking (gap : ℕ) (w places table recent names tops : List ℕ) (s : Seen) : Type 0 where
+pub record Checking (gap : ℕ) (w places table recent names tops : List ℕ) (s : Cursor) (checked : Bool) : Type 0 where
   pub context : Context
   pub fuel : ℕ
   pub read : ReadTo w (s .at) context table (s .terms)
@@ -84,17 +85,14 @@ pub record Checking (gap : ℕ) (w places table recent names tops : List ℕ) (s
   pub topped : TopsTo tops (context .names)
   pub nine : 9 ≤ length tops
   pub declared : s .declared ≡ length (context .names)
-  pub checked : s .checked ≡ context .checked
+  pub closed : checked ≡ context .checked
   pub enough : length w - s .at ≤ fuel
   pub rest : outcome w ≡ readFrom fuel w (s .at) context
   pub few-terms : s .terms ≤ s .at
   pub few-names : s .declared ≤ s .at
 
-abbrev pub nothingSeen : Seen
-nothingSeen = record { at = 0; terms = 0; declared = 0; checked = false }
-
 pub checking-start : (gap : ℕ) (w places table recent names tops : List ℕ) → ((k : ℕ) → getD names k 0 ≡ 0) → 9 ≤ length tops
-    → Checking gap w places table recent names tops nothingSeen
+    → Checking gap w places table recent names tops nothingRead false
 checking-start gap w places table recent names tops zeros nine = record {
   context = start;
   fuel = length w;
@@ -105,7 +103,7 @@ checking-start gap w places table recent names tops zeros nine = record {
   topped = tops-none tops;
   nine = nine;
   declared = refl;
-  checked = refl;
+  closed = refl;
   enough = omega arith;
   rest = refl;
   few-terms = omega arith;
@@ -137,15 +135,11 @@ check-after x o.assert n p e = sym e
 check-after x o.check n p e = refl
 check-after x o.unknown n p e = refl
 
-pub bit-low : (b : Bool) → bit b ≤ 1
-bit-low true = omega arith
-bit-low false = omega arith
-
 top-length : (b : Bool) (tops : List ℕ) (i v : ℕ) → 9 ≤ length tops → 9 ≤ length (pickList b (set tops i v) tops)
 top-length true tops i v h = rw (length-set tops i v) h
 top-length false tops i v h = h
 
-module _ {gap : ℕ} {w places table recent names tops : List ℕ} {s : Seen} (k : Checking gap w places table recent names tops s)
+module _ {gap : ℕ} {w places table recent names tops : List ℕ} {s : Cursor} {checked : Bool} (k : Checking gap w places table recent names tops s checked)
     (inside : s .at < length w) where
   some-fuel : {P : Type 0} → ((n : ℕ) → k .fuel ≡ suc n → P) → P
   some-fuel f = go (k .fuel) (k .enough) f
@@ -155,10 +149,10 @@ module _ {gap : ℕ} {w places table recent names tops : List ℕ} {s : Seen} (k
       go (suc n) h f = f n refl
 
   -- Nothing may follow check.
-  pub checked-fault : s .checked ≡ true → Malformed (s .at) ≡ checkedAs (outcome w)
+  pub checked-fault : checked ≡ true → Malformed (s .at) ≡ checkedAs (outcome w)
   checked-fault e =
       some-fuel (λ n f.
-      let falls : headStands (k .context) w (s .at) ≡ false = rw (sym (k .checked) ∙ e) in
+      let falls : headStands (k .context) w (s .at) ≡ false = rw (sym (k .closed) ∙ e) in
       sym (ap checkedAs (k .rest ∙ ap (λ (m : ℕ). readFrom m w (s .at) (k .context)) f ∙ read-head n w (s .at) (k .context) inside falls)))
 
   -- The sorts of the terms so far, from the tables.
@@ -168,9 +162,9 @@ module _ {gap : ℕ} {w places table recent names tops : List ℕ} {s : Seen} (k
   says : Says sort (k .context)
   says = near-is (k .read) recent places gap (s .terms) (k .ring) (k .spaced) (le-refl (s .terms))
 
-  module _ (open-list : s .checked ≡ false) where
+  module _ (open-list : checked ≡ false) where
     unchecked : k .context .checked ≡ false
-    unchecked = sym (k .checked) ∙ open-list
+    unchecked = sym (k .closed) ∙ open-list
 
     pub record-wrong : (p : ℕ) → faultBy sort names tops w (s .terms) (s .at) ≡ some p → Malformed p ≡ checkedAs (outcome w)
     record-wrong p e =
@@ -180,7 +174,8 @@ module _ {gap : ℕ} {w places table recent names tops : List ℕ} {s : Seen} (k
 
     pub record-right : faultBy sort names tops w (s .terms) (s .at) ≡ none
         → Checking gap w (notePlace places gap w (s .at) (s .terms)) (noteSort sort table w (s .at) (s .terms))
-        (noteRecent sort table recent w (s .at) (s .terms)) (noteName names w (s .at)) (noteTop tops w (s .at)) (seenNext w s)
+        (noteRecent sort table recent w (s .at) (s .terms)) (noteName names w (s .at)) (noteTop tops w (s .at)) (cursorNext w s)
+        (isCheck (operationAt w (s .at)))
     record-right e =
         some-fuel (λ n f.
         let right = fault-none (k .read) names tops (k .named) (k .topped) sort says inside unchecked e in
@@ -198,7 +193,7 @@ module _ {gap : ℕ} {w places table recent names tops : List ℕ} {s : Seen} (k
           declared =
               ap₂ _+_ (k .declared) (ap bit (sym (declares-of (operationAt w (s .at)) (countAt w (s .at)) _)))
               ∙ sym (names-grow (k .context) (callAt w (s .at)));
-          checked = check-after (k .context) (operationAt w (s .at)) (countAt w (s .at)) _ unchecked;
+          closed = check-after (k .context) (operationAt w (s .at)) (countAt w (s .at)) _ unchecked;
           enough = omega (arith, k .enough, f);
           rest =
               k .rest ∙ ap (λ (m : ℕ). readFrom m w (s .at) (k .context)) f
@@ -208,9 +203,9 @@ module _ {gap : ℕ} {w places table recent names tops : List ℕ} {s : Seen} (k
         })
 
 -- At the end.
-pub checked-end : {gap : ℕ} {w places table recent names tops : List ℕ} {s : Seen} → Checking gap w places table recent names tops s
+pub checked-end : {gap : ℕ} {w places table recent names tops : List ℕ} {s : Cursor} {checked : Bool} → Checking gap w places table recent names tops s checked
     → length w ≤ s .at → CheckedBy gap w places table names (WellFormed (s .terms) (s .declared))
-checked-end {gap} {w} {places} {table} {recent} {names} {tops} {s} k end =
+checked-end {gap} {w} {places} {table} {recent} {names} {tops} {s} {checked} k end =
     let all : outcome w ≡ wellFormed (k .context) = k .rest ∙ read-end (k .fuel) w (s .at) (k .context) end in
     record {
       is = rw all (ap₂ WellFormed (k .read .counts) (k .declared));

@@ -7,9 +7,7 @@ use lib.ListN.{length, getD}
 use lib.Dec.{eqb, ltb}
 use Rattle.logic.specs.Word.{kindOf, payloadOf}
 use Rattle.engine.specs.Sorts.{Sort, noSort, start, after}
-use Rattle.bitvec.specs.Bits.{bit}
-use Rattle.checker.specs.declared.Seen.{Seen}
-use Rattle.engine.specs.Encode.{Op, makesTerm, operationAt, countAt, argumentAt, nextAt, callOf}
+use Rattle.engine.specs.Encode.{Op, operationAt, countAt, argumentAt, callOf}
 use Rattle.engine.specs.WellFormed.{countFits, argumentOf, admits, firstFailing, Outcome, wellFormed, malformed}
 use Rattle.call_list.specs.Operations.{isDeclare}
 use Rattle.name_table.specs.Names.{knownBy}
@@ -74,13 +72,3 @@ faultBy sort names tops w terms at =
 -- Whether an operation is the check, or none that a list can have.
 abbrev pub isCheck : Op → Bool
 isCheck op = after start (callOf op 0 (λ i. 0)) .checked
-
--- How far a list is read, after the record at its place.
-abbrev pub seenNext : List ℕ → Seen → Seen
-seenNext w s =
-    record {
-      at = nextAt w (s .at);
-      terms = s .terms + bit (makesTerm (operationAt w (s .at)));
-      declared = s .declared + bit (isDeclare (operationAt w (s .at)));
-      checked = isCheck (operationAt w (s .at));
-    }

@@ -1,4 +1,5 @@
 // The checker of a call list (fault 19), total on every list of words.
+use call_list::Cursor;
 use call_list::Operation;
 ghost use mathlib.Core.Path.{_≡_};
 ghost use Prim.Native.Nat.{ℕ, _+_, _<_, _≤_};
@@ -6,7 +7,7 @@ ghost use lib.ListN.{length, getD};
 ghost use Rattle.engine.specs.Encode.{operationAt, countAt};
 ghost use Rattle.engine.specs.WellFormed.{firstFailing, outcome};
 ghost use Rattle.call_list.specs.Operations.{opFrom};
-ghost use Rattle.checker.specs.Tables.{wordSort, standsBy, wrongAs, againBy, headBy, onWrong, faultBy, isCheck, seenNext, checkedAs};
+ghost use Rattle.checker.specs.Tables.{wordSort, standsBy, wrongAs, againBy, headBy, onWrong, faultBy, isCheck, checkedAs};
 ghost use Rattle.term_table.specs.Near.{sortNear};
 ghost use Rattle.checker.specs.Checking.{Checked, CheckedBy};
 ghost use Rattle.bitvec.specs.Bits.{bit};
@@ -33,7 +34,9 @@ fn word_sort(
     terms: usize,
     word: u32,
 ) -> u32
-    ensures { λ r. ⌜ r ≡ wordSort (sortNear (now (sorts .entry)) (now (recent .entry)) (now (places .entry)) gap (now (calls .entry)) terms) terms word ⌝ }
+    ensures { λ r. ⌜ r ≡ wordSort
+        (sortNear (now (sorts .entry)) (now (recent .entry)) (now (places .entry)) gap (now (calls .entry)) terms)
+        terms word ⌝ }
 {
     if logic::kind(word) == 4 {
         let k = logic::payload(word);
@@ -59,7 +62,9 @@ fn wrong_from(
 ) -> Wrong
     requires { ⌜ (at + n < length (now calls)) × (opFrom operation ≡ operationAt (now calls) at) ⌝ }
     ensures { λ r. ⌜ r
-        ≡ wrongAs (onWrong (firstFailing (standsBy (sortNear (now (sorts .entry)) (now (recent .entry)) (now (places .entry)) gap (now (calls .entry)) terms) (now (calls .entry)) terms at) 0 n)
+        ≡ wrongAs (onWrong (firstFailing (standsBy
+        (sortNear (now (sorts .entry)) (now (recent .entry)) (now (places .entry)) gap (now (calls .entry)) terms)
+        (now (calls .entry)) terms at) 0 n)
         (λ i. at + 1 + i)) ⌝ }
 {
     let first = call_list::argument_word(calls, at, 0);
@@ -148,7 +153,8 @@ fn record_fault(
 ) -> Wrong
     requires { ⌜ at < length (now calls) ⌝ }
     ensures { λ r. ⌜ r
-        ≡ wrongAs (faultBy (sortNear (now (sorts .entry)) (now (recent .entry)) (now (places .entry)) gap (now (calls .entry)) terms)
+        ≡ wrongAs (faultBy
+        (sortNear (now (sorts .entry)) (now (recent .entry)) (now (places .entry)) gap (now (calls .entry)) terms)
         (now (names .entry)) (now (tops .entry)) (now (calls .entry)) terms at) ⌝ }
 {
     let operation = call_list::operation_at(calls, at);
@@ -168,14 +174,6 @@ fn record_fault(
     } else {
         Wrong::At(at)
     }
-}
-
-// How far a list is read: the place, the terms and names so far, and whether check was called.
-pub struct Seen {
-    pub at: usize,
-    pub terms: usize,
-    pub declared: usize,
-    pub checked: bool,
 }
 
 // A test as a number.
@@ -208,22 +206,8 @@ fn is_check(operation: Operation) -> bool
     }
 }
 
-// The same after the record at its place.
-fn after_record(calls: &[u32], seen: Seen) -> Seen
-    requires { ⌜ (seen .at < length (now calls)) × (seen .terms ≤ seen .at) × (seen .declared ≤ seen .at) ⌝ }
-    ensures { λ r. ⌜ r ≡ seenNext (now (calls .entry)) seen ⌝ }
-{
-    let operation = call_list::operation_at(calls, seen.at);
-    Seen {
-        at: call_list::next_record(calls, seen.at),
-        terms: seen.terms + number(call_list::makes_term(operation)),
-        declared: seen.declared + number(call_list::is_declare(operation)),
-        checked: is_check(operation),
-    }
-}
-
-// The check with its tables: the places of every `gap + 1`th term, the sorts of the first terms and of the latest, the names, which start all
-// zeros, and for each letter and suffix one more than the highest index so far.
+// The check with its tables: the places of every `gap + 1`th term, the sorts of the first terms and of the latest, the
+// names, which start all zeros, and for each letter and suffix one more than the highest index so far.
 fn check_records(
     calls: &[u32],
     places: &mut [u32],
@@ -234,16 +218,17 @@ fn check_records(
     tops: &mut [u32],
 ) -> CallList
     requires { ⌜ ((k : ℕ) → getD (now names) k 0 ≡ 0) × (9 ≤ length (now tops)) ⌝ }
-    ensures { λ r. ⌜ CheckedBy gap (now (calls .entry)) (now (places .exit)) (now (sorts .exit)) (now (names .exit)) r ⌝ }
+    ensures { λ r. ⌜ CheckedBy gap (now (calls .entry)) (now (places .exit))
+        (now (sorts .exit)) (now (names .exit)) r ⌝ }
 {
-    let mut seen = Seen {
+    let mut seen = Cursor {
         at: 0,
         terms: 0,
         declared: 0,
-        checked: false,
     };
+    let mut checked = false;
     while seen.at < calls.len() {
-        if seen.checked {
+        if checked {
             return CallList::Malformed(seen.at);
         }
         match record_fault(
@@ -265,7 +250,8 @@ fn check_records(
                 term_table::note_place(calls, places, gap, seen.at, seen.terms);
                 name_table::note_name(calls, names, seen.at);
                 name_table::note_top(calls, tops, seen.at);
-                seen = after_record(calls, seen);
+                checked = is_check(call_list::operation_at(calls, seen.at));
+                seen = call_list::next(calls, seen);
             }
         }
     }
@@ -276,8 +262,8 @@ fn check_records(
 }
 
 // Whether a call list is well formed, and where it is not (fault 19), with tables that the caller lends: for a well-formed list they have
-// the places of every `gap + 1`th term, the sorts of its first terms and its names of low indexes, as far as they reach; what else they and the
-// ring of the latest terms hold afterwards is free.
+// the places of every `gap + 1`th term, the sorts of its first terms and its names of low indexes, as far as they
+// reach; what else they and the ring of the latest terms hold afterwards is free.
 pub fn check_by(
     calls: &[u32],
     places: &mut [u32],
@@ -286,7 +272,8 @@ pub fn check_by(
     recent: &mut [u8],
     names: &mut [u8],
 ) -> CallList
-    ensures { λ r. ⌜ CheckedBy gap (now (calls .entry)) (now (places .exit)) (now (sorts .exit)) (now (names .exit)) r ⌝ }
+    ensures { λ r. ⌜ CheckedBy gap (now (calls .entry)) (now (places .exit))
+        (now (sorts .exit)) (now (names .exit)) r ⌝ }
 {
     name_table::clear_names(names);
     let mut tops = [0u32; 9];

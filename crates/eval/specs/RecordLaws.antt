@@ -32,8 +32,8 @@ use Rattle.term_table.specs.Near.{sortNear, noteRecent}
 use Rattle.term_table.specs.Sorted.{ReadTo, read-start, read-next, terms-next, tabled-before, sorts-few}
 use Rattle.term_table.specs.NearLaws.{Spaced, Recent, recent-start, ring-more, near-is}
 use Rattle.checker.specs.Tables.{pickPlace}
-use Rattle.checker.specs.Checking.{bit-low}
-use Rattle.eval.specs.declared.Progress.{Progress}
+use Rattle.call_list.specs.Cursors.{nothingRead, cursorNext, bit-low}
+use Rattle.call_list.specs.declared.Cursor.{Cursor}
 use Rattle.term_values.specs.Values.{valueNumber}
 use Rattle.eval.specs.Evaluated.{assigned, falseAssertions, bitsFault, termValues}
 use Rattle.term_values.specs.Values.{valueBy}
@@ -48,11 +48,7 @@ use Rattle.eval.specs.Evaluating.{
   evaluating-end,
 }
 use Rattle.term_values.specs.Records.{numberIn, sortBelow, record-value}
-use Rattle.eval.specs.Records.{bitsWrong, wrongBits, falseOf, falseBy, valuesNext, progressNext}
-
--- Nothing is done at first.
-abbrev pub nothingDone : Progress
-nothingDone = record { at = 0; terms = 0; declared = 0; falses = 0 }
+use Rattle.eval.specs.Records.{bitsWrong, wrongBits, falseOf, falseBy, valuesNext}
 
 -- ---- bits
 
@@ -126,28 +122,28 @@ module _ (w bits : List ℕ) (at terms declared : ℕ) (inside : at < length w) 
       (fault-step (length w - at - 1))
 
 -- What the loop over the records keeps: the fault of the bits is what the records left say.
-pub record BitsTo (w bits : List ℕ) (done : Progress) : Type 0 where
+pub record BitsTo (w bits : List ℕ) (done : Cursor) : Type 0 where
   pub few-terms : done .terms ≤ done .at
   pub few-names : done .declared ≤ done .at
   pub left :
       bitsFault 0 (decode w) bits
       ≡ bitsFault (done .terms) (callsFrom (length w - done .at) w (done .at)) (drop (done .declared) bits)
 
-pub bits-start : (w bits : List ℕ) → BitsTo w bits nothingDone
+pub bits-start : (w bits : List ℕ) → BitsTo w bits nothingRead
 bits-start w bits = record {
   few-terms = omega arith;
   few-names = omega arith;
   left = ap (λ (n : ℕ). bitsFault 0 (callsFrom n w 0) bits) (let e : length w ≡ length w - 0 = omega arith in e);
 }
 
-module _ {w bits : List ℕ} {done : Progress} (k : BitsTo w bits done) where
+module _ {w bits : List ℕ} {done : Cursor} (k : BitsTo w bits done) where
   pub bits-here : done .at < length w → wrongBits w bits (done .declared) (done .at) ≡ true
       → bitsFault 0 (decode w) bits ≡ some (done .terms)
   bits-here inside wrong = k .left ∙ fault-turn w bits (done .at) (done .terms) (done .declared) inside ∙ rw wrong
 
-  pub bits-next : done .at < length w → wrongBits w bits (done .declared) (done .at) ≡ false → (falses : ℕ)
-      → BitsTo w bits (progressNext w done falses)
-  bits-next inside right falses = record {
+  pub bits-next : done .at < length w → wrongBits w bits (done .declared) (done .at) ≡ false
+      → BitsTo w bits (cursorNext w done)
+  bits-next inside right = record {
     few-terms = omega (arith, k .few-terms, bit-low (makesTerm (operationAt w (done .at))));
     few-names = omega (arith, k .few-names, bit-low (isDeclare (operationAt w (done .at))));
     left = k .left ∙ fault-turn w bits (done .at) (done .terms) (done .declared) inside ∙ rw right;
@@ -220,13 +216,13 @@ false-low o.check v = omega arith
 false-low o.unknown v = omega arith
 
 -- How far a well-formed list is evaluated, between two records.
-pub record EvaluatedTo (gap : ℕ) (w bits slice₀ table places slice recent : List ℕ) (done : Progress) : Type 0 where
+pub record EvaluatedTo (gap : ℕ) (w bits slice₀ table places slice recent : List ℕ) (done : Cursor) (falses : ℕ) : Type 0 where
   pub leaving : Context
   pub context : Context
   pub fuel : ℕ
   pub evaluating :
       Evaluating (decode w) (assigned (decode w) bits) slice₀ slice (drop (done .declared) bits) (callsFrom fuel w (done .at))
-      (done .terms) (done .falses) context
+      (done .terms) falses context
   pub read : ReadTo w (done .at) context table (done .terms)
   pub tabled : Tabled table (leaving .sorts)
   pub spaced : Spaced w places gap (length (leaving .sorts))
@@ -236,11 +232,11 @@ pub record EvaluatedTo (gap : ℕ) (w bits slice₀ table places slice recent : 
   pub fits : bitsFault (done .terms) (callsFrom fuel w (done .at)) (drop (done .declared) bits) ≡ none
   pub few-terms : done .terms ≤ done .at
   pub few-names : done .declared ≤ done .at
-  pub few-falses : done .falses ≤ done .at
+  pub few-falses : falses ≤ done .at
   pub room : length (termValues w bits) ≤ length slice₀
 
-module _ {gap : ℕ} {w bits slice₀ table places slice recent : List ℕ} {done : Progress}
-    (k : EvaluatedTo gap w bits slice₀ table places slice recent done) where
+module _ {gap : ℕ} {w bits slice₀ table places slice recent : List ℕ} {done : Cursor} {falses : ℕ}
+    (k : EvaluatedTo gap w bits slice₀ table places slice recent done falses) where
   abbrev operation : Op
   operation = operationAt w (done .at)
 
@@ -258,18 +254,18 @@ module _ {gap : ℕ} {w bits slice₀ table places slice recent : List ℕ} {don
       → EvaluatedTo gap w bits slice₀ table places
       (valuesNext sort slice w (done .terms) (getD bits (done .declared) 0) (done .at))
       (noteRecent sort table recent w (done .at) (done .terms))
-      (progressNext w done (done .falses + falseBy slice w (done .at)))
+      (cursorNext w done) (falses + falseBy slice w (done .at))
   evaluated-next inside = go (k .fuel) (k .enough) (k .evaluating) (k .rest) (k .fits)
     where
       go : (fuel : ℕ) → length w - done .at ≤ fuel
           → Evaluating (decode w) (assigned (decode w) bits) slice₀ slice (drop (done .declared) bits) (callsFrom fuel w (done .at))
-          (done .terms) (done .falses) (k .context)
+          (done .terms) falses (k .context)
           → readFrom fuel w (done .at) (k .context) ≡ wellFormed (k .leaving)
           → bitsFault (done .terms) (callsFrom fuel w (done .at)) (drop (done .declared) bits) ≡ none
           → EvaluatedTo gap w bits slice₀ table places
           (valuesNext sort slice w (done .terms) (getD bits (done .declared) 0) (done .at))
           (noteRecent sort table recent w (done .at) (done .terms))
-          (progressNext w done (done .falses + falseBy slice w (done .at)))
+          (cursorNext w done) (falses + falseBy slice w (done .at))
       go zero enough e rest fits = absurd (omega arith)
       go (suc n) enough e rest fits =
           let right = right-read n w (done .at) (k .context) (k .leaving) inside rest in
@@ -323,7 +319,7 @@ pub record Evaluable (gap : ℕ) (w bits slice table places : List ℕ) : Type 0
   pub spaced : Spaced w places gap (length (leaving .sorts))
 
 pub evaluated-start : {gap : ℕ} {w bits slice table places : List ℕ} (recent : List ℕ) → Evaluable gap w bits slice table places
-    → EvaluatedTo gap w bits slice table places slice recent nothingDone
+    → EvaluatedTo gap w bits slice table places slice recent nothingRead 0
 evaluated-start {gap} {w} {bits} {slice} {table} {places} recent k =
     let formed = decode-formed w (k .leaving) (k .formed) .formed in
     record {
@@ -346,10 +342,10 @@ evaluated-start {gap} {w} {bits} {slice} {table} {places} recent k =
     }
 
 -- At the end every term's number is written and every false assertion counted.
-pub evaluated-end : {gap : ℕ} {w bits slice₀ table places slice recent : List ℕ} {done : Progress}
-    → EvaluatedTo gap w bits slice₀ table places slice recent done → length w ≤ done .at
+pub evaluated-end : {gap : ℕ} {w bits slice₀ table places slice recent : List ℕ} {done : Cursor} {falses : ℕ}
+    → EvaluatedTo gap w bits slice₀ table places slice recent done falses → length w ≤ done .at
     → (slice ≡ overwrite slice₀ 0 (map valueNumber (termValues w bits)))
-    × (done .falses ≡ falseAssertions (valueAt (termValues w bits)) (decode w))
-evaluated-end {gap} {w} {bits} {slice₀} {table} {places} {slice} {recent} {done} k past =
-    evaluating-end (decode w) (assigned (decode w) bits) slice₀ slice (drop (done .declared) bits) (done .terms) (done .falses)
+    × (falses ≡ falseAssertions (valueAt (termValues w bits)) (decode w))
+evaluated-end {gap} {w} {bits} {slice₀} {table} {places} {slice} {recent} {done} {falses} k past =
+    evaluating-end (decode w) (assigned (decode w) bits) slice₀ slice (drop (done .declared) bits) (done .terms) falses
     (k .context) (rw (calls-end (k .fuel) w (done .at) past) at (k .evaluating))

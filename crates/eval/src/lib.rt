@@ -1,4 +1,5 @@
 // The evaluator of a call list (faults 19 and 20), total on every list of words.
+use call_list::Cursor;
 use call_list::Operation;
 use checker::CallList;
 use checker::Wrong;
@@ -15,7 +16,7 @@ ghost use Rattle.call_list.specs.Operations.{opFrom};
 ghost use Rattle.checker.specs.Tables.{wrongAs};
 ghost use Rattle.term_values.specs.Values.{valueNumber};
 ghost use Rattle.term_table.specs.Near.{sortNear};
-ghost use Rattle.eval.specs.Records.{wrongBits, falseOf, valuesNext, progressNext};
+ghost use Rattle.eval.specs.Records.{wrongBits, falseOf, valuesNext};
 ghost use Rattle.eval.specs.Evaluated.{bitsFault, falseAssertions, termValues, refused, answer, written};
 ghost use Rattle.eval.specs.RecordLaws.{Evaluable};
 
@@ -23,14 +24,6 @@ ghost use Rattle.eval.specs.RecordLaws.{Evaluable};
 pub enum Evaluation {
     Evaluated(usize),
     Refused(Fault),
-}
-
-// How far a list is evaluated: the place, the terms and names so far, and the false assertions.
-pub struct Progress {
-    pub at: usize,
-    pub terms: usize,
-    pub declared: usize,
-    pub falses: usize,
 }
 
 // A number stored at a place; past the end nothing changes.
@@ -66,20 +59,6 @@ fn false_of(operation: Operation, value: u64) -> usize
     }
 }
 
-// How far a list is evaluated after the record at its place, with so many false assertions.
-fn progress_after(calls: &[u32], done: Progress, falses: usize) -> Progress
-    requires { ⌜ (done .at < length (now calls)) × (done .terms ≤ done .at) × (done .declared ≤ done .at) ⌝ }
-    ensures { λ r. ⌜ r ≡ progressNext (now (calls .entry)) done falses ⌝ }
-{
-    let operation = call_list::operation_at(calls, done.at);
-    Progress {
-        at: call_list::next_record(calls, done.at),
-        terms: done.terms + checker::number(call_list::makes_term(operation)),
-        declared: done.declared + checker::number(call_list::is_declare(operation)),
-        falses: falses,
-    }
-}
-
 // The number of the term that a record makes goes into the slice.
 fn write_value(
     calls: &[u32],
@@ -92,7 +71,8 @@ fn write_value(
     given: u64,
     at: usize,
 )
-    ensures { λ _. ⌜ now (values .exit) ≡ valuesNext (sortNear (now (sorts .entry)) (now (recent .entry)) (now (places .entry)) gap (now (calls .entry)) terms)
+    ensures { λ _. ⌜ now (values .exit) ≡ valuesNext
+        (sortNear (now (sorts .entry)) (now (recent .entry)) (now (places .entry)) gap (now (calls .entry)) terms)
         (now (values .entry)) (now (calls .entry)) terms given at ⌝ }
 {
     if call_list::makes_term(call_list::operation_at(calls, at)) {
@@ -152,22 +132,22 @@ fn wrong_bits(calls: &[u32], bits: &[u64], declared: usize, at: usize) -> bool
 fn bits_fault(calls: &[u32], bits: &[u64]) -> Wrong
     ensures { λ r. ⌜ r ≡ wrongAs (bitsFault 0 (decode (now (calls .entry))) (now (bits .entry))) ⌝ }
 {
-    let mut seen = Progress {
+    let mut seen = Cursor {
         at: 0,
         terms: 0,
         declared: 0,
-        falses: 0,
     };
     while seen.at < calls.len() {
         if wrong_bits(calls, bits, seen.declared, seen.at) {
             return Wrong::At(seen.terms);
         }
-        seen = progress_after(calls, seen, 0);
+        seen = call_list::next(calls, seen);
     }
     Wrong::None
 }
 
-// The numbers of all terms go into the slice, and how many assertions are false is counted; with tables of the sorts and places.
+// The numbers of all terms go into the slice, and how many assertions are false is counted; with tables of the sorts
+// and places.
 fn evaluate_records(
     calls: &[u32],
     bits: &[u64],
@@ -181,20 +161,20 @@ fn evaluate_records(
     ensures { λ r. ⌜ (now (values .exit) ≡ overwrite (now (values .entry)) 0 (map valueNumber (termValues (now (calls .entry)) (now (bits .entry)))))
         × (r ≡ falseAssertions (valueAt (termValues (now (calls .entry)) (now (bits .entry)))) (decode (now (calls .entry)))) ⌝ }
 {
-    let mut done = Progress {
+    let mut done = Cursor {
         at: 0,
         terms: 0,
         declared: 0,
-        falses: 0,
     };
+    let mut falses = 0;
     while done.at < calls.len() {
         let operation = call_list::operation_at(calls, done.at);
         let asserted = term_values::number_at(
             values,
             call_list::argument_at(calls, done.at, 0) as usize,
         );
-        let falses = done.falses + false_of(operation, asserted);
         let given = term_values::number_at(bits, done.declared);
+        falses += false_of(operation, asserted);
         write_value(
             calls,
             values,
@@ -207,13 +187,14 @@ fn evaluate_records(
             done.at,
         );
         term_table::note_recent(calls, sorts, recent, places, gap, done.at, done.terms);
-        done = progress_after(calls, done, falses);
+        done = call_list::next(calls, done);
     }
-    done.falses
+    falses
 }
 
-// The number of every term under the bits of the declared names, and how many assertions are false (faults 19 and 20), with tables for the sorts
-// of the first terms and of the latest, the places of every `gap + 1`th term and the names of low indexes; what they hold afterwards is free.
+// The number of every term under the bits of the declared names, and how many assertions are false (faults 19 and 20),
+// with tables for the sorts of the first terms and of the latest, the places of every `gap + 1`th term and the names of
+// low indexes; what they hold afterwards is free.
 fn evaluate_by(
     calls: &[u32],
     bits: &[u64],
@@ -251,8 +232,9 @@ fn evaluate_by(
     }
 }
 
-// The number of every term under the bits of the declared names, and how many assertions are false (faults 19 and 20), with tables that
-// the caller lends for the sorts of the first terms and the names of low indexes; what they hold afterwards is free.
+// The number of every term under the bits of the declared names, and how many assertions are false (faults 19 and 20),
+// with tables that the caller lends for the sorts of the first terms and the names of low indexes; what they hold
+// afterwards is free.
 pub fn evaluate_with(
     calls: &[u32],
     bits: &[u64],

@@ -14,7 +14,8 @@ ghost use Rattle.engine.specs.Emit.{binaryOf};
 ghost use Rattle.call_list.specs.Operations.{opFrom};
 ghost use Rattle.term_table.specs.Origins.{payloads};
 ghost use Rattle.term_table.specs.Tables.{pickList, recordSort, placeBy};
-ghost use Rattle.term_table.specs.Near.{placeNear, isRecent, originNear, sortNear, recordBy, noteSort, noteRecent, notePlace};
+ghost use Rattle.term_table.specs.Near.{placeNear, isRecent, originNear, sortNear, recordBy};
+ghost use Rattle.term_table.specs.Near.{noteSort, noteRecent, notePlace};
 
 fn extract_width(high: u32, low: u32) -> u32
     requires { ⌜ high < 2 ^ 29 ⌝ }
@@ -122,8 +123,8 @@ fn earlier_origin(k: u32, origin: Origin) -> Origin
     }
 }
 
-// The place of the record that makes a term, counted on from the place that the table of places has before it: of every `gap + 1`th term, in a
-// list of at most 2^32 words.
+// The place of the record that makes a term, counted on from the place that the table of places has before it: of every
+// `gap + 1`th term, in a list of at most 2^32 words.
 fn near_place(calls: &[u32], places: &[u32], gap: u32, k: u32) -> usize
     ensures { λ r. ⌜ r ≡ placeNear (now (places .entry)) gap (now (calls .entry)) k ⌝ }
 {
@@ -160,7 +161,8 @@ fn ring_entry(recent: &[u8], k: usize) -> u32
     entry(recent, k % recent.len())
 }
 
-// What is known of the sort of a term: from the table of the first terms or the ring of the latest its sort, else what its record says.
+// What is known of the sort of a term: from the table of the first terms or the ring of the latest its sort, else what
+// its record says.
 fn term_origin(
     calls: &[u32],
     sorts: &[u8],
@@ -170,7 +172,9 @@ fn term_origin(
     terms: usize,
     k: u32,
 ) -> Origin
-    ensures { λ r. ⌜ r ≡ originNear (now (sorts .entry)) (now (recent .entry)) (now (places .entry)) gap (now (calls .entry)) terms k ⌝ }
+    ensures { λ r. ⌜ r
+        ≡ originNear (now (sorts .entry)) (now (recent .entry)) (now (places .entry))
+        gap (now (calls .entry)) terms k ⌝ }
 {
     if (k as usize) < sorts.len() {
         return Origin::Given(entry(sorts, k as usize));
@@ -192,7 +196,9 @@ fn sort_through(
     terms: usize,
     term: u32,
 ) -> u32
-    ensures { λ r. ⌜ r ≡ sortNear (now (sorts .entry)) (now (recent .entry)) (now (places .entry)) gap (now (calls .entry)) terms term ⌝ }
+    ensures { λ r. ⌜ r
+        ≡ sortNear (now (sorts .entry)) (now (recent .entry)) (now (places .entry))
+        gap (now (calls .entry)) terms term ⌝ }
 {
     let mut k = term;
     let mut total = 0;
@@ -225,7 +231,9 @@ pub fn term_sort(
     terms: usize,
     term: u32,
 ) -> u32
-    ensures { λ r. ⌜ r ≡ sortNear (now (sorts .entry)) (now (recent .entry)) (now (places .entry)) gap (now (calls .entry)) terms term ⌝ }
+    ensures { λ r. ⌜ r
+        ≡ sortNear (now (sorts .entry)) (now (recent .entry)) (now (places .entry))
+        gap (now (calls .entry)) terms term ⌝ }
 {
     let k = term as usize;
     if k < sorts.len() {
@@ -244,7 +252,9 @@ pub fn sort_at(
     terms: usize,
     at: usize,
 ) -> u32
-    ensures { λ r. ⌜ r ≡ recordBy (sortNear (now (sorts .entry)) (now (recent .entry)) (now (places .entry)) gap (now (calls .entry)) terms)
+    ensures { λ r. ⌜ r
+        ≡ recordBy
+        (sortNear (now (sorts .entry)) (now (recent .entry)) (now (places .entry)) gap (now (calls .entry)) terms)
         (now (calls .entry)) at ⌝ }
 {
     match origin_at(calls, at) {
@@ -280,7 +290,8 @@ fn put_byte(table: &mut [u8], at: usize, value: u32)
 fn put_recent(sorts: &[u8], recent: &mut [u8], k: usize, value: u32)
     requires { ⌜ value < 256 ⌝ }
     ensures { λ _. ⌜ now (recent .exit)
-        ≡ pickList (leb (length (now (sorts .entry))) k) (set (now (recent .entry)) (k % length (now (recent .entry))) value) (now (recent .entry)) ⌝ }
+        ≡ pickList (leb (length (now (sorts .entry))) k)
+        (set (now (recent .entry)) (k % length (now (recent .entry))) value) (now (recent .entry)) ⌝ }
 {
     if sorts.len() <= k {
         if recent.len() == 0 {
@@ -291,7 +302,8 @@ fn put_recent(sorts: &[u8], recent: &mut [u8], k: usize, value: u32)
     }
 }
 
-// The sort of the term that a record makes goes into the ring of the latest terms, if the table of sorts does not have it.
+// The sort of the term that a record makes goes into the ring of the latest terms, if the table of sorts does not have
+// it.
 pub fn note_recent(
     calls: &[u32],
     sorts: &[u8],
@@ -302,7 +314,8 @@ pub fn note_recent(
     terms: usize,
 )
     ensures { λ _. ⌜ now (recent .exit)
-        ≡ noteRecent (sortNear (now (sorts .entry)) (now (recent .entry)) (now (places .entry)) gap (now (calls .entry)) terms)
+        ≡ noteRecent
+        (sortNear (now (sorts .entry)) (now (recent .entry)) (now (places .entry)) gap (now (calls .entry)) terms)
         (now (sorts .entry)) (now (recent .entry)) (now (calls .entry)) at terms ⌝ }
 {
     if sorts.len() <= terms {
@@ -324,10 +337,12 @@ pub fn note_sort(
     terms: usize,
 )
     ensures { λ _. ⌜ (now (sorts .exit)
-        ≡ noteSort (sortNear (now (sorts .entry)) (now (recent .entry)) (now (places .entry)) gap (now (calls .entry)) terms)
+        ≡ noteSort
+        (sortNear (now (sorts .entry)) (now (recent .entry)) (now (places .entry)) gap (now (calls .entry)) terms)
         (now (sorts .entry)) (now (calls .entry)) at terms)
         × (now (recent .exit)
-        ≡ noteRecent (sortNear (now (sorts .entry)) (now (recent .entry)) (now (places .entry)) gap (now (calls .entry)) terms)
+        ≡ noteRecent
+        (sortNear (now (sorts .entry)) (now (recent .entry)) (now (places .entry)) gap (now (calls .entry)) terms)
         (now (sorts .entry)) (now (recent .entry)) (now (calls .entry)) at terms) ⌝ }
 {
     if call_list::makes_term(call_list::operation_at(calls, at)) {
@@ -352,15 +367,16 @@ pub fn term_place(calls: &[u32], places: &[u32], term: Term) -> usize
     call_list::place_of_term(calls, term)
 }
 
-// How many terms to leave out between two whose places are noted: the list's words by `per + 1`. A record that makes a term has at least two words,
-// so that a table of half as many places reaches to the end of the list.
+// How many terms to leave out between two whose places are noted: the list's words by `per + 1`. A record that makes a
+// term has at least two words, so that a table of half as many places reaches to the end of the list.
 pub fn gap_of(calls: &[u32], per: u32) -> u32
     ensures { λ r. ⌜ r ≡ length (now (calls .entry)) / (per + 1) % 4294967296 ⌝ }
 {
     (calls.len() / (per as usize + 1) % 4294967296) as u32
 }
 
-// The place of the record that makes a term goes into the table of places, if it is the term's turn: of every `gap + 1`th.
+// The place of the record that makes a term goes into the table of places, if it is the term's turn: of every `gap +
+// 1`th.
 pub fn note_place(calls: &[u32], places: &mut [u32], gap: u32, at: usize, terms: usize)
     ensures { λ _. ⌜ now (places .exit) ≡ notePlace (now (places .entry)) gap (now (calls .entry)) at terms ⌝ }
 {

@@ -109,7 +109,9 @@ fn argument_sort(
     i: usize,
 ) -> u32
     ensures { λ r. ⌜ r
-        ≡ sortBelow (sortNear (now (sorts .entry)) (now (recent .entry)) (now (places .entry)) gap (now (calls .entry)) terms) terms (payloads (now (calls .entry)) at i) ⌝ }
+        ≡ sortBelow
+        (sortNear (now (sorts .entry)) (now (recent .entry)) (now (places .entry)) gap (now (calls .entry)) terms)
+        terms (payloads (now (calls .entry)) at i) ⌝ }
 {
     let k = call_list::argument_at(calls, at, i);
     if (k as usize) < terms {
@@ -121,7 +123,8 @@ fn argument_sort(
 // The number of an ite: that of the second argument where the first's is 1, else that of the third.
 fn choice_value(calls: &[u32], values: &[u64], at: usize) -> u64
     ensures { λ r. ⌜ r ≡ cond (eqb (numberIn (now (values .entry)) (payloads (now (calls .entry)) at 0)) 1)
-        (numberIn (now (values .entry)) (payloads (now (calls .entry)) at 1)) (numberIn (now (values .entry)) (payloads (now (calls .entry)) at 2)) ⌝ }
+        (numberIn (now (values .entry)) (payloads (now (calls .entry)) at 1))
+        (numberIn (now (values .entry)) (payloads (now (calls .entry)) at 2)) ⌝ }
 {
     let condition = argument_value(calls, values, at, 0);
     let if_one = argument_value(calls, values, at, 1);
@@ -149,7 +152,8 @@ fn concat_value(
     terms: usize,
     at: usize,
 ) -> u64
-    ensures { λ r. ⌜ r ≡ concatIn (sortNear (now (sorts .entry)) (now (recent .entry)) (now (places .entry)) gap (now (calls .entry)) terms)
+    ensures { λ r. ⌜ r ≡ concatIn
+        (sortNear (now (sorts .entry)) (now (recent .entry)) (now (places .entry)) gap (now (calls .entry)) terms)
         (now (values .entry)) (now (calls .entry)) terms at ⌝ }
 {
     let high = argument_sort(calls, sorts, recent, places, gap, terms, at, 0);
@@ -169,7 +173,8 @@ fn extract_value(
     terms: usize,
     at: usize,
 ) -> u64
-    ensures { λ r. ⌜ r ≡ extractIn (sortNear (now (sorts .entry)) (now (recent .entry)) (now (places .entry)) gap (now (calls .entry)) terms)
+    ensures { λ r. ⌜ r ≡ extractIn
+        (sortNear (now (sorts .entry)) (now (recent .entry)) (now (places .entry)) gap (now (calls .entry)) terms)
         (now (values .entry)) (now (calls .entry)) terms at ⌝ }
 {
     let width = argument_sort(calls, sorts, recent, places, gap, terms, at, 2);
@@ -190,7 +195,8 @@ pub fn record_value(
     given: u64,
     at: usize,
 ) -> u64
-    ensures { λ r. ⌜ r ≡ recordValue (sortNear (now (sorts .entry)) (now (recent .entry)) (now (places .entry)) gap (now (calls .entry)) terms)
+    ensures { λ r. ⌜ r ≡ recordValue
+        (sortNear (now (sorts .entry)) (now (recent .entry)) (now (places .entry)) gap (now (calls .entry)) terms)
         (now (values .entry)) (now (calls .entry)) terms given at ⌝ }
 {
     match call_list::operation_at(calls, at) {

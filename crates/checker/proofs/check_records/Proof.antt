@@ -3,7 +3,8 @@
 use borrow.Author.Needs.{needs}
 use Prim.Native.Nat.{_-_}
 use mathlib.Core.Path.{_≡_, refl, sym, ap, _∙_}
-use Rattle.checker.specs.declared.Seen.{Seen}
+use Rattle.call_list.specs.declared.Cursor.{Cursor}
+use Rattle.call_list.specs.Cursors.{passed-next}
 use native.Mathlib.Omega.{arith}
 use lib.ListN.{length}
 use Rattle.term_table.specs.Near.{sortNear}
@@ -23,12 +24,12 @@ use Rattle.checker.proofs.check_records.Statement.{statement}
 use Rattle.checker.proofs.check_records.Tie as tie
 
 abbrev Inv-loop : tie.InvT-loop
-Inv-loop calls places₀ gap sorts₀ recent₀ names₀ tops₀ seen₀ places sorts recent names tops seen =
+Inv-loop calls places₀ gap sorts₀ recent₀ names₀ tops₀ seen₀ checked₀ places sorts recent names tops seen checked =
     (length places ≡ length places₀) × (length sorts ≡ length sorts₀) × (length recent ≡ length recent₀)
-    × (length names ≡ length names₀) × (length tops ≡ length tops₀) × Checking gap calls places sorts recent names tops seen
+    × (length names ≡ length names₀) × (length tops ≡ length tops₀) × Checking gap calls places sorts recent names tops seen checked
 
 abbrev μ-loop : tie.MeasureT-loop
-μ-loop calls places₀ gap sorts₀ recent₀ names₀ tops₀ seen₀ places sorts recent names tops seen = length calls - seen .at
+μ-loop calls places₀ gap sorts₀ recent₀ names₀ tops₀ seen₀ checked₀ places sorts recent names tops seen checked = length calls - seen .at
 
 loop-holds : tie.Need-loop-holds Inv-loop μ-loop
 loop-holds c =
@@ -146,41 +147,19 @@ note-name-requires c κs = search needs
 note-top-requires : tie.Need-note-top-requires Inv-loop μ-loop
 note-top-requires c κs = search needs
 
-after-record-requires : tie.Need-after-record-requires Inv-loop μ-loop
-after-record-requires c κs =
-    let topped = c .before .before in
-    let named = topped .before .before .before .before in
-    let placed = named .before .before .before .before in
-    let ringed = placed .before .before .before in
-    let sorted = ringed .before .before .before in
-    let told = sorted .before .before .before .before in
-    let asked = told .before .before in
-    let tested = asked .before .before .before .before in
-    let unchecked = tested .before .before in
-    let inside = unchecked .before in
-    let looped = inside .before .before in
-    let state = looped .loop in
-    (inside .if1 .taken, state .inv .5 .few-terms, state .inv .5 .few-names)
+operation-at-requires : tie.Need-operation-at-requires Inv-loop μ-loop
+operation-at-requires c κs = search needs
+
+is-check-requires : tie.Need-is-check-requires Inv-loop μ-loop
+is-check-requires c κs = search needs
+
+next-requires : tie.Need-next-requires Inv-loop μ-loop
+next-requires c κs = search needs
 
 loop-less : tie.Need-loop-less Inv-loop μ-loop
 loop-less c =
-    let topped = c .before .before .before in
-    let named = topped .before .before .before .before in
-    let placed = named .before .before .before .before in
-    let ringed = placed .before .before .before in
-    let sorted = ringed .before .before .before in
-    let told = sorted .before .before .before .before in
-    let asked = told .before .before in
-    let tested = asked .before .before .before .before in
-    let unchecked = tested .before .before in
-    let inside = unchecked .before in
-    let looped = inside .before .before in
-    let state = looped .loop in
-    omega (arith, inside .if1 .taken, ap (λ (s : Seen). s .at) (c .after-record .ensures))
-
-loop-again : tie.Need-loop-again Inv-loop μ-loop
-loop-again c =
-    let topped = c .before .before .before in
+    let read = c .before .before in
+    let topped = read .before .before .before in
     let named = topped .before .before .before .before in
     let placed = named .before .before .before .before in
     let ringed = placed .before .before .before in
@@ -193,7 +172,40 @@ loop-again c =
     let looped = inside .before .before in
     let state = looped .loop in
     let entry = looped .before .before .before in
-    let args = entry .before .before .before .before .args in
+    let start = entry .before .before .before .before in
+    let args = start .args in
+    let within = inside .if1 .taken in
+    let few-terms = state .inv .5 .few-terms in
+    let few-names = state .inv .5 .few-names in
+    let next =
+    passed-next (args .calls .now) (state .seen) (c .next .ensures) (omega (arith, within, start))
+    (omega (arith, within, few-terms, start)) (omega (arith, within, few-names, start)) in
+    omega (arith, within, ap (λ (s : Cursor). s .at) next)
+
+loop-again : tie.Need-loop-again Inv-loop μ-loop
+loop-again c =
+    let read = c .before .before in
+    let topped = read .before .before .before in
+    let named = topped .before .before .before .before in
+    let placed = named .before .before .before .before in
+    let ringed = placed .before .before .before in
+    let sorted = ringed .before .before .before in
+    let told = sorted .before .before .before .before in
+    let asked = told .before .before in
+    let tested = asked .before .before .before .before in
+    let unchecked = tested .before .before in
+    let inside = unchecked .before in
+    let looped = inside .before .before in
+    let state = looped .loop in
+    let entry = looped .before .before .before in
+    let start = entry .before .before .before .before in
+    let args = start .args in
+    let within = inside .if1 .taken in
+    let few-terms = state .inv .5 .few-terms in
+    let few-names = state .inv .5 .few-names in
+    let next =
+    passed-next (args .calls .now) (state .seen) (c .next .ensures) (omega (arith, within, start))
+    (omega (arith, within, few-terms, start)) (omega (arith, within, few-names, start)) in
     let sort = sortNear (state .sorts) (state .recent) (state .places) (args .gap) (args .calls .now) (state .seen .terms) in
     let fault = faultBy sort (state .names) (state .tops) (args .calls .now) (state .seen .terms) (state .seen .at) in
     let right = wrong-none fault (sym (asked .record-fault .ensures) ∙ told .enum-told .given .1) in (
@@ -203,7 +215,9 @@ loop-again c =
       named .note-name .kept .1 .0 ∙ state .inv .3,
       topped .note-top .kept .1 .0 ∙ state .inv .4,
       rw (
-        c .after-record .ensures,
+        next,
+        c .before .is-check .ensures,
+        read .operation-at .ensures,
         topped .note-top .ensures,
         named .note-name .ensures,
         placed .note-place .ensures,
@@ -257,7 +271,9 @@ check-records-spec =
     note-place-requires
     note-name-requires
     note-top-requires
-    after-record-requires
+    operation-at-requires
+    is-check-requires
+    next-requires
     loop-less
     loop-again
     same-length-11
