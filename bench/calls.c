@@ -1,6 +1,6 @@
-/* Times the call side: checking, evaluating and writing call lists of growing length, chains and fans, with tables that the caller lends. For
-   each it prints the nanoseconds a word (evaluating: also a term), the growth from the length before for each doubling, and for writing the
-   time against a copy of the same text. */
+/* Times the call side: checking, evaluating and writing call lists of growing length, chains and fans, with tables that the caller lends, and
+   checking and evaluating with the entries' own tables. For each it prints the nanoseconds a word (evaluating: also a term), the growth from the
+   length before for each doubling, and for writing the time against a copy of the same text. */
 #include <stdio.h>
 #include <stdlib.h>
 #include <string.h>
@@ -12,9 +12,10 @@
 #define TERM(k) ((VM_KIND_TERM << 29) + (k))
 enum { EQUAL = 5, BVADD = 13, BVNOT = 9, AND = 3, DECLARE = 21, ASSERT = 22 };
 
+/* Processor time, so that other work on the machine counts little. */
 static double now(void) {
     struct timespec t;
-    clock_gettime(CLOCK_MONOTONIC, &t);
+    clock_gettime(CLOCK_PROCESS_CPUTIME_ID, &t);
     return t.tv_sec + t.tv_nsec * 1e-9;
 }
 
@@ -94,18 +95,25 @@ static void fail(const char *what, uint64_t packed) {
         }                                                                                                                                  \
     } while (0)
 
-struct row { double check, evaluate, write; size_t words; };
+/* The longest list that is checked and evaluated with the entries' own tables. */
+#define OWN_TABLES 1100000
+
+struct row { double check, evaluate, write, own_check, own_evaluate; size_t words; };
 
 static struct row measure(const char *shape, size_t (*make)(uint32_t *, size_t), size_t words, struct row before) {
     uint32_t *calls = room(words * sizeof *calls);
     size_t n = make(calls, words), text_bytes;
     struct tables t = {room(n * 4), room(n), room(n * 9 / 8 * 9), n, n * 9 / 8 * 9};
     uint64_t sizes[2], packed;
-    struct row row = {0, 0, 0, n};
+    struct row row = {0, 0, 0, 0, 0, n};
     BEST(row.check, if (VM_NUMBER(packed = check(calls, n, &t, sizes))) fail("check", packed));
     uint64_t *bits = room(sizes[1] * 8), *values = room(sizes[0] * 8);
     BEST(row.evaluate, if (VM_NUMBER(packed = vm_evaluate_with(calls, n, bits, sizes[1], values, sizes[0], t.sorts, t.terms, t.names, t.name_bytes)))
                            fail("evaluate", packed));
+    if (n <= OWN_TABLES) {
+        BEST(row.own_check, if (VM_NUMBER(packed = vm_check(calls, n, sizes, 2))) fail("check, own tables", packed));
+        BEST(row.own_evaluate, if (VM_NUMBER(packed = vm_evaluate(calls, n, bits, sizes[1], values, sizes[0]))) fail("evaluate, own tables", packed));
+    }
     packed = vm_script_with(calls, n, NULL, 0, NULL, 0, t.places, t.terms, t.sorts, t.terms, t.names, t.name_bytes);
     if (VM_NUMBER(packed) != 15) fail("script", packed);
     text_bytes = VM_VALUE(packed);
@@ -116,8 +124,10 @@ static struct row measure(const char *shape, size_t (*make)(uint32_t *, size_t),
     BEST(copied, memcpy(copy, text, text_bytes));
     double doublings = 0;
     for (double ratio = before.words ? (double)n / before.words : 1; ratio > 1.01; ratio /= 2) doublings += ratio < 2 ? ratio - 1 : 1;
-    printf("| %s | %zu | %.1f | %.1f | %.1f | %.1f | %.1f |", shape, n, row.check / n * 1e9, row.evaluate / n * 1e9, row.evaluate / sizes[0] * 1e9,
-           row.write / n * 1e9, row.write / copied);
+    printf("| %s | %zu | %.1f | %.1f | %.1f |", shape, n, row.check / n * 1e9, row.evaluate / n * 1e9, row.evaluate / sizes[0] * 1e9);
+    if (n <= OWN_TABLES) printf(" %.1f | %.1f |", row.own_check / n * 1e9, row.own_evaluate / n * 1e9);
+    else printf(" | |");
+    printf(" %.1f | %.1f |", row.write / n * 1e9, row.write / copied);
     if (before.words) {
         double per = 1 / doublings, c = row.check / before.check, e = row.evaluate / before.evaluate, w = row.write / before.write;
         printf(" %.2f, %.2f, %.2f |\n", __builtin_pow(c, per), __builtin_pow(e, per), __builtin_pow(w, per));
@@ -132,10 +142,10 @@ static struct row measure(const char *shape, size_t (*make)(uint32_t *, size_t),
 int main(int argc, char **argv) {
     const size_t lengths[] = {16384, 131072, 1048576, 33554432};
     size_t most = argc > 1 ? strtoull(argv[1], NULL, 10) : 4;
-    printf("| list | words | check, ns a word | evaluate, ns a word | ns a term | write, ns a word | against a copy | growth per doubling: check, evaluate, write |\n"
-           "|---|---|---|---|---|---|---|---|\n");
+    printf("| list | words | check, ns a word | evaluate, ns a word | ns a term | check, own tables | evaluate, own tables | write, ns a word "
+           "| against a copy | growth per doubling: check, evaluate, write |\n|---|---|---|---|---|---|---|---|---|---|\n");
     for (int fans = 0; fans < 2; fans++) {
-        struct row before = {0, 0, 0, 0};
+        struct row before = {0};
         for (size_t i = 0; i < 4 && i < most; i++) before = measure(fans ? "fan" : "chain", fans ? fan : chain, lengths[i], before);
     }
     return 0;

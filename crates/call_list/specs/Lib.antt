@@ -2,3 +2,4 @@ pub mod Operations
 pub mod Made
 pub mod Records
 pub mod Literal
+pub mod Cursors

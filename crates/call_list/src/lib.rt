@@ -5,13 +5,15 @@ use engine::Compare;
 use logic::Term;
 ghost use mathlib.Core.Path.{_≡_};
 ghost use Prim.Native.Nat.{_+_, _<_, _%_};
-ghost use lib.ListN.{getD};
+ghost use lib.ListN.{length, getD};
 ghost use Rattle.logic.specs.Word.{payloadOf};
 ghost use Rattle.engine.specs.Encode.{opOf, makesTerm, offset, operationAt, countAt, argumentAt, nextAt};
-ghost use Rattle.engine.specs.Structure.{placeOfTerm};
+ghost use Rattle.engine.specs.Structure.{termPlace, placeOfTerm};
 ghost use Rattle.engine.specs.Emit.{counted};
 ghost use Rattle.call_list.specs.Operations.{opFrom, isDeclare};
+ghost use Rattle.bitvec.specs.Bits.{bit};
 ghost use Rattle.call_list.specs.Records.{madeAt};
+ghost use Rattle.call_list.specs.Cursors.{passed};
 ghost use Rattle.call_list.specs.Literal.{payloads, digitOr, fourDigits};
 
 // The operations of the calls.
@@ -180,24 +182,63 @@ pub fn terms_after(calls: &[u32], at: usize, terms: usize) -> usize
     terms
 }
 
-// The place of the record that makes a term; the place past the last record where there is none.
-pub fn place_of_term(calls: &[u32], term: Term) -> usize
-    ensures { λ r. ⌜ r ≡ placeOfTerm (now (calls .entry)) (term .0) ⌝ }
+// How far a list is read: the place, and the terms made and names declared before it.
+pub struct Cursor {
+    pub at: usize,
+    pub terms: usize,
+    pub declared: usize,
+}
+
+// A count, one higher where a test holds; the largest number stays.
+fn count_if(holds: bool, count: usize) -> usize
+    ensures { λ r. ⌜ r ≡ counted (count + bit holds) ⌝ }
 {
-    let mut at = 0;
-    let mut left = term.0;
+    if holds {
+        if count < 18446744073709551615 {
+            return count + 1;
+        }
+    }
+    count
+}
+
+// How far a list is read after the record at a cursor's place; the largest numbers stay.
+pub fn next(calls: &[u32], cursor: Cursor) -> Cursor
+    ensures { λ r. ⌜ r ≡ passed (now (calls .entry)) cursor ⌝ }
+{
+    let operation = operation_at(calls, cursor.at);
+    Cursor {
+        at: next_record(calls, cursor.at),
+        terms: count_if(makes_term(operation), cursor.terms),
+        declared: count_if(is_declare(operation), cursor.declared),
+    }
+}
+
+// The place of the record that makes the term number `left` among those made from a place on; the place past the last
+// record where there is none.
+pub fn place_from(calls: &[u32], from: usize, left: u32) -> usize
+    ensures { λ r. ⌜ r ≡ termPlace (length (now (calls .entry))) (now (calls .entry)) from left ⌝ }
+{
+    let mut at = from;
+    let mut more = left;
     while at < calls.len() {
         if makes_term(operation_at(calls, at)) {
-            if left == 0 {
+            if more == 0 {
                 return at;
             }
-            left -= 1;
+            more -= 1;
             at = next_record(calls, at);
         } else {
             at = next_record(calls, at);
         }
     }
     at
+}
+
+// The place of the record that makes a term; the place past the last record where there is none.
+pub fn place_of_term(calls: &[u32], term: Term) -> usize
+    ensures { λ r. ⌜ r ≡ placeOfTerm (now (calls .entry)) (term .0) ⌝ }
+{
+    place_from(calls, 0, term.0)
 }
 
 // The 16-bit number j of a literal, or 0 past the last.

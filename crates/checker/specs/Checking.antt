@@ -5,30 +5,44 @@ use mathlib.Core.Bool.{Bool, true, false, _&&_}
 use mathlib.Core.List.{List}
 use mathlib.Core.Option.{Option, some, none}
 use Prim.Native.Nat.{ℕ, zero, suc, _+_, _-_, _≤_, _<_}
+use native.Mathlib.Nat.{le-refl}
 use native.Mathlib.Omega.{arith}
 use lib.ListN.{length, getD, set, length-set, replicate}
 use Rattle.bitvec.specs.Bits.{bit}
 use Rattle.engine.specs.Call.{Call}
 use Rattle.engine.specs.Call as c
-use Rattle.engine.specs.Sorts.{Context, start, after}
+use Rattle.engine.specs.Sorts.{Sort, Context, start, after}
 use Rattle.engine.specs.Encode.{Op, makesTerm, operationAt, countAt, callOf, callAt}
 use Rattle.engine.specs.Encode as o
 use Rattle.engine.specs.WellFormed.{declares, headStands, wellFormed, readFrom, outcome}
 use Rattle.engine.specs.Steps.{read-end, read-step, read-head}
+use Rattle.call_list.specs.declared.Cursor.{Cursor}
+use Rattle.call_list.specs.Cursors.{nothingRead, cursorNext, bit-low}
 use Rattle.call_list.specs.Operations.{isDeclare, declares-of}
 use Rattle.checker.specs.declared.CallList.{CallList}
 use Rattle.checker.specs.declared.CallList.the-variants.{WellFormed, Malformed}
-use Rattle.checker.specs.declared.Seen.{Seen}
-use Rattle.term_table.specs.Tables.{noteSort, notePlace}
-use Rattle.term_table.specs.Sorted.{ReadTo, read-start, sorts-more}
-use Rattle.term_table.specs.Placed.{Placed, placed-start, placed-more}
+use Rattle.term_table.specs.Near.{sortNear, noteSort, noteRecent, notePlace}
+use Rattle.term_table.specs.Sorted.{ReadTo, read-start}
+use Rattle.term_table.specs.Placed.{Placed}
+use Rattle.term_table.specs.NearLaws.{
+  Spaced,
+  spaced-start,
+  spaced-more,
+  spaced-whole,
+  Recent,
+  recent-start,
+  ring-more,
+  sorts-more,
+  note-length,
+  near-is,
+}
 use Rattle.name_table.specs.Names.{topOf, noteName, noteTop}
 use Rattle.name_table.specs.Named.{NamesTo, TopsTo, names-none, names-next, tops-none, tops-next}
 use Rattle.term_table.specs.Tables.{pickList}
 use Rattle.call_list.specs.Literal.{payloads}
 use lib.Dec.{ltb}
-use Rattle.checker.specs.Tables.{checkedAs, isCheck, seenNext, faultBy, wrongAs}
-use Rattle.checker.specs.TableLaws.{fault-none, fault-some}
+use Rattle.checker.specs.Tables.{checkedAs, isCheck, faultBy, wrongAs}
+use Rattle.checker.specs.TableLaws.{Says, fault-none, fault-some}
 
 -- The tables of a well-formed list: the places and sorts of its first terms, and its names of low indexes.
 pub record Tables (w places sorts names : List ℕ) (y : Context) : Type 0 where
@@ -36,42 +50,60 @@ pub record Tables (w places sorts names : List ℕ) (y : Context) : Type 0 where
   pub placed : Placed w places (length (y .sorts))
   pub named : NamesTo names (y .names)
 
+-- The same with the place of every `gap + 1`th term.
+pub record TablesBy (gap : ℕ) (w places sorts names : List ℕ) (y : Context) : Type 0 where
+  pub read : ReadTo w (length w) y sorts (length (y .sorts))
+  pub spaced : Spaced w places gap (length (y .sorts))
+  pub named : NamesTo names (y .names)
+
 -- The answer of the check, and the tables that it leaves for a well-formed list.
+pub record CheckedBy (gap : ℕ) (w places sorts names : List ℕ) (answer : CallList) : Type 0 where
+  pub is : answer ≡ checkedAs (outcome w)
+  pub tabled : (y : Context) → outcome w ≡ wellFormed y → TablesBy gap w places sorts names y
+
 pub record Checked (w places sorts names : List ℕ) (answer : CallList) : Type 0 where
   pub is : answer ≡ checkedAs (outcome w)
   pub tabled : (y : Context) → outcome w ≡ wellFormed y → Tables w places sorts names y
 
+pub checked-whole : {w places sorts names : List ℕ} {answer : CallList} → CheckedBy 0 w places sorts names answer
+    → Checked w places sorts names answer
+checked-whole {w} {places} c = record {
+  is = c .is;
+  tabled = λ y e.
+      let t = c .tabled y e in
+      record { read = t .read; placed = spaced-whole w places (length (y .sorts)) (t .spaced); named = t .named };
+}
+
 -- Between two records: what the calls so far leave, as the tables and counts have it, and what remains to be read.
-pub record Checking (w places table names tops : List ℕ) (s : Seen) : Type 0 where
+pub record Checking (gap : ℕ) (w places table recent names tops : List ℕ) (s : Cursor) (checked : Bool) : Type 0 where
   pub context : Context
   pub fuel : ℕ
   pub read : ReadTo w (s .at) context table (s .terms)
-  pub placed : Placed w places (s .terms)
+  pub ring : Recent (length table) recent (context .sorts)
+  pub spaced : Spaced w places gap (s .terms)
   pub named : NamesTo names (context .names)
   pub topped : TopsTo tops (context .names)
   pub nine : 9 ≤ length tops
   pub declared : s .declared ≡ length (context .names)
-  pub checked : s .checked ≡ context .checked
+  pub closed : checked ≡ context .checked
   pub enough : length w - s .at ≤ fuel
   pub rest : outcome w ≡ readFrom fuel w (s .at) context
   pub few-terms : s .terms ≤ s .at
   pub few-names : s .declared ≤ s .at
 
-abbrev pub nothingSeen : Seen
-nothingSeen = record { at = 0; terms = 0; declared = 0; checked = false }
-
-pub checking-start : (w places table names tops : List ℕ) → ((k : ℕ) → getD names k 0 ≡ 0) → 9 ≤ length tops
-    → Checking w places table names tops nothingSeen
-checking-start w places table names tops zeros nine = record {
+pub checking-start : (gap : ℕ) (w places table recent names tops : List ℕ) → ((k : ℕ) → getD names k 0 ≡ 0) → 9 ≤ length tops
+    → Checking gap w places table recent names tops nothingRead false
+checking-start gap w places table recent names tops zeros nine = record {
   context = start;
   fuel = length w;
   read = read-start w table;
-  placed = placed-start w places;
+  ring = recent-start (length table) recent;
+  spaced = spaced-start w places gap;
   named = names-none names zeros;
   topped = tops-none tops;
   nine = nine;
   declared = refl;
-  checked = refl;
+  closed = refl;
   enough = omega arith;
   rest = refl;
   few-terms = omega arith;
@@ -103,15 +135,12 @@ check-after x o.assert n p e = sym e
 check-after x o.check n p e = refl
 check-after x o.unknown n p e = refl
 
-pub bit-low : (b : Bool) → bit b ≤ 1
-bit-low true = omega arith
-bit-low false = omega arith
-
 top-length : (b : Bool) (tops : List ℕ) (i v : ℕ) → 9 ≤ length tops → 9 ≤ length (pickList b (set tops i v) tops)
 top-length true tops i v h = rw (length-set tops i v) h
 top-length false tops i v h = h
 
-module _ {w places table names tops : List ℕ} {s : Seen} (k : Checking w places table names tops s) (inside : s .at < length w) where
+module _ {gap : ℕ} {w places table recent names tops : List ℕ} {s : Cursor} {checked : Bool} (k : Checking gap w places table recent names tops s checked)
+    (inside : s .at < length w) where
   some-fuel : {P : Type 0} → ((n : ℕ) → k .fuel ≡ suc n → P) → P
   some-fuel f = go (k .fuel) (k .enough) f
     where
@@ -120,40 +149,51 @@ module _ {w places table names tops : List ℕ} {s : Seen} (k : Checking w place
       go (suc n) h f = f n refl
 
   -- Nothing may follow check.
-  pub checked-fault : s .checked ≡ true → Malformed (s .at) ≡ checkedAs (outcome w)
+  pub checked-fault : checked ≡ true → Malformed (s .at) ≡ checkedAs (outcome w)
   checked-fault e =
       some-fuel (λ n f.
-      let falls : headStands (k .context) w (s .at) ≡ false = rw (sym (k .checked) ∙ e) in
+      let falls : headStands (k .context) w (s .at) ≡ false = rw (sym (k .closed) ∙ e) in
       sym (ap checkedAs (k .rest ∙ ap (λ (m : ℕ). readFrom m w (s .at) (k .context)) f ∙ read-head n w (s .at) (k .context) inside falls)))
 
-  module _ (open-list : s .checked ≡ false) where
-    unchecked : k .context .checked ≡ false
-    unchecked = sym (k .checked) ∙ open-list
+  -- The sorts of the terms so far, from the tables.
+  abbrev sort : ℕ → Sort
+  sort = sortNear table recent places gap w (s .terms)
 
-    pub record-wrong : (p : ℕ) → faultBy table names tops w (s .terms) (s .at) ≡ some p → Malformed p ≡ checkedAs (outcome w)
+  says : Says sort (k .context)
+  says = near-is (k .read) recent places gap (s .terms) (k .ring) (k .spaced) (le-refl (s .terms))
+
+  module _ (open-list : checked ≡ false) where
+    unchecked : k .context .checked ≡ false
+    unchecked = sym (k .closed) ∙ open-list
+
+    pub record-wrong : (p : ℕ) → faultBy sort names tops w (s .terms) (s .at) ≡ some p → Malformed p ≡ checkedAs (outcome w)
     record-wrong p e =
         some-fuel (λ n f.
         sym (ap checkedAs (k .rest ∙ ap (λ (m : ℕ). readFrom m w (s .at) (k .context)) f
-        ∙ fault-some (k .read) names tops (k .named) (k .topped) inside unchecked p n e)))
+        ∙ fault-some (k .read) names tops (k .named) (k .topped) sort says inside unchecked p n e)))
 
-    pub record-right : faultBy table names tops w (s .terms) (s .at) ≡ none
-        → Checking w (notePlace places w (s .at) (s .terms)) (noteSort table w (s .at) (s .terms)) (noteName names w (s .at))
-        (noteTop tops w (s .at)) (seenNext w s)
+    pub record-right : faultBy sort names tops w (s .terms) (s .at) ≡ none
+        → Checking gap w (notePlace places gap w (s .at) (s .terms)) (noteSort sort table w (s .at) (s .terms))
+        (noteRecent sort table recent w (s .at) (s .terms)) (noteName names w (s .at)) (noteTop tops w (s .at)) (cursorNext w s)
+        (isCheck (operationAt w (s .at)))
     record-right e =
         some-fuel (λ n f.
-        let right = fault-none (k .read) names tops (k .named) (k .topped) inside unchecked e in
+        let right = fault-none (k .read) names tops (k .named) (k .topped) sort says inside unchecked e in
         record {
           context = after (k .context) (callAt w (s .at));
           fuel = n;
-          read = sorts-more (k .read) right;
-          placed = placed-more (k .read) right places (k .placed);
+          read = sorts-more (k .read) right sort says;
+          ring =
+              subst (λ (n : ℕ). Recent n (noteRecent sort table recent w (s .at) (s .terms)) (after (k .context) (callAt w (s .at)) .sorts))
+              (sym (note-length sort table w (s .at) (s .terms))) (ring-more (k .read) right sort says recent (k .ring));
+          spaced = spaced-more (k .read) right places gap (k .spaced);
           named = names-next names w (s .at) (k .context) right (k .named);
           topped = tops-next tops w (s .at) (k .context) right (k .nine) (k .topped);
           nine = top-length (isDeclare (operationAt w (s .at)) && ltb (topOf tops (payloads w (s .at) 0) (payloads w (s .at) 2)) (payloads w (s .at) 1 + 1)) tops _ _ (k .nine);
           declared =
               ap₂ _+_ (k .declared) (ap bit (sym (declares-of (operationAt w (s .at)) (countAt w (s .at)) _)))
               ∙ sym (names-grow (k .context) (callAt w (s .at)));
-          checked = check-after (k .context) (operationAt w (s .at)) (countAt w (s .at)) _ unchecked;
+          closed = check-after (k .context) (operationAt w (s .at)) (countAt w (s .at)) _ unchecked;
           enough = omega (arith, k .enough, f);
           rest =
               k .rest ∙ ap (λ (m : ℕ). readFrom m w (s .at) (k .context)) f
@@ -163,29 +203,29 @@ module _ {w places table names tops : List ℕ} {s : Seen} (k : Checking w place
         })
 
 -- At the end.
-pub checked-end : {w places table names tops : List ℕ} {s : Seen} → Checking w places table names tops s → length w ≤ s .at
-    → Checked w places table names (WellFormed (s .terms) (s .declared))
-checked-end {w} {places} {table} {names} {tops} {s} k end =
+pub checked-end : {gap : ℕ} {w places table recent names tops : List ℕ} {s : Cursor} {checked : Bool} → Checking gap w places table recent names tops s checked
+    → length w ≤ s .at → CheckedBy gap w places table names (WellFormed (s .terms) (s .declared))
+checked-end {gap} {w} {places} {table} {recent} {names} {tops} {s} {checked} k end =
     let all : outcome w ≡ wellFormed (k .context) = k .rest ∙ read-end (k .fuel) w (s .at) (k .context) end in
     record {
       is = rw all (ap₂ WellFormed (k .read .counts) (k .declared));
       tabled = λ y e.
           let same : k .context ≡ y = cc in
           let at-end : s .at ≡ length w = omega (arith, k .read .within) in
-          subst (Tables w places table names) same
+          subst (TablesBy gap w places table names) same
           (record {
             read =
                 subst (λ (n : ℕ). ReadTo w (length w) (k .context) table n) (k .read .counts)
                 (subst (λ (n : ℕ). ReadTo w n (k .context) table (s .terms)) at-end (k .read));
-            placed = subst (Placed w places) (k .read .counts) (k .placed);
+            spaced = subst (Spaced w places gap) (k .read .counts) (k .spaced);
             named = k .named;
           });
     }
 
 -- A refusal says nothing of the tables.
-pub checked-wrong : {w places table names : List ℕ} {p : ℕ} → Malformed p ≡ checkedAs (outcome w)
-    → Checked w places table names (Malformed p)
-checked-wrong {w} {places} {table} {names} {p} e =
+pub checked-wrong : {gap : ℕ} {w places table names : List ℕ} {p : ℕ} → Malformed p ≡ checkedAs (outcome w)
+    → CheckedBy gap w places table names (Malformed p)
+checked-wrong {gap} {w} {places} {table} {names} {p} e =
     record { is = e; tabled = λ y f. absurd (let z : Malformed p ≡ checkedAs (wellFormed y) = rw f at e in never y z) }
   where
     never : (y : Context) → Malformed p ≡ checkedAs (wellFormed y) → ⊥

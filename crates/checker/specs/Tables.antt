@@ -7,11 +7,8 @@ use lib.ListN.{length, getD}
 use lib.Dec.{eqb, ltb}
 use Rattle.logic.specs.Word.{kindOf, payloadOf}
 use Rattle.engine.specs.Sorts.{Sort, noSort, start, after}
-use Rattle.bitvec.specs.Bits.{bit}
-use Rattle.checker.specs.declared.Seen.{Seen}
-use Rattle.engine.specs.Encode.{Op, makesTerm, operationAt, countAt, argumentAt, nextAt, callOf}
+use Rattle.engine.specs.Encode.{Op, operationAt, countAt, argumentAt, callOf}
 use Rattle.engine.specs.WellFormed.{countFits, argumentOf, admits, firstFailing, Outcome, wellFormed, malformed}
-use Rattle.engine.specs.Structure.{sortOfTerm}
 use Rattle.call_list.specs.Operations.{isDeclare}
 use Rattle.name_table.specs.Names.{knownBy}
 use Rattle.checker.specs.declared.Wrong.{Wrong}
@@ -27,18 +24,17 @@ checkedAs (malformed at) = Malformed at
 -- ---- sorts
 
 -- The sort of the term that a word refers to, of `terms` terms so far.
-abbrev pub wordSort : List ℕ → List ℕ → ℕ → ℕ → Sort
-wordSort table w terms word =
-    cond (eqb (kindOf word) 4 && ltb (payloadOf word) terms) (sortOfTerm table w (payloadOf word)) noSort
+abbrev pub wordSort : (ℕ → Sort) → ℕ → ℕ → Sort
+wordSort sort terms word = cond (eqb (kindOf word) 4 && ltb (payloadOf word) terms) (sort (payloadOf word)) noSort
 
 -- Argument i of the record at a place may stand there.
-abbrev pub standsBy : List ℕ → List ℕ → ℕ → ℕ → ℕ → Bool
-standsBy table w terms at i =
+abbrev pub standsBy : (ℕ → Sort) → List ℕ → ℕ → ℕ → ℕ → Bool
+standsBy sort w terms at i =
     admits (argumentOf (operationAt w at) i) (argumentAt w at 0) (getD w (at + i) 0) (argumentAt w at i)
-    (wordSort table w terms (getD w (at + i) 0)) (wordSort table w terms (argumentAt w at i))
+    (wordSort sort terms (getD w (at + i) 0)) (wordSort sort terms (argumentAt w at i))
 
-abbrev pub wrongBy : List ℕ → List ℕ → ℕ → ℕ → Option ℕ
-wrongBy table w terms at = firstFailing (standsBy table w terms at) 0 (countAt w at)
+abbrev pub wrongBy : (ℕ → Sort) → List ℕ → ℕ → ℕ → Option ℕ
+wrongBy sort w terms at = firstFailing (standsBy sort w terms at) 0 (countAt w at)
 
 abbrev pub wrongAs : Option ℕ → Wrong
 wrongAs none = None
@@ -69,20 +65,10 @@ abbrev pub pickPlace : Bool → Option ℕ → Option ℕ → Option ℕ
 pickPlace true a b = a
 pickPlace false a b = b
 
-abbrev pub faultBy : List ℕ → List ℕ → List ℕ → List ℕ → ℕ → ℕ → Option ℕ
-faultBy sorts names tops w terms at =
-    pickPlace (headBy names tops w at) (onWrong (wrongBy sorts w terms at) (λ i. at + 1 + i)) (some at)
+abbrev pub faultBy : (ℕ → Sort) → List ℕ → List ℕ → List ℕ → ℕ → ℕ → Option ℕ
+faultBy sort names tops w terms at =
+    pickPlace (headBy names tops w at) (onWrong (wrongBy sort w terms at) (λ i. at + 1 + i)) (some at)
 
 -- Whether an operation is the check, or none that a list can have.
 abbrev pub isCheck : Op → Bool
 isCheck op = after start (callOf op 0 (λ i. 0)) .checked
-
--- How far a list is read, after the record at its place.
-abbrev pub seenNext : List ℕ → Seen → Seen
-seenNext w s =
-    record {
-      at = nextAt w (s .at);
-      terms = s .terms + bit (makesTerm (operationAt w (s .at)));
-      declared = s .declared + bit (isDeclare (operationAt w (s .at)));
-      checked = isCheck (operationAt w (s .at));
-    }

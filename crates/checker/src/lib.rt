@@ -1,4 +1,5 @@
 // The checker of a call list (fault 19), total on every list of words.
+use call_list::Cursor;
 use call_list::Operation;
 ghost use mathlib.Core.Path.{_≡_};
 ghost use Prim.Native.Nat.{ℕ, _+_, _<_, _≤_};
@@ -6,8 +7,9 @@ ghost use lib.ListN.{length, getD};
 ghost use Rattle.engine.specs.Encode.{operationAt, countAt};
 ghost use Rattle.engine.specs.WellFormed.{firstFailing, outcome};
 ghost use Rattle.call_list.specs.Operations.{opFrom};
-ghost use Rattle.checker.specs.Tables.{wordSort, standsBy, wrongAs, againBy, headBy, onWrong, faultBy, isCheck, seenNext, checkedAs};
-ghost use Rattle.checker.specs.Checking.{Checked};
+ghost use Rattle.checker.specs.Tables.{wordSort, standsBy, wrongAs, againBy, headBy, onWrong, faultBy, isCheck, checkedAs};
+ghost use Rattle.term_table.specs.Near.{sortNear};
+ghost use Rattle.checker.specs.Checking.{Checked, CheckedBy};
 ghost use Rattle.bitvec.specs.Bits.{bit};
 
 // What checking a call list answers: how many terms it makes and names it declares, or the first place at fault.
@@ -23,13 +25,23 @@ pub enum Wrong {
 }
 
 // The sort of the term that a word refers to, if it refers to one of the terms so far.
-fn word_sort(calls: &[u32], sorts: &[u8], terms: usize, word: u32) -> u32
-    ensures { λ r. ⌜ r ≡ wordSort (now (sorts .entry)) (now (calls .entry)) terms word ⌝ }
+fn word_sort(
+    calls: &[u32],
+    sorts: &[u8],
+    recent: &[u8],
+    places: &[u32],
+    gap: u32,
+    terms: usize,
+    word: u32,
+) -> u32
+    ensures { λ r. ⌜ r ≡ wordSort
+        (sortNear (now (sorts .entry)) (now (recent .entry)) (now (places .entry)) gap (now (calls .entry)) terms)
+        terms word ⌝ }
 {
     if logic::kind(word) == 4 {
         let k = logic::payload(word);
         if (k as usize) < terms {
-            return term_table::term_sort(calls, sorts, k);
+            return term_table::term_sort(calls, sorts, recent, places, gap, terms, k);
         }
         return 65;
     }
@@ -40,21 +52,28 @@ fn word_sort(calls: &[u32], sorts: &[u8], terms: usize, word: u32) -> u32
 fn wrong_from(
     calls: &[u32],
     sorts: &[u8],
+    recent: &[u8],
+    places: &[u32],
+    gap: u32,
     terms: usize,
     at: usize,
     operation: Operation,
     n: usize,
 ) -> Wrong
     requires { ⌜ (at + n < length (now calls)) × (opFrom operation ≡ operationAt (now calls) at) ⌝ }
-    ensures { λ r. ⌜ r ≡ wrongAs (onWrong (firstFailing (standsBy (now (sorts .entry)) (now (calls .entry)) terms at) 0 n) (λ i. at + 1 + i)) ⌝ }
+    ensures { λ r. ⌜ r
+        ≡ wrongAs (onWrong (firstFailing (standsBy
+        (sortNear (now (sorts .entry)) (now (recent .entry)) (now (places .entry)) gap (now (calls .entry)) terms)
+        (now (calls .entry)) terms at) 0 n)
+        (λ i. at + 1 + i)) ⌝ }
 {
     let first = call_list::argument_word(calls, at, 0);
     let mut before = logic::word_at(calls, at);
-    let mut sort_before = word_sort(calls, sorts, terms, before);
+    let mut sort_before = word_sort(calls, sorts, recent, places, gap, terms, before);
     let mut i = 0;
     while i < n {
         let word = call_list::argument_word(calls, at, i);
-        let sort = word_sort(calls, sorts, terms, word);
+        let sort = word_sort(calls, sorts, recent, places, gap, terms, word);
         if arguments::admitted(
             arguments::argument(operation, i),
             first,
@@ -124,29 +143,37 @@ fn head_stands(
 fn record_fault(
     calls: &[u32],
     sorts: &[u8],
+    recent: &[u8],
+    places: &[u32],
+    gap: u32,
     names: &[u8],
     tops: &[u32],
     terms: usize,
     at: usize,
 ) -> Wrong
     requires { ⌜ at < length (now calls) ⌝ }
-    ensures { λ r. ⌜ r ≡ wrongAs (faultBy (now (sorts .entry)) (now (names .entry)) (now (tops .entry)) (now (calls .entry)) terms at) ⌝ }
+    ensures { λ r. ⌜ r
+        ≡ wrongAs (faultBy
+        (sortNear (now (sorts .entry)) (now (recent .entry)) (now (places .entry)) gap (now (calls .entry)) terms)
+        (now (names .entry)) (now (tops .entry)) (now (calls .entry)) terms at) ⌝ }
 {
     let operation = call_list::operation_at(calls, at);
     let n = call_list::count_at(calls, at);
     if head_stands(calls, names, tops, at, operation, n) {
-        wrong_from(calls, sorts, terms, at, operation, n as usize)
+        wrong_from(
+            calls,
+            sorts,
+            recent,
+            places,
+            gap,
+            terms,
+            at,
+            operation,
+            n as usize,
+        )
     } else {
         Wrong::At(at)
     }
-}
-
-// How far a list is read: the place, the terms and names so far, and whether check was called.
-pub struct Seen {
-    pub at: usize,
-    pub terms: usize,
-    pub declared: usize,
-    pub checked: bool,
 }
 
 // A test as a number.
@@ -179,52 +206,52 @@ fn is_check(operation: Operation) -> bool
     }
 }
 
-// The same after the record at its place.
-fn after_record(calls: &[u32], seen: Seen) -> Seen
-    requires { ⌜ (seen .at < length (now calls)) × (seen .terms ≤ seen .at) × (seen .declared ≤ seen .at) ⌝ }
-    ensures { λ r. ⌜ r ≡ seenNext (now (calls .entry)) seen ⌝ }
-{
-    let operation = call_list::operation_at(calls, seen.at);
-    Seen {
-        at: call_list::next_record(calls, seen.at),
-        terms: seen.terms + number(call_list::makes_term(operation)),
-        declared: seen.declared + number(call_list::is_declare(operation)),
-        checked: is_check(operation),
-    }
-}
-
-// The check with its tables: the places and sorts of the first terms, the names, which start all zeros, and for each letter and suffix one
-// more than the highest index so far.
+// The check with its tables: the places of every `gap + 1`th term, the sorts of the first terms and of the latest, the
+// names, which start all zeros, and for each letter and suffix one more than the highest index so far.
 fn check_records(
     calls: &[u32],
     places: &mut [u32],
+    gap: u32,
     sorts: &mut [u8],
+    recent: &mut [u8],
     names: &mut [u8],
     tops: &mut [u32],
 ) -> CallList
     requires { ⌜ ((k : ℕ) → getD (now names) k 0 ≡ 0) × (9 ≤ length (now tops)) ⌝ }
-    ensures { λ r. ⌜ Checked (now (calls .entry)) (now (places .exit)) (now (sorts .exit)) (now (names .exit)) r ⌝ }
+    ensures { λ r. ⌜ CheckedBy gap (now (calls .entry)) (now (places .exit))
+        (now (sorts .exit)) (now (names .exit)) r ⌝ }
 {
-    let mut seen = Seen {
+    let mut seen = Cursor {
         at: 0,
         terms: 0,
         declared: 0,
-        checked: false,
     };
+    let mut checked = false;
     while seen.at < calls.len() {
-        if seen.checked {
+        if checked {
             return CallList::Malformed(seen.at);
         }
-        match record_fault(calls, sorts, names, tops, seen.terms, seen.at) {
+        match record_fault(
+            calls,
+            sorts,
+            recent,
+            places,
+            gap,
+            names,
+            tops,
+            seen.terms,
+            seen.at,
+        ) {
             Wrong::At(place) => {
                 return CallList::Malformed(place);
             }
             Wrong::None => {
-                term_table::note_sort(calls, sorts, seen.at, seen.terms);
-                term_table::note_place(calls, places, seen.at, seen.terms);
+                term_table::note_sort(calls, sorts, recent, places, gap, seen.at, seen.terms);
+                term_table::note_place(calls, places, gap, seen.at, seen.terms);
                 name_table::note_name(calls, names, seen.at);
                 name_table::note_top(calls, tops, seen.at);
-                seen = after_record(calls, seen);
+                checked = is_check(call_list::operation_at(calls, seen.at));
+                seen = call_list::next(calls, seen);
             }
         }
     }
@@ -235,22 +262,49 @@ fn check_records(
 }
 
 // Whether a call list is well formed, and where it is not (fault 19), with tables that the caller lends: for a well-formed list they have
-// the places and sorts of its first terms and its names of low indexes, as far as they reach; what else they hold afterwards is free.
-pub fn check_with(calls: &[u32], places: &mut [u32], sorts: &mut [u8], names: &mut [u8]) -> CallList
-    ensures { λ r. ⌜ Checked (now (calls .entry)) (now (places .exit)) (now (sorts .exit)) (now (names .exit)) r ⌝ }
+// the places of every `gap + 1`th term, the sorts of its first terms and its names of low indexes, as far as they
+// reach; what else they and the ring of the latest terms hold afterwards is free.
+pub fn check_by(
+    calls: &[u32],
+    places: &mut [u32],
+    gap: u32,
+    sorts: &mut [u8],
+    recent: &mut [u8],
+    names: &mut [u8],
+) -> CallList
+    ensures { λ r. ⌜ CheckedBy gap (now (calls .entry)) (now (places .exit))
+        (now (sorts .exit)) (now (names .exit)) r ⌝ }
 {
     name_table::clear_names(names);
     let mut tops = [0u32; 9];
-    check_records(calls, places, sorts, names, &mut tops)
+    check_records(calls, places, gap, sorts, recent, names, &mut tops)
+}
+
+// The same with the places of all first terms.
+pub fn check_with(calls: &[u32], places: &mut [u32], sorts: &mut [u8], names: &mut [u8]) -> CallList
+    ensures { λ r. ⌜ Checked (now (calls .entry)) (now (places .exit)) (now (sorts .exit)) (now (names .exit)) r ⌝ }
+{
+    let mut recent = [0u8; 256];
+    check_by(calls, places, 0, sorts, &mut recent, names)
 }
 
 // Whether a call list is well formed, and where it is not (fault 19).
 pub fn check(calls: &[u32]) -> CallList
     ensures { λ r. ⌜ r ≡ checkedAs (outcome (now (calls .entry))) ⌝ }
 {
-    let mut places = [0u32; 1];
-    let mut sorts = [0u8; 57344];
+    let mut places = [0u32; 4096];
+    let gap = term_table::gap_of(calls, 8191);
+    let mut sorts = [0u8; 40960];
+    let mut recent = [0u8; 4096];
     let mut names = [0u8; 64512];
     let mut tops = [0u32; 9];
-    check_records(calls, &mut places, &mut sorts, &mut names, &mut tops)
+    check_records(
+        calls,
+        &mut places,
+        gap,
+        &mut sorts,
+        &mut recent,
+        &mut names,
+        &mut tops,
+    )
 }

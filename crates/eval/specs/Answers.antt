@@ -13,10 +13,9 @@ use Rattle.engine.specs.WellFormed.{Outcome, wellFormed, malformed, outcome}
 use Rattle.checker.specs.declared.CallList.the-variants.{WellFormed, Malformed}
 use Rattle.checker.specs.declared.Wrong.the-variants.{None, At}
 use Rattle.checker.specs.Tables.{checkedAs, wrongAs}
-use Rattle.checker.specs.Checking.{wrong-at, wrong-none}
+use Rattle.checker.specs.Checking.{TablesBy, wrong-at, wrong-none}
 use Rattle.eval.specs.declared.Evaluation.the-variants.{Evaluated}
 use Rattle.eval.specs.Evaluated.{falseAssertions, bitsFault, termValues, refused, answer}
-use Rattle.engine.specs.Reached.{Tabled}
 use Rattle.eval.specs.RecordLaws.{Evaluable}
 
 -- The outcome that a check's answer tells.
@@ -54,13 +53,14 @@ module _ (w bits : List ℕ) (room : ℕ) where
       pub answer-whole : terms ≤ room → answer w bits room ≡ Evaluated (falseAssertions (valueAt (termValues w bits)) (decode w))
       answer-whole h = rw (left .is, fits, le-leb (length (left .leaving .sorts)) room (let m = left .many in omega arith))
 
-      pub evaluable : (slice table : List ℕ) → length slice ≡ room → terms ≤ room
-          → ((y : Context) → outcome w ≡ wellFormed y → Tabled table (y .sorts)) → Evaluable w bits slice table
-      evaluable slice table e h tabled =
+      pub evaluable : (gap : ℕ) (slice table places names : List ℕ) → length slice ≡ room → terms ≤ room
+          → ((y : Context) → outcome w ≡ wellFormed y → TablesBy gap w places table names y) → Evaluable gap w bits slice table places
+      evaluable gap slice table places names e h tabled =
           record {
             leaving = left .leaving;
             formed = left .is;
             fits = fits;
             room = let m = left .many in omega arith;
-            tabled = tabled (left .leaving) (left .is);
+            tabled = tabled (left .leaving) (left .is) .read .tabled;
+            spaced = tabled (left .leaving) (left .is) .spaced;
           }

@@ -28,10 +28,12 @@ use Rattle.call_list.specs.Operations.{isDeclare}
 use Rattle.call_list.specs.Literal.{payloads}
 use Rattle.engine.specs.Reached.{Tabled}
 use Rattle.term_table.specs.Tables.{pickList}
-use Rattle.term_table.specs.Sorted.{ReadTo, read-start, term-sort-is, read-next, terms-next, tabled-before}
+use Rattle.term_table.specs.Near.{sortNear, noteRecent}
+use Rattle.term_table.specs.Sorted.{ReadTo, read-start, read-next, terms-next, tabled-before, sorts-few}
+use Rattle.term_table.specs.NearLaws.{Spaced, Recent, recent-start, ring-more, near-is}
 use Rattle.checker.specs.Tables.{pickPlace}
-use Rattle.checker.specs.Checking.{bit-low}
-use Rattle.eval.specs.declared.Progress.{Progress}
+use Rattle.call_list.specs.Cursors.{nothingRead, cursorNext, bit-low}
+use Rattle.call_list.specs.declared.Cursor.{Cursor}
 use Rattle.term_values.specs.Values.{valueNumber}
 use Rattle.eval.specs.Evaluated.{assigned, falseAssertions, bitsFault, termValues}
 use Rattle.term_values.specs.Values.{valueBy}
@@ -46,11 +48,7 @@ use Rattle.eval.specs.Evaluating.{
   evaluating-end,
 }
 use Rattle.term_values.specs.Records.{numberIn, sortBelow, record-value}
-use Rattle.eval.specs.Records.{bitsWrong, wrongBits, falseOf, falseBy, valuesNext, progressNext}
-
--- Nothing is done at first.
-abbrev pub nothingDone : Progress
-nothingDone = record { at = 0; terms = 0; declared = 0; falses = 0 }
+use Rattle.eval.specs.Records.{bitsWrong, wrongBits, falseOf, falseBy, valuesNext}
 
 -- ---- bits
 
@@ -124,28 +122,28 @@ module _ (w bits : List ℕ) (at terms declared : ℕ) (inside : at < length w) 
       (fault-step (length w - at - 1))
 
 -- What the loop over the records keeps: the fault of the bits is what the records left say.
-pub record BitsTo (w bits : List ℕ) (done : Progress) : Type 0 where
+pub record BitsTo (w bits : List ℕ) (done : Cursor) : Type 0 where
   pub few-terms : done .terms ≤ done .at
   pub few-names : done .declared ≤ done .at
   pub left :
       bitsFault 0 (decode w) bits
       ≡ bitsFault (done .terms) (callsFrom (length w - done .at) w (done .at)) (drop (done .declared) bits)
 
-pub bits-start : (w bits : List ℕ) → BitsTo w bits nothingDone
+pub bits-start : (w bits : List ℕ) → BitsTo w bits nothingRead
 bits-start w bits = record {
   few-terms = omega arith;
   few-names = omega arith;
   left = ap (λ (n : ℕ). bitsFault 0 (callsFrom n w 0) bits) (let e : length w ≡ length w - 0 = omega arith in e);
 }
 
-module _ {w bits : List ℕ} {done : Progress} (k : BitsTo w bits done) where
+module _ {w bits : List ℕ} {done : Cursor} (k : BitsTo w bits done) where
   pub bits-here : done .at < length w → wrongBits w bits (done .declared) (done .at) ≡ true
       → bitsFault 0 (decode w) bits ≡ some (done .terms)
   bits-here inside wrong = k .left ∙ fault-turn w bits (done .at) (done .terms) (done .declared) inside ∙ rw wrong
 
-  pub bits-next : done .at < length w → wrongBits w bits (done .declared) (done .at) ≡ false → (falses : ℕ)
-      → BitsTo w bits (progressNext w done falses)
-  bits-next inside right falses = record {
+  pub bits-next : done .at < length w → wrongBits w bits (done .declared) (done .at) ≡ false
+      → BitsTo w bits (cursorNext w done)
+  bits-next inside right = record {
     few-terms = omega (arith, k .few-terms, bit-low (makesTerm (operationAt w (done .at))));
     few-names = omega (arith, k .few-names, bit-low (isDeclare (operationAt w (done .at))));
     left = k .left ∙ fault-turn w bits (done .at) (done .terms) (done .declared) inside ∙ rw right;
@@ -218,42 +216,56 @@ false-low o.check v = omega arith
 false-low o.unknown v = omega arith
 
 -- How far a well-formed list is evaluated, between two records.
-pub record EvaluatedTo (w bits slice₀ table slice : List ℕ) (done : Progress) : Type 0 where
+pub record EvaluatedTo (gap : ℕ) (w bits slice₀ table places slice recent : List ℕ) (done : Cursor) (falses : ℕ) : Type 0 where
   pub leaving : Context
   pub context : Context
   pub fuel : ℕ
   pub evaluating :
       Evaluating (decode w) (assigned (decode w) bits) slice₀ slice (drop (done .declared) bits) (callsFrom fuel w (done .at))
-      (done .terms) (done .falses) context
+      (done .terms) falses context
   pub read : ReadTo w (done .at) context table (done .terms)
   pub tabled : Tabled table (leaving .sorts)
+  pub spaced : Spaced w places gap (length (leaving .sorts))
+  pub ring : Recent (length table) recent (context .sorts)
   pub enough : length w - done .at ≤ fuel
   pub rest : readFrom fuel w (done .at) context ≡ wellFormed leaving
   pub fits : bitsFault (done .terms) (callsFrom fuel w (done .at)) (drop (done .declared) bits) ≡ none
   pub few-terms : done .terms ≤ done .at
   pub few-names : done .declared ≤ done .at
-  pub few-falses : done .falses ≤ done .at
+  pub few-falses : falses ≤ done .at
   pub room : length (termValues w bits) ≤ length slice₀
 
-module _ {w bits slice₀ table slice : List ℕ} {done : Progress} (k : EvaluatedTo w bits slice₀ table slice done) where
+module _ {gap : ℕ} {w bits slice₀ table places slice recent : List ℕ} {done : Cursor} {falses : ℕ}
+    (k : EvaluatedTo gap w bits slice₀ table places slice recent done falses) where
   abbrev operation : Op
   operation = operationAt w (done .at)
 
+  -- The sorts of the terms so far, from the tables.
+  abbrev sort : ℕ → Sort
+  sort = sortNear table recent places gap w (done .terms)
+
+  says : (j : ℕ) → j < length (k .context .sorts) → sort j ≡ sortAt (k .context .sorts) j
+  says =
+      near-is (k .read) recent places gap (length (k .leaving .sorts)) (k .ring) (k .spaced)
+      (let few = sorts-few (k .fuel) w (done .at) (k .context) (k .leaving) (k .rest) in let c = k .read .counts in omega arith)
+
   -- One record more.
   pub evaluated-next : done .at < length w
-      → EvaluatedTo w bits slice₀ table
-      (valuesNext table slice w (done .terms) (getD bits (done .declared) 0) (done .at))
-      (progressNext w done (done .falses + falseBy slice w (done .at)))
+      → EvaluatedTo gap w bits slice₀ table places
+      (valuesNext sort slice w (done .terms) (getD bits (done .declared) 0) (done .at))
+      (noteRecent sort table recent w (done .at) (done .terms))
+      (cursorNext w done) (falses + falseBy slice w (done .at))
   evaluated-next inside = go (k .fuel) (k .enough) (k .evaluating) (k .rest) (k .fits)
     where
       go : (fuel : ℕ) → length w - done .at ≤ fuel
           → Evaluating (decode w) (assigned (decode w) bits) slice₀ slice (drop (done .declared) bits) (callsFrom fuel w (done .at))
-          (done .terms) (done .falses) (k .context)
+          (done .terms) falses (k .context)
           → readFrom fuel w (done .at) (k .context) ≡ wellFormed (k .leaving)
           → bitsFault (done .terms) (callsFrom fuel w (done .at)) (drop (done .declared) bits) ≡ none
-          → EvaluatedTo w bits slice₀ table
-          (valuesNext table slice w (done .terms) (getD bits (done .declared) 0) (done .at))
-          (progressNext w done (done .falses + falseBy slice w (done .at)))
+          → EvaluatedTo gap w bits slice₀ table places
+          (valuesNext sort slice w (done .terms) (getD bits (done .declared) 0) (done .at))
+          (noteRecent sort table recent w (done .at) (done .terms))
+          (cursorNext w done) (falses + falseBy slice w (done .at))
       go zero enough e rest fits = absurd (omega arith)
       go (suc n) enough e rest fits =
           let right = right-read n w (done .at) (k .context) (k .leaving) inside rest in
@@ -262,10 +274,10 @@ module _ {w bits slice₀ table slice : List ℕ} {done : Progress} (k : Evaluat
           (sym (fault-step w bits (done .at) (done .terms) (done .declared) inside n) ∙ fits) in
           let given = first-drop bits (done .declared) in
           let value =
-          record-value table slice w (done .terms) (getD bits (done .declared) 0) (done .at) (k .context) (right .0) in
+          record-value sort slice w (done .terms) (getD bits (done .declared) 0) (done .at) (k .context) (right .0) in
           let next =
-          evaluating-op bits (done .declared) (sortBelow table w (done .terms)) (k .room)
-          (λ j h. rw (lt-ltb j (done .terms) (let c = k .read .counts in omega arith)) (term-sort-is (k .read) j h))
+          evaluating-op bits (done .declared) (sortBelow sort (done .terms)) (k .room)
+          (λ j h. rw (lt-ltb j (done .terms) (let c = k .read .counts in omega arith)) (says j h))
           operation (countAt w (done .at)) (payloads w (done .at)) (rw (calls-step n w (done .at) inside) at e)
           (λ d. rw given (bits-low bits (done .declared) (payloads w (done .at) 3) (rw d at (clear .0)))) in
           record {
@@ -278,6 +290,8 @@ module _ {w bits slice₀ table slice : List ℕ} {done : Progress} (k : Evaluat
                 (tabled-before n table w (nextAt w (done .at)) (after (k .context) (callAt w (done .at))) (k .leaving) (right .1) (k .tabled))
                 (terms-next (k .read) (right .0));
             tabled = k .tabled;
+            spaced = k .spaced;
+            ring = ring-more (k .read) (right .0) sort says recent (k .ring);
             enough = omega arith;
             rest = right .1;
             fits = clear .1;
@@ -296,15 +310,17 @@ values-sorted w bits y e =
     (record { many = refl; each = λ k h. absurd (omega arith) }))
 
 -- What evaluating record by record asks: a well-formed list, bits that fit, and room for its terms.
-pub record Evaluable (w bits slice table : List ℕ) : Type 0 where
+pub record Evaluable (gap : ℕ) (w bits slice table places : List ℕ) : Type 0 where
   pub leaving : Context
   pub formed : outcome w ≡ wellFormed leaving
   pub fits : bitsFault 0 (decode w) bits ≡ none
   pub room : length (leaving .sorts) ≤ length slice
   pub tabled : Tabled table (leaving .sorts)
+  pub spaced : Spaced w places gap (length (leaving .sorts))
 
-pub evaluated-start : {w bits slice table : List ℕ} → Evaluable w bits slice table → EvaluatedTo w bits slice table slice nothingDone
-evaluated-start {w} {bits} {slice} {table} k =
+pub evaluated-start : {gap : ℕ} {w bits slice table places : List ℕ} (recent : List ℕ) → Evaluable gap w bits slice table places
+    → EvaluatedTo gap w bits slice table places slice recent nothingRead 0
+evaluated-start {gap} {w} {bits} {slice} {table} {places} recent k =
     let formed = decode-formed w (k .leaving) (k .formed) .formed in
     record {
       leaving = k .leaving;
@@ -314,6 +330,8 @@ evaluated-start {w} {bits} {slice} {table} k =
           evaluating-start (decode w) (assigned (decode w) bits) slice bits formed (assigned-gives start (decode w) formed bits);
       read = read-start w table;
       tabled = k .tabled;
+      spaced = k .spaced;
+      ring = recent-start (length table) recent;
       enough = omega arith;
       rest = k .formed;
       fits = k .fits;
@@ -324,10 +342,10 @@ evaluated-start {w} {bits} {slice} {table} k =
     }
 
 -- At the end every term's number is written and every false assertion counted.
-pub evaluated-end : {w bits slice₀ table slice : List ℕ} {done : Progress} → EvaluatedTo w bits slice₀ table slice done
-    → length w ≤ done .at
+pub evaluated-end : {gap : ℕ} {w bits slice₀ table places slice recent : List ℕ} {done : Cursor} {falses : ℕ}
+    → EvaluatedTo gap w bits slice₀ table places slice recent done falses → length w ≤ done .at
     → (slice ≡ overwrite slice₀ 0 (map valueNumber (termValues w bits)))
-    × (done .falses ≡ falseAssertions (valueAt (termValues w bits)) (decode w))
-evaluated-end {w} {bits} {slice₀} {table} {slice} {done} k past =
-    evaluating-end (decode w) (assigned (decode w) bits) slice₀ slice (drop (done .declared) bits) (done .terms) (done .falses)
+    × (falses ≡ falseAssertions (valueAt (termValues w bits)) (decode w))
+evaluated-end {gap} {w} {bits} {slice₀} {table} {places} {slice} {recent} {done} {falses} k past =
+    evaluating-end (decode w) (assigned (decode w) bits) slice₀ slice (drop (done .declared) bits) (done .terms) falses
     (k .context) (rw (calls-end (k .fuel) w (done .at) past) at (k .evaluating))

@@ -1,17 +1,16 @@
 -- The evaluator, record by record: what a record asks, and what it adds to what is written and counted.
 use mathlib.Core.Bool.{Bool, true, false, not, cond}
 use mathlib.Core.List.{List}
-use Prim.Native.Nat.{ℕ, _+_, _^_}
+use Prim.Native.Nat.{ℕ, _^_}
 use lib.ListN.{length, getD, set}
 use lib.Dec.{eqb, ltb}
-use Rattle.bitvec.specs.Bits.{bit}
-use Rattle.engine.specs.Encode.{Op, makesTerm, operationAt, nextAt}
+use Rattle.engine.specs.Sorts.{Sort}
+use Rattle.engine.specs.Encode.{Op, makesTerm, operationAt}
 use Rattle.engine.specs.Encode as o
 use Rattle.call_list.specs.Operations.{isDeclare}
 use Rattle.call_list.specs.Literal.{payloads}
 use Rattle.term_table.specs.Tables.{pickList}
 use Rattle.term_values.specs.Records.{numberIn, recordValue}
-use Rattle.eval.specs.declared.Progress.{Progress}
 
 -- The bits of a declaration are missing or above its width.
 abbrev pub bitsWrong : List ℕ → ℕ → ℕ → Bool
@@ -43,16 +42,6 @@ abbrev pub falseBy : List ℕ → List ℕ → ℕ → ℕ
 falseBy slice w at = falseOf (operationAt w at) (numberIn slice (payloads w at 0))
 
 -- The number of its term, if it makes one.
-abbrev pub valuesNext : List ℕ → List ℕ → List ℕ → ℕ → ℕ → ℕ → List ℕ
-valuesNext table slice w terms given at =
-    pickList (makesTerm (operationAt w at)) (set slice terms (recordValue table slice w terms given at)) slice
-
--- How far a list is evaluated, after the record at its place.
-abbrev pub progressNext : List ℕ → Progress → ℕ → Progress
-progressNext w done falses =
-    record {
-      at = nextAt w (done .at);
-      terms = done .terms + bit (makesTerm (operationAt w (done .at)));
-      declared = done .declared + bit (isDeclare (operationAt w (done .at)));
-      falses = falses;
-    }
+abbrev pub valuesNext : (ℕ → Sort) → List ℕ → List ℕ → ℕ → ℕ → ℕ → List ℕ
+valuesNext sort slice w terms given at =
+    pickList (makesTerm (operationAt w at)) (set slice terms (recordValue sort slice w terms given at)) slice

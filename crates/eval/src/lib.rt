@@ -1,4 +1,5 @@
 // The evaluator of a call list (faults 19 and 20), total on every list of words.
+use call_list::Cursor;
 use call_list::Operation;
 use checker::CallList;
 use checker::Wrong;
@@ -14,7 +15,8 @@ ghost use Rattle.engine.specs.Meaning.{valueAt};
 ghost use Rattle.call_list.specs.Operations.{opFrom};
 ghost use Rattle.checker.specs.Tables.{wrongAs};
 ghost use Rattle.term_values.specs.Values.{valueNumber};
-ghost use Rattle.eval.specs.Records.{wrongBits, falseOf, valuesNext, progressNext};
+ghost use Rattle.term_table.specs.Near.{sortNear};
+ghost use Rattle.eval.specs.Records.{wrongBits, falseOf, valuesNext};
 ghost use Rattle.eval.specs.Evaluated.{bitsFault, falseAssertions, termValues, refused, answer, written};
 ghost use Rattle.eval.specs.RecordLaws.{Evaluable};
 
@@ -22,14 +24,6 @@ ghost use Rattle.eval.specs.RecordLaws.{Evaluable};
 pub enum Evaluation {
     Evaluated(usize),
     Refused(Fault),
-}
-
-// How far a list is evaluated: the place, the terms and names so far, and the false assertions.
-pub struct Progress {
-    pub at: usize,
-    pub terms: usize,
-    pub declared: usize,
-    pub falses: usize,
 }
 
 // A number stored at a place; past the end nothing changes.
@@ -65,26 +59,34 @@ fn false_of(operation: Operation, value: u64) -> usize
     }
 }
 
-// How far a list is evaluated after the record at its place, with so many false assertions.
-fn progress_after(calls: &[u32], done: Progress, falses: usize) -> Progress
-    requires { ⌜ (done .at < length (now calls)) × (done .terms ≤ done .at) × (done .declared ≤ done .at) ⌝ }
-    ensures { λ r. ⌜ r ≡ progressNext (now (calls .entry)) done falses ⌝ }
-{
-    let operation = call_list::operation_at(calls, done.at);
-    Progress {
-        at: call_list::next_record(calls, done.at),
-        terms: done.terms + checker::number(call_list::makes_term(operation)),
-        declared: done.declared + checker::number(call_list::is_declare(operation)),
-        falses: falses,
-    }
-}
-
 // The number of the term that a record makes goes into the slice.
-fn write_value(calls: &[u32], values: &mut [u64], sorts: &[u8], terms: usize, given: u64, at: usize)
-    ensures { λ _. ⌜ now (values .exit) ≡ valuesNext (now (sorts .entry)) (now (values .entry)) (now (calls .entry)) terms given at ⌝ }
+fn write_value(
+    calls: &[u32],
+    values: &mut [u64],
+    sorts: &[u8],
+    recent: &[u8],
+    places: &[u32],
+    gap: u32,
+    terms: usize,
+    given: u64,
+    at: usize,
+)
+    ensures { λ _. ⌜ now (values .exit) ≡ valuesNext
+        (sortNear (now (sorts .entry)) (now (recent .entry)) (now (places .entry)) gap (now (calls .entry)) terms)
+        (now (values .entry)) (now (calls .entry)) terms given at ⌝ }
 {
     if call_list::makes_term(call_list::operation_at(calls, at)) {
-        let value = term_values::record_value(calls, values, sorts, terms, given, at);
+        let value = term_values::record_value(
+            calls,
+            values,
+            sorts,
+            recent,
+            places,
+            gap,
+            terms,
+            given,
+            at,
+        );
         put_number(values, terms, value);
     }
 }
@@ -130,49 +132,109 @@ fn wrong_bits(calls: &[u32], bits: &[u64], declared: usize, at: usize) -> bool
 fn bits_fault(calls: &[u32], bits: &[u64]) -> Wrong
     ensures { λ r. ⌜ r ≡ wrongAs (bitsFault 0 (decode (now (calls .entry))) (now (bits .entry))) ⌝ }
 {
-    let mut seen = Progress {
+    let mut seen = Cursor {
         at: 0,
         terms: 0,
         declared: 0,
-        falses: 0,
     };
     while seen.at < calls.len() {
         if wrong_bits(calls, bits, seen.declared, seen.at) {
             return Wrong::At(seen.terms);
         }
-        seen = progress_after(calls, seen, 0);
+        seen = call_list::next(calls, seen);
     }
     Wrong::None
 }
 
-// The numbers of all terms go into the slice, and how many assertions are false is counted; with a table of the sorts.
-fn evaluate_records(calls: &[u32], bits: &[u64], values: &mut [u64], sorts: &[u8]) -> usize
-    requires { ⌜ Evaluable (now calls) (now bits) (now values) (now sorts) ⌝ }
+// The numbers of all terms go into the slice, and how many assertions are false is counted; with tables of the sorts
+// and places.
+fn evaluate_records(
+    calls: &[u32],
+    bits: &[u64],
+    values: &mut [u64],
+    sorts: &[u8],
+    recent: &mut [u8],
+    places: &[u32],
+    gap: u32,
+) -> usize
+    requires { ⌜ Evaluable gap (now calls) (now bits) (now values) (now sorts) (now places) ⌝ }
     ensures { λ r. ⌜ (now (values .exit) ≡ overwrite (now (values .entry)) 0 (map valueNumber (termValues (now (calls .entry)) (now (bits .entry)))))
         × (r ≡ falseAssertions (valueAt (termValues (now (calls .entry)) (now (bits .entry)))) (decode (now (calls .entry)))) ⌝ }
 {
-    let mut done = Progress {
+    let mut done = Cursor {
         at: 0,
         terms: 0,
         declared: 0,
-        falses: 0,
     };
+    let mut falses = 0;
     while done.at < calls.len() {
         let operation = call_list::operation_at(calls, done.at);
         let asserted = term_values::number_at(
             values,
             call_list::argument_at(calls, done.at, 0) as usize,
         );
-        let falses = done.falses + false_of(operation, asserted);
         let given = term_values::number_at(bits, done.declared);
-        write_value(calls, values, sorts, done.terms, given, done.at);
-        done = progress_after(calls, done, falses);
+        falses += false_of(operation, asserted);
+        write_value(
+            calls,
+            values,
+            sorts,
+            recent,
+            places,
+            gap,
+            done.terms,
+            given,
+            done.at,
+        );
+        term_table::note_recent(calls, sorts, recent, places, gap, done.at, done.terms);
+        done = call_list::next(calls, done);
     }
-    done.falses
+    falses
 }
 
-// The number of every term under the bits of the declared names, and how many assertions are false (faults 19 and 20), with tables that
-// the caller lends for the sorts of the first terms and the names of low indexes; what they hold afterwards is free.
+// The number of every term under the bits of the declared names, and how many assertions are false (faults 19 and 20),
+// with tables for the sorts of the first terms and of the latest, the places of every `gap + 1`th term and the names of
+// low indexes; what they hold afterwards is free.
+fn evaluate_by(
+    calls: &[u32],
+    bits: &[u64],
+    values: &mut [u64],
+    sorts: &mut [u8],
+    recent: &mut [u8],
+    places: &mut [u32],
+    gap: u32,
+    names: &mut [u8],
+) -> Evaluation
+    ensures { λ r. ⌜ (r ≡ answer (now (calls .entry)) (now (bits .entry)) (length (now (values .entry))))
+        × (now (values .exit) ≡ written r (now (calls .entry)) (now (bits .entry)) (now (values .entry))) ⌝ }
+{
+    match checker::check_by(calls, places, gap, sorts, recent, names) {
+        CallList::Malformed(at) => refusal(19, at),
+        CallList::WellFormed { terms, declared: _ } => match bits_fault(calls, bits) {
+            Wrong::At(k) => refusal(20, k),
+            Wrong::None => {
+                let room = values.len();
+                if terms <= room {
+                    Evaluation::Evaluated(evaluate_records(
+                        calls,
+                        bits,
+                        values,
+                        sorts,
+                        recent,
+                        places,
+                        gap,
+                    ))
+                } else {
+                    refusal(20, room)
+                }
+            }
+        },
+    }
+}
+
+// The number of every term under the bits of the declared names, and how many assertions are false (faults 19 and 20),
+// with tables that the caller lends for the sorts of the first terms and the names of low indexes; what they hold
+// afterwards is free.
 pub fn evaluate_with(
     calls: &[u32],
     bits: &[u64],
@@ -183,21 +245,19 @@ pub fn evaluate_with(
     ensures { λ r. ⌜ (r ≡ answer (now (calls .entry)) (now (bits .entry)) (length (now (values .entry))))
         × (now (values .exit) ≡ written r (now (calls .entry)) (now (bits .entry)) (now (values .entry))) ⌝ }
 {
-    let mut places = [0u32; 1];
-    match checker::check_with(calls, &mut places, sorts, names) {
-        CallList::Malformed(at) => refusal(19, at),
-        CallList::WellFormed { terms, declared: _ } => match bits_fault(calls, bits) {
-            Wrong::At(k) => refusal(20, k),
-            Wrong::None => {
-                let room = values.len();
-                if terms <= room {
-                    Evaluation::Evaluated(evaluate_records(calls, bits, values, sorts))
-                } else {
-                    refusal(20, room)
-                }
-            }
-        },
-    }
+    let mut recent = [0u8; 256];
+    let mut places = [0u32; 128];
+    let gap = term_table::gap_of(calls, 255);
+    evaluate_by(
+        calls,
+        bits,
+        values,
+        sorts,
+        &mut recent,
+        &mut places,
+        gap,
+        names,
+    )
 }
 
 // The number of every term under the bits of the declared names, and how many assertions are false (faults 19 and 20).
@@ -205,7 +265,19 @@ pub fn evaluate(calls: &[u32], bits: &[u64], values: &mut [u64]) -> Evaluation
     ensures { λ r. ⌜ (r ≡ answer (now (calls .entry)) (now (bits .entry)) (length (now (values .entry))))
         × (now (values .exit) ≡ written r (now (calls .entry)) (now (bits .entry)) (now (values .entry))) ⌝ }
 {
-    let mut sorts = [0u8; 57344];
+    let mut sorts = [0u8; 40960];
+    let mut recent = [0u8; 4096];
+    let mut places = [0u32; 4096];
+    let gap = term_table::gap_of(calls, 8191);
     let mut names = [0u8; 64512];
-    evaluate_with(calls, bits, values, &mut sorts, &mut names)
+    evaluate_by(
+        calls,
+        bits,
+        values,
+        &mut sorts,
+        &mut recent,
+        &mut places,
+        gap,
+        &mut names,
+    )
 }

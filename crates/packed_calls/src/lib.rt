@@ -41,8 +41,13 @@ pub fn check(calls: &[u32], sizes: &mut [u64]) -> u64
 pub fn check_with(calls: &[u32], sizes: &mut [u64], sorts: &mut [u8], names: &mut [u8]) -> u64
     ensures { λ r. ⌜ PackedCheck (checkedOf (now (calls .entry))) (now (sizes .entry)) (now (sizes .exit)) r ⌝ }
 {
-    let mut places = [0u32; 1];
-    packed_check(checker::check_with(calls, &mut places, sorts, names), sizes)
+    let mut places = [0u32; 128];
+    let mut recent = [0u8; 256];
+    let gap = term_table::gap_of(calls, 255);
+    packed_check(
+        checker::check_by(calls, &mut places, gap, sorts, &mut recent, names),
+        sizes,
+    )
 }
 
 // ---- the evaluator

@@ -1,5 +1,7 @@
 pub mod Origins
 pub mod Tables
+pub mod Near
 pub mod Sorted
 pub mod Placed
+pub mod NearLaws
 pub mod Sums

@@ -18,7 +18,7 @@ use Rattle.engine.specs.Structure.{termPlace, placeOfTerm}
 use Rattle.engine.specs.StructureLaws.{place-here, place-next, place-skip}
 use Rattle.engine.specs.Reached.{Makes, one, nothing, makes-at, makes-op, Right, Passes, passes-forward}
 use Rattle.engine.specs.Encode.{makesTerm, operationAt, nextAt, callAt}
-use Rattle.term_table.specs.Tables.{notePlace, placeBy}
+use Rattle.term_table.specs.Tables.{placeBy}
 use Rattle.term_table.specs.Sorted.{ReadTo}
 
 -- The table has the places of so many terms, of a list whose places fit a word.
@@ -58,47 +58,15 @@ place-found (suc n) (suc m) w at x end y p h inside makes =
         let left : length (y .sorts) - length (x .sorts) ≡ length (y .sorts) - length (after x (callAt w at) .sorts) = omega arith in
         (omega arith, next ∙ ap₂ (λ (f j : ℕ). termPlace f w (nextAt w at) j) (sub-one (suc m)) left ∙ rest .1)
 
--- No place is noted at first.
-pub placed-start : (w places : List ℕ) → Placed w places 0
-placed-start w places small k inside low = absurd (omega arith)
-
 module _ {w : List ℕ} {at : ℕ} {x : Context} {table : List ℕ} {terms : ℕ} (r : ReadTo w at x table terms)
     (right : Right w at x) where
   -- The next term is made at the place that reading has come to.
-  next-place : makesTerm (operationAt w at) ≡ true → placeOfTerm w terms ≡ at
+  pub next-place : makesTerm (operationAt w at) ≡ true → placeOfTerm w terms ≡ at
   next-place makes =
       let ahead = passes-forward (r .records) w 0 start at x (r .passes) in
       let inside = right .inside in
       let found = place-found (r .records) (length w) w 0 start at x (r .passes) (omega arith) inside makes in
       ap (termPlace (length w) w 0) (let c = r .counts in omega arith) ∙ found .1
-
-  -- What a right record adds to the table of places.
-  pub placed-more : (places : List ℕ) → Placed w places terms
-      → Placed w (notePlace places w at terms) (terms + bit (makesTerm (operationAt w at)))
-  placed-more places placed small k = go (makesTerm (operationAt w at)) refl
-    where
-      here : Dec (k ≡ terms) → makesTerm (operationAt w at) ≡ true → k < length places → k < terms + 1
-          → getD (set places terms (at % 4294967296)) k 0 ≡ placeOfTerm w k
-      here (yes e) makes inside low =
-          let within = right .inside in
-          let fits : at < 4294967296 = omega arith in
-          rw (e, getD-set-same places terms (at % 4294967296) 0 (omega arith), mod-eq-of-lt fits)
-          (sym (next-place makes))
-      here (no e) makes inside low =
-          getD-set-other places terms k (at % 4294967296) 0 e ∙ placed small k inside (omega arith)
-
-      go : (b : Bool) → makesTerm (operationAt w at) ≡ b
-          → k < length (notePlace places w at terms) → k < terms + bit (makesTerm (operationAt w at))
-          → getD (notePlace places w at terms) k 0 ≡ placeOfTerm w k
-      go true e inside low =
-          let inside′ : k < length (set places terms (at % 4294967296)) = rw e at inside in
-          let low′ : k < terms + 1 = rw e at low in
-          let same = length-set places terms (at % 4294967296) in
-          rw e (here (ℕ-discrete k terms) e (omega arith) low′)
-      go false e inside low =
-          let inside′ : k < length places = rw e at inside in
-          let low′ : k < terms + 0 = rw e at low in
-          rw e (placed small k inside′ (omega arith))
 
 -- The place that the table or the records give.
 pub place-is : (w places : List ℕ) (terms k : ℕ) → Placed w places terms → k < terms → placeBy places w k ≡ placeOfTerm w k

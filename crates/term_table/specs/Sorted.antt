@@ -12,13 +12,13 @@ use Rattle.engine.specs.Laws.{length-snoc}
 use Rattle.engine.specs.Sorts.{Sort, Context, start, after, sortAt}
 use Rattle.engine.specs.WellFormed.{wellFormed, readFrom}
 use lib.Dec.{ltb}
-use borrow.Author.Tests.{ltb-true}
+use borrow.Author.Tests.{ltb-true, ltb-false}
 use Rattle.engine.specs.Structure.{originOf, sortFrom, sortOfTerm}
-use Rattle.engine.specs.StructureLaws.{Below, sortFrom-ext, from-low, through-low}
+use Rattle.engine.specs.StructureLaws.{Below, sortFrom-ext}
 use Rattle.engine.specs.ReadBack.{stands}
 use Rattle.engine.specs.Reached.{Makes, one, nothing, makes-at, makes-op, passes-snoc, Right, right-read, grows, Passes, Tabled, sort-said}
 use Rattle.engine.specs.Encode.{makesTerm, operationAt, nextAt, callAt}
-use Rattle.term_table.specs.Tables.{recordSort, noteSort}
+use Rattle.term_table.specs.Tables.{recordSort}
 
 -- n records read well up to a place, with the table of sorts and the number of terms.
 pub record ReadTo (w : List ℕ) (at : ℕ) (x : Context) (table : List ℕ) (terms : ℕ) : Type 0 where
@@ -43,7 +43,7 @@ read-start w table = record {
 }
 
 -- One more sort in the table.
-tabled-more : (table : List ℕ) (sorts : List Sort) (s terms : ℕ) → terms ≡ length sorts → Tabled table sorts
+pub tabled-more : (table : List ℕ) (sorts : List Sort) (s terms : ℕ) → terms ≡ length sorts → Tabled table sorts
     → Tabled (set table terms s) (sorts ++ (s ∷ []))
 tabled-more table sorts s terms c t k inside low = by (ℕ-discrete k (length sorts))
   where
@@ -87,27 +87,6 @@ module _ {w : List ℕ} {at : ℕ} {x : Context} {table : List ℕ} {terms : ℕ
       go (one s a m q b) = rw (makes-op w at x right, m, a, length-snoc (x .sorts) s) (let c = r .counts in omega arith)
       go (nothing a m) = rw (makes-op w at x right, m, a) (let c = r .counts in omega arith)
 
-  -- What a right record adds to the table of sorts.
-  pub sorts-more : ReadTo w (nextAt w at) next (noteSort table w at terms) (terms + bit (makesTerm (operationAt w at)))
-  sorts-more = go (makes-at w at x right)
-    where
-      go : Makes x (callAt w at)
-          → ReadTo w (nextAt w at) next (noteSort table w at terms) (terms + bit (makesTerm (operationAt w at)))
-      go (one s a m q b) =
-          let same : recordSort table w at ≡ s = record-sort-said b ∙ sym q in
-          rw (makes-op w at x right, m)
-          (read-next (set table terms (recordSort table w at)) (terms + 1)
-          (rw (a, same) (tabled-more table (x .sorts) s terms (r .counts) (r .tabled)))
-          (rw (a, length-snoc (x .sorts) s) (let c = r .counts in omega arith)))
-      go (nothing a m) =
-          rw (makes-op w at x right, m)
-          (read-next table (terms + 0) (rw a (r .tabled)) (rw a (let c = r .counts in omega arith)))
-
--- A sort that is written fits a byte.
-pub record-low : (table w : List ℕ) (at : ℕ) → recordSort table w at ≤ 65
-record-low table w at =
-    from-low (sortOfTerm table w) (originOf (callAt w at)) (λ a. through-low (suc a) table w a)
-
 -- Reading on keeps the sorts of the terms so far, so a table of all sorts has them.
 pub sorts-kept : (n : ℕ) (w : List ℕ) (at : ℕ) (x y : Context) → readFrom n w at x ≡ wellFormed y → (k : ℕ) → k < length (x .sorts)
     → (k < length (y .sorts)) × (sortAt (y .sorts) k ≡ sortAt (x .sorts) k)
@@ -129,6 +108,15 @@ sorts-kept (suc n) w at x y e k h = go (ltb at (length w)) refl (sorts-kept n w 
     go false t rest =
         let same : x ≡ y = (let f : wellFormed x ≡ wellFormed y = rw t at e in cc) in
         (subst (λ (z : Context). k < length (z .sorts)) same h, ap (λ (z : Context). sortAt (z .sorts) k) (sym same))
+
+-- Reading on leaves as many terms or more.
+pub sorts-few : (n : ℕ) (w : List ℕ) (at : ℕ) (x y : Context) → readFrom n w at x ≡ wellFormed y → length (x .sorts) ≤ length (y .sorts)
+sorts-few n w at x y e = go (ltb (length (y .sorts)) (length (x .sorts))) refl
+  where
+    go : (b : Bool) → ltb (length (y .sorts)) (length (x .sorts)) ≡ b → length (x .sorts) ≤ length (y .sorts)
+    go true t =
+        absurd (let z = sorts-kept n w at x y e (length (y .sorts)) (ltb-true (length (y .sorts)) (length (x .sorts)) t) .0 in omega arith)
+    go false t = ltb-false (length (y .sorts)) (length (x .sorts)) t
 
 pub tabled-before : (n : ℕ) (table w : List ℕ) (at : ℕ) (x y : Context) → readFrom n w at x ≡ wellFormed y → Tabled table (y .sorts)
     → Tabled table (x .sorts)

@@ -1,11 +1,11 @@
 -- The table of the first terms: their sorts, and the places of the records that make them.
 use mathlib.Core.Bool.{Bool, true, false, cond, _&&_}
 use mathlib.Core.List.{List}
-use Prim.Native.Nat.{ℕ, _%_}
-use lib.ListN.{length, getD, set}
+use Prim.Native.Nat.{ℕ}
+use lib.ListN.{length, getD}
 use lib.Dec.{leb, ltb}
 use Rattle.engine.specs.Sorts.{Sort}
-use Rattle.engine.specs.Encode.{makesTerm, operationAt, callAt}
+use Rattle.engine.specs.Encode.{callAt}
 use Rattle.engine.specs.Structure.{originOf, sortFrom, sortOfTerm, placeOfTerm}
 
 abbrev pub pickList : Bool → List ℕ → List ℕ → List ℕ
@@ -15,14 +15,6 @@ pickList false a b = b
 -- The sort of the term that the record at a place makes.
 abbrev pub recordSort : List ℕ → List ℕ → ℕ → Sort
 recordSort table w at = sortFrom (sortOfTerm table w) (originOf (callAt w at))
-
--- The sort of a record's term goes into the table, if it makes one, and so does the record's place.
-abbrev pub noteSort : List ℕ → List ℕ → ℕ → ℕ → List ℕ
-noteSort table w at terms =
-    pickList (makesTerm (operationAt w at)) (set table terms (recordSort table w at)) table
-
-abbrev pub notePlace : List ℕ → List ℕ → ℕ → ℕ → List ℕ
-notePlace places w at terms = pickList (makesTerm (operationAt w at)) (set places terms (at % 4294967296)) places
 
 -- The place of a term's record: from the table, past it by the records.
 abbrev pub placeBy : List ℕ → List ℕ → ℕ → ℕ

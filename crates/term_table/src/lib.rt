@@ -1,18 +1,21 @@
 // The terms of a call list: what a record says of its term's sort, and a table with the sort and the place of the first terms, past which
-// the records themselves are searched.
+// a ring has the sorts of the latest, and the records of the others are searched.
 use call_list::Operation;
 use engine::BinaryOp;
 use engine::Origin;
 use logic::Term;
 ghost use mathlib.Core.Path.{_≡_};
-ghost use Prim.Native.Nat.{suc, _+_, _-_, _<_, _^_};
-ghost use lib.ListN.{getD, set};
+ghost use Prim.Native.Nat.{suc, _+_, _-_, _/_, _%_, _<_, _^_};
+ghost use lib.ListN.{length, getD, set};
+ghost use lib.Dec.{leb};
 ghost use Rattle.engine.specs.Encode.{callOf, callAt};
-ghost use Rattle.engine.specs.Structure.{binaryOrigin, originOf, capped, originBy, guarded, sortOfTerm};
+ghost use Rattle.engine.specs.Structure.{binaryOrigin, originOf, capped, guarded};
 ghost use Rattle.engine.specs.Emit.{binaryOf};
 ghost use Rattle.call_list.specs.Operations.{opFrom};
 ghost use Rattle.term_table.specs.Origins.{payloads};
-ghost use Rattle.term_table.specs.Tables.{recordSort, noteSort, notePlace, placeBy};
+ghost use Rattle.term_table.specs.Tables.{pickList, recordSort, placeBy};
+ghost use Rattle.term_table.specs.Near.{placeNear, isRecent, originNear, sortNear, recordBy};
+ghost use Rattle.term_table.specs.Near.{noteSort, noteRecent, notePlace};
 
 fn extract_width(high: u32, low: u32) -> u32
     requires { ⌜ high < 2 ^ 29 ⌝ }
@@ -120,28 +123,87 @@ fn earlier_origin(k: u32, origin: Origin) -> Origin
     }
 }
 
-// What is known of the sort of a term: its sort, if the table of the first terms has it, else what its record says.
-fn term_origin(calls: &[u32], sorts: &[u8], k: u32) -> Origin
-    ensures { λ r. ⌜ r ≡ originBy (now (sorts .entry)) (now (calls .entry)) k ⌝ }
+// The place of the record that makes a term, counted on from the place that the table of places has before it: of every
+// `gap + 1`th term, in a list of at most 2^32 words.
+fn near_place(calls: &[u32], places: &[u32], gap: u32, k: u32) -> usize
+    ensures { λ r. ⌜ r ≡ placeNear (now (places .entry)) gap (now (calls .entry)) k ⌝ }
+{
+    let step = gap as usize + 1;
+    let slot = k as usize / step;
+    if calls.len() <= 4294967296 {
+        if slot < places.len() {
+            let from = logic::word_at(places, slot) as usize;
+            return call_list::place_from(calls, from, (k as usize % step) as u32);
+        }
+        return call_list::place_of_term(calls, Term(k));
+    }
+    call_list::place_of_term(calls, Term(k))
+}
+
+// Whether a term is one of the latest, whose sorts the ring has, of so many terms so far.
+fn is_recent(recent: &[u8], terms: usize, k: u32) -> bool
+    ensures { λ r. ⌜ r ≡ isRecent (now (recent .entry)) terms k ⌝ }
+{
+    if (k as usize) < terms {
+        terms - k as usize <= recent.len()
+    } else {
+        false
+    }
+}
+
+// What the ring has of a term.
+fn ring_entry(recent: &[u8], k: usize) -> u32
+    ensures { λ r. ⌜ r ≡ getD (now (recent .entry)) (k % length (now (recent .entry))) 0 ⌝ }
+{
+    if recent.len() == 0 {
+        return 0;
+    }
+    entry(recent, k % recent.len())
+}
+
+// What is known of the sort of a term: from the table of the first terms or the ring of the latest its sort, else what
+// its record says.
+fn term_origin(
+    calls: &[u32],
+    sorts: &[u8],
+    recent: &[u8],
+    places: &[u32],
+    gap: u32,
+    terms: usize,
+    k: u32,
+) -> Origin
+    ensures { λ r. ⌜ r
+        ≡ originNear (now (sorts .entry)) (now (recent .entry)) (now (places .entry))
+        gap (now (calls .entry)) terms k ⌝ }
 {
     if (k as usize) < sorts.len() {
         return Origin::Given(entry(sorts, k as usize));
     }
-    earlier_origin(
-        k,
-        origin_at(calls, call_list::place_of_term(calls, Term(k))),
-    )
+    if is_recent(recent, terms, k) {
+        return Origin::Given(ring_entry(recent, k as usize));
+    }
+    earlier_origin(k, origin_at(calls, near_place(calls, places, gap, k)))
 }
 
 // The sort of a term, through the terms that it goes by. Of a join the second is looked up and the first gone on with, so that
 // no calls nest deeper than joins do: in a well-formed list 63 times.
-pub fn term_sort(calls: &[u32], sorts: &[u8], term: u32) -> u32
-    ensures { λ r. ⌜ r ≡ sortOfTerm (now (sorts .entry)) (now (calls .entry)) term ⌝ }
+fn sort_through(
+    calls: &[u32],
+    sorts: &[u8],
+    recent: &[u8],
+    places: &[u32],
+    gap: u32,
+    terms: usize,
+    term: u32,
+) -> u32
+    ensures { λ r. ⌜ r
+        ≡ sortNear (now (sorts .entry)) (now (recent .entry)) (now (places .entry))
+        gap (now (calls .entry)) terms term ⌝ }
 {
     let mut k = term;
     let mut total = 0;
     loop {
-        match term_origin(calls, sorts, k) {
+        match term_origin(calls, sorts, recent, places, gap, terms, k) {
             Origin::Given(s) => {
                 return capped_sum(total, s);
             }
@@ -149,25 +211,69 @@ pub fn term_sort(calls: &[u32], sorts: &[u8], term: u32) -> u32
                 k = a.0;
             }
             Origin::Joined(a, b) => {
-                total = capped_sum(total, term_sort(calls, sorts, b.0));
+                total = capped_sum(
+                    total,
+                    sort_through(calls, sorts, recent, places, gap, terms, b.0),
+                );
                 k = a.0;
             }
         }
     }
 }
 
-// The sort of the term that the record at a place makes.
-pub fn record_sort(calls: &[u32], sorts: &[u8], at: usize) -> u32
-    ensures { λ r. ⌜ r ≡ recordSort (now (sorts .entry)) (now (calls .entry)) at ⌝ }
+// The sort of a term, of so many so far.
+pub fn term_sort(
+    calls: &[u32],
+    sorts: &[u8],
+    recent: &[u8],
+    places: &[u32],
+    gap: u32,
+    terms: usize,
+    term: u32,
+) -> u32
+    ensures { λ r. ⌜ r
+        ≡ sortNear (now (sorts .entry)) (now (recent .entry)) (now (places .entry))
+        gap (now (calls .entry)) terms term ⌝ }
+{
+    let k = term as usize;
+    if k < sorts.len() {
+        return capped_sum(0, sorts[k] as u32);
+    }
+    sort_through(calls, sorts, recent, places, gap, terms, term)
+}
+
+// The sort of the term that the record at a place makes, of so many so far.
+pub fn sort_at(
+    calls: &[u32],
+    sorts: &[u8],
+    recent: &[u8],
+    places: &[u32],
+    gap: u32,
+    terms: usize,
+    at: usize,
+) -> u32
+    ensures { λ r. ⌜ r
+        ≡ recordBy
+        (sortNear (now (sorts .entry)) (now (recent .entry)) (now (places .entry)) gap (now (calls .entry)) terms)
+        (now (calls .entry)) at ⌝ }
 {
     match origin_at(calls, at) {
         Origin::Given(s) => capped_sum(0, s),
-        Origin::Same(a) => term_sort(calls, sorts, a.0),
+        Origin::Same(a) => term_sort(calls, sorts, recent, places, gap, terms, a.0),
         Origin::Joined(a, b) => capped_sum(
-            term_sort(calls, sorts, a.0),
-            term_sort(calls, sorts, b.0),
+            term_sort(calls, sorts, recent, places, gap, terms, a.0),
+            term_sort(calls, sorts, recent, places, gap, terms, b.0),
         ),
     }
+}
+
+// The sort of the term that the record at a place makes, by the table of sorts alone.
+pub fn record_sort(calls: &[u32], sorts: &[u8], at: usize) -> u32
+    ensures { λ r. ⌜ r ≡ recordSort (now (sorts .entry)) (now (calls .entry)) at ⌝ }
+{
+    let recent = [0u8; 1];
+    let places = [0u32; 1];
+    sort_at(calls, sorts, &recent, &places, 0, 0, at)
 }
 
 // A number stored at a place of a table; past its end nothing changes.
@@ -180,13 +286,69 @@ fn put_byte(table: &mut [u8], at: usize, value: u32)
     }
 }
 
-// The sort of the term that a record makes goes into the table of sorts.
-pub fn note_sort(calls: &[u32], sorts: &mut [u8], at: usize, terms: usize)
-    ensures { λ _. ⌜ now (sorts .exit) ≡ noteSort (now (sorts .entry)) (now (calls .entry)) at terms ⌝ }
+// A number stored in the ring at a term's place, if the table of sorts does not have the term.
+fn put_recent(sorts: &[u8], recent: &mut [u8], k: usize, value: u32)
+    requires { ⌜ value < 256 ⌝ }
+    ensures { λ _. ⌜ now (recent .exit)
+        ≡ pickList (leb (length (now (sorts .entry))) k)
+        (set (now (recent .entry)) (k % length (now (recent .entry))) value) (now (recent .entry)) ⌝ }
+{
+    if sorts.len() <= k {
+        if recent.len() == 0 {
+            return;
+        }
+        let slot = k % recent.len();
+        put_byte(recent, slot, value);
+    }
+}
+
+// The sort of the term that a record makes goes into the ring of the latest terms, if the table of sorts does not have
+// it.
+pub fn note_recent(
+    calls: &[u32],
+    sorts: &[u8],
+    recent: &mut [u8],
+    places: &[u32],
+    gap: u32,
+    at: usize,
+    terms: usize,
+)
+    ensures { λ _. ⌜ now (recent .exit)
+        ≡ noteRecent
+        (sortNear (now (sorts .entry)) (now (recent .entry)) (now (places .entry)) gap (now (calls .entry)) terms)
+        (now (sorts .entry)) (now (recent .entry)) (now (calls .entry)) at terms ⌝ }
+{
+    if sorts.len() <= terms {
+        if call_list::makes_term(call_list::operation_at(calls, at)) {
+            let sort = sort_at(calls, sorts, recent, places, gap, terms, at);
+            put_recent(sorts, recent, terms, sort);
+        }
+    }
+}
+
+// The sort of the term that a record makes goes into the table of sorts and past its end into the ring.
+pub fn note_sort(
+    calls: &[u32],
+    sorts: &mut [u8],
+    recent: &mut [u8],
+    places: &[u32],
+    gap: u32,
+    at: usize,
+    terms: usize,
+)
+    ensures { λ _. ⌜ (now (sorts .exit)
+        ≡ noteSort
+        (sortNear (now (sorts .entry)) (now (recent .entry)) (now (places .entry)) gap (now (calls .entry)) terms)
+        (now (sorts .entry)) (now (calls .entry)) at terms)
+        × (now (recent .exit)
+        ≡ noteRecent
+        (sortNear (now (sorts .entry)) (now (recent .entry)) (now (places .entry)) gap (now (calls .entry)) terms)
+        (now (sorts .entry)) (now (recent .entry)) (now (calls .entry)) at terms) ⌝ }
 {
     if call_list::makes_term(call_list::operation_at(calls, at)) {
-        let sort = record_sort(calls, sorts, at);
+        let sort = sort_at(calls, sorts, recent, places, gap, terms, at);
         put_byte(sorts, terms, sort);
+        put_recent(sorts, recent, terms, sort);
     }
 }
 
@@ -205,11 +367,23 @@ pub fn term_place(calls: &[u32], places: &[u32], term: Term) -> usize
     call_list::place_of_term(calls, term)
 }
 
-// The place of the record that makes a term goes into the table of places.
-pub fn note_place(calls: &[u32], places: &mut [u32], at: usize, terms: usize)
-    ensures { λ _. ⌜ now (places .exit) ≡ notePlace (now (places .entry)) (now (calls .entry)) at terms ⌝ }
+// How many terms to leave out between two whose places are noted: the list's words by `per + 1`. A record that makes a
+// term has at least two words, so that a table of half as many places reaches to the end of the list.
+pub fn gap_of(calls: &[u32], per: u32) -> u32
+    ensures { λ r. ⌜ r ≡ length (now (calls .entry)) / (per + 1) % 4294967296 ⌝ }
+{
+    (calls.len() / (per as usize + 1) % 4294967296) as u32
+}
+
+// The place of the record that makes a term goes into the table of places, if it is the term's turn: of every `gap +
+// 1`th.
+pub fn note_place(calls: &[u32], places: &mut [u32], gap: u32, at: usize, terms: usize)
+    ensures { λ _. ⌜ now (places .exit) ≡ notePlace (now (places .entry)) gap (now (calls .entry)) at terms ⌝ }
 {
     if call_list::makes_term(call_list::operation_at(calls, at)) {
-        logic::put(places, terms, (at % 4294967296) as u32);
+        let step = gap as usize + 1;
+        if terms % step == 0 {
+            logic::put(places, terms / step, (at % 4294967296) as u32);
+        }
     }
 }

@@ -10,13 +10,12 @@ use lib.Dec.{eqb, ltb}
 use Rattle.logic.specs.Table.{tab}
 use Rattle.bitvec.specs.Bits.{bv2nat, nat2bv}
 use Rattle.bitvec.specs.Laws.{length-nat2bv}
-use Rattle.bitvec.specs.Words.{atWidth}
+use Rattle.bitvec.specs.Words.{atWidth, concatAt, extractAt}
 use Rattle.bitvec.specs.WordLaws.{at-width}
 use Rattle.engine.specs.Sorts.{Sort, noSort, IsVector, Context, Allowed}
 use Rattle.engine.specs.Encode.{operationAt, countAt, callAt}
 use Rattle.engine.specs.Encode as o
 use Rattle.engine.specs.WellFormed.{firstFailing}
-use Rattle.engine.specs.Structure.{sortOfTerm}
 use Rattle.engine.specs.ReadBack.{reads-at}
 use Rattle.engine.specs.Reached.{Right}
 use Rattle.call_list.specs.Literal.{payloads, fourDigits, literalNumber, four-digits, literal-fits}
@@ -27,8 +26,8 @@ abbrev pub numberIn : List ℕ → ℕ → ℕ
 numberIn slice k = getD slice k 0
 
 -- The sort of term k, of `terms` terms so far.
-abbrev pub sortBelow : List ℕ → List ℕ → ℕ → ℕ → Sort
-sortBelow table w terms k = cond (ltb k terms) (sortOfTerm table w k) noSort
+abbrev pub sortBelow : (ℕ → Sort) → ℕ → ℕ → Sort
+sortBelow sort terms k = cond (ltb k terms) (sort k) noSort
 
 -- ---- an and: 1 if no argument's number is other than 1
 
@@ -63,11 +62,24 @@ and-scan slice w at n =
 abbrev pub literalValue : List ℕ → ℕ → ℕ
 literalValue w at = atWidth (payloads w at 0) (nat2bv (payloads w at 0) (fourDigits w at))
 
-abbrev pub recordValue : List ℕ → List ℕ → List ℕ → ℕ → ℕ → ℕ → ℕ
-recordValue table slice w terms given at =
+-- The numbers of a concat and of an extract.
+abbrev pub concatIn : (ℕ → Sort) → List ℕ → List ℕ → ℕ → ℕ → ℕ
+concatIn sort slice w terms at =
     let p = payloads w at in
     let v = numberIn slice in
-    let s = sortBelow table w terms in
+    let s = sortBelow sort terms in
+    concatAt (s (p 0)) (v (p 0)) (s (p 1)) (v (p 1))
+
+abbrev pub extractIn : (ℕ → Sort) → List ℕ → List ℕ → ℕ → ℕ → ℕ
+extractIn sort slice w terms at =
+    let p = payloads w at in
+    extractAt (sortBelow sort terms (p 2)) (p 0) (p 1) (numberIn slice (p 2))
+
+abbrev pub recordValue : (ℕ → Sort) → List ℕ → List ℕ → ℕ → ℕ → ℕ → ℕ
+recordValue sort slice w terms given at =
+    let p = payloads w at in
+    let v = numberIn slice in
+    let s = sortBelow sort terms in
     valueOf (operationAt w at) (andNumber v (tab (countAt w at) p)) (literalValue w at) given (p 0) (p 1) (v (p 0)) (v (p 1))
     (v (p 2)) (s (p 0)) (s (p 1)) (s (p 2))
 
@@ -82,8 +94,8 @@ literal-value w at x right is-lit =
     ∙ ap (λ (n : ℕ). bv2nat (nat2bv (payloads w at 0) n)) (four-digits w at (literal-fits w at x right is-lit))
 
 -- The number of a right record's term is that of its call.
-pub record-value : (table slice w : List ℕ) (terms given at : ℕ) (x : Context) → Right w at x
-    → recordValue table slice w terms given at ≡ valueBy (sortBelow table w terms) (numberIn slice) given (callAt w at)
-record-value table slice w terms given at x right =
-    value-of (sortBelow table w terms) (numberIn slice) given (operationAt w at) (countAt w at) (payloads w at) (literalValue w at)
+pub record-value : (sort : ℕ → Sort) (slice w : List ℕ) (terms given at : ℕ) (x : Context) → Right w at x
+    → recordValue sort slice w terms given at ≡ valueBy (sortBelow sort terms) (numberIn slice) given (callAt w at)
+record-value sort slice w terms given at x right =
+    value-of (sortBelow sort terms) (numberIn slice) given (operationAt w at) (countAt w at) (payloads w at) (literalValue w at)
     (literal-value w at x right)

@@ -11,10 +11,10 @@ ghost use Rattle.bitvec.specs.Words.{atWidth, holdsAt};
 ghost use Rattle.engine.specs.Meaning.{denoteOp, denoteCompare};
 ghost use Rattle.engine.specs.Emit.{binaryOf, compareOf};
 ghost use Rattle.logic.specs.Table.{tab};
-ghost use Rattle.call_list.specs.Operations.{opFrom};
 ghost use Rattle.call_list.specs.Literal.{payloads};
-ghost use Rattle.term_values.specs.Values.{andNumber, valueOf};
-ghost use Rattle.term_values.specs.Records.{numberIn, sortBelow, literalValue, recordValue};
+ghost use Rattle.term_table.specs.Near.{sortNear};
+ghost use Rattle.term_values.specs.Values.{andNumber};
+ghost use Rattle.term_values.specs.Records.{numberIn, sortBelow, literalValue, concatIn, extractIn, recordValue};
 
 // The number at a place, 0 past the end.
 pub fn number_at(numbers: &[u64], at: usize) -> u64
@@ -64,44 +64,6 @@ pub fn compare_value(op: Compare, width: u32, s: u64, t: u64) -> bool
     }
 }
 
-// The number of the term of an operation, from the payloads of its first two arguments and the numbers and sorts of the terms
-// that its arguments refer to. Those of an and of all arguments and of a literal are handed over, as is that of a declared name.
-pub fn value_of(
-    operation: Operation,
-    all: u64,
-    literal: u64,
-    given: u64,
-    a: u32,
-    b: u32,
-    va: u64,
-    vb: u64,
-    vc: u64,
-    sa: u32,
-    sb: u32,
-    sc: u32,
-) -> u64
-    ensures { λ r. ⌜ r ≡ valueOf (opFrom operation) all literal given a b va vb vc sa sb sc ⌝ }
-{
-    match operation {
-        Operation::BoolLit => flag_number(a == 1),
-        Operation::BoolIte => chosen(va, vb, vc),
-        Operation::Not => chosen(va, 0, 1),
-        Operation::And => all,
-        Operation::Lit => literal,
-        Operation::Equal => flag_number(va == vb),
-        Operation::Ite => chosen(va, vb, vc),
-        Operation::Concat => bitvec::concat(sa, va, sb, vb),
-        Operation::Extract => bitvec::extract(sc, a, b, vc),
-        Operation::BvNot => bitvec::bvnot(sa, va),
-        Operation::Binary(op) => binary_value(op, sa, va, vb),
-        Operation::Compare(op) => flag_number(compare_value(op, sa, va, vb)),
-        Operation::Declare => given,
-        Operation::Assert => 0,
-        Operation::Check => 0,
-        Operation::Unknown => 0,
-    }
-}
-
 // The number of an and of n arguments: 1 if all of theirs are.
 fn and_value(calls: &[u32], values: &[u64], at: usize, n: usize) -> u64
     ensures { λ r. ⌜ r ≡ andNumber (numberIn (now (values .entry))) (tab n (payloads (now (calls .entry)) at)) ⌝ }
@@ -128,15 +90,97 @@ fn literal_value(calls: &[u32], at: usize) -> u64
     )
 }
 
-// The sort of a term, of so many so far.
-fn sort_below(calls: &[u32], sorts: &[u8], terms: usize, k: u32) -> u32
-    ensures { λ r. ⌜ r ≡ sortBelow (now (sorts .entry)) (now (calls .entry)) terms k ⌝ }
+// The number of the term that argument i of the record at a place refers to.
+fn argument_value(calls: &[u32], values: &[u64], at: usize, i: usize) -> u64
+    ensures { λ r. ⌜ r ≡ numberIn (now (values .entry)) (payloads (now (calls .entry)) at i) ⌝ }
 {
+    number_at(values, call_list::argument_at(calls, at, i) as usize)
+}
+
+// The sort of the term that argument i of the record at a place refers to, of so many so far.
+fn argument_sort(
+    calls: &[u32],
+    sorts: &[u8],
+    recent: &[u8],
+    places: &[u32],
+    gap: u32,
+    terms: usize,
+    at: usize,
+    i: usize,
+) -> u32
+    ensures { λ r. ⌜ r
+        ≡ sortBelow
+        (sortNear (now (sorts .entry)) (now (recent .entry)) (now (places .entry)) gap (now (calls .entry)) terms)
+        terms (payloads (now (calls .entry)) at i) ⌝ }
+{
+    let k = call_list::argument_at(calls, at, i);
     if (k as usize) < terms {
-        term_table::term_sort(calls, sorts, k)
-    } else {
-        65
+        return term_table::term_sort(calls, sorts, recent, places, gap, terms, k);
     }
+    65
+}
+
+// The number of an ite: that of the second argument where the first's is 1, else that of the third.
+fn choice_value(calls: &[u32], values: &[u64], at: usize) -> u64
+    ensures { λ r. ⌜ r ≡ cond (eqb (numberIn (now (values .entry)) (payloads (now (calls .entry)) at 0)) 1)
+        (numberIn (now (values .entry)) (payloads (now (calls .entry)) at 1))
+        (numberIn (now (values .entry)) (payloads (now (calls .entry)) at 2)) ⌝ }
+{
+    let condition = argument_value(calls, values, at, 0);
+    let if_one = argument_value(calls, values, at, 1);
+    chosen(condition, if_one, argument_value(calls, values, at, 2))
+}
+
+// The number of an equation: 1 where both arguments have one number.
+fn equal_value(calls: &[u32], values: &[u64], at: usize) -> u64
+    ensures { λ r. ⌜ r ≡ bit (eqb (numberIn (now (values .entry)) (payloads (now (calls .entry)) at 0))
+        (numberIn (now (values .entry)) (payloads (now (calls .entry)) at 1))) ⌝ }
+{
+    let left = argument_value(calls, values, at, 0);
+    let right = argument_value(calls, values, at, 1);
+    flag_number(left == right)
+}
+
+// The number of a concat.
+fn concat_value(
+    calls: &[u32],
+    values: &[u64],
+    sorts: &[u8],
+    recent: &[u8],
+    places: &[u32],
+    gap: u32,
+    terms: usize,
+    at: usize,
+) -> u64
+    ensures { λ r. ⌜ r ≡ concatIn
+        (sortNear (now (sorts .entry)) (now (recent .entry)) (now (places .entry)) gap (now (calls .entry)) terms)
+        (now (values .entry)) (now (calls .entry)) terms at ⌝ }
+{
+    let high = argument_sort(calls, sorts, recent, places, gap, terms, at, 0);
+    let low = argument_sort(calls, sorts, recent, places, gap, terms, at, 1);
+    let s = argument_value(calls, values, at, 0);
+    bitvec::concat(high, s, low, argument_value(calls, values, at, 1))
+}
+
+// The number of an extract.
+fn extract_value(
+    calls: &[u32],
+    values: &[u64],
+    sorts: &[u8],
+    recent: &[u8],
+    places: &[u32],
+    gap: u32,
+    terms: usize,
+    at: usize,
+) -> u64
+    ensures { λ r. ⌜ r ≡ extractIn
+        (sortNear (now (sorts .entry)) (now (recent .entry)) (now (places .entry)) gap (now (calls .entry)) terms)
+        (now (values .entry)) (now (calls .entry)) terms at ⌝ }
+{
+    let width = argument_sort(calls, sorts, recent, places, gap, terms, at, 2);
+    let high = call_list::argument_at(calls, at, 0);
+    let low = call_list::argument_at(calls, at, 1);
+    bitvec::extract(width, high, low, argument_value(calls, values, at, 2))
 }
 
 // The number of the term that the record at a place makes, from the numbers and sorts of the terms before it.
@@ -144,28 +188,46 @@ pub fn record_value(
     calls: &[u32],
     values: &[u64],
     sorts: &[u8],
+    recent: &[u8],
+    places: &[u32],
+    gap: u32,
     terms: usize,
     given: u64,
     at: usize,
 ) -> u64
-    ensures { λ r. ⌜ r ≡ recordValue (now (sorts .entry)) (now (values .entry)) (now (calls .entry)) terms given at ⌝ }
+    ensures { λ r. ⌜ r ≡ recordValue
+        (sortNear (now (sorts .entry)) (now (recent .entry)) (now (places .entry)) gap (now (calls .entry)) terms)
+        (now (values .entry)) (now (calls .entry)) terms given at ⌝ }
 {
-    let operation = call_list::operation_at(calls, at);
-    let a = call_list::argument_at(calls, at, 0);
-    let b = call_list::argument_at(calls, at, 1);
-    let c = call_list::argument_at(calls, at, 2);
-    value_of(
-        operation,
-        and_value(calls, values, at, call_list::count_at(calls, at) as usize),
-        literal_value(calls, at),
-        given,
-        a,
-        b,
-        number_at(values, a as usize),
-        number_at(values, b as usize),
-        number_at(values, c as usize),
-        sort_below(calls, sorts, terms, a),
-        sort_below(calls, sorts, terms, b),
-        sort_below(calls, sorts, terms, c),
-    )
+    match call_list::operation_at(calls, at) {
+        Operation::BoolLit => flag_number(call_list::argument_at(calls, at, 0) == 1),
+        Operation::BoolIte => choice_value(calls, values, at),
+        Operation::Not => chosen(argument_value(calls, values, at, 0), 0, 1),
+        Operation::And => and_value(calls, values, at, call_list::count_at(calls, at) as usize),
+        Operation::Lit => literal_value(calls, at),
+        Operation::Equal => equal_value(calls, values, at),
+        Operation::Ite => choice_value(calls, values, at),
+        Operation::Concat => { concat_value(calls, values, sorts, recent, places, gap, terms, at) }
+        Operation::Extract => {
+            extract_value(calls, values, sorts, recent, places, gap, terms, at)
+        }
+        Operation::BvNot => {
+            let width = argument_sort(calls, sorts, recent, places, gap, terms, at, 0);
+            bitvec::bvnot(width, argument_value(calls, values, at, 0))
+        }
+        Operation::Binary(op) => {
+            let width = argument_sort(calls, sorts, recent, places, gap, terms, at, 0);
+            let s = argument_value(calls, values, at, 0);
+            binary_value(op, width, s, argument_value(calls, values, at, 1))
+        }
+        Operation::Compare(op) => {
+            let width = argument_sort(calls, sorts, recent, places, gap, terms, at, 0);
+            let s = argument_value(calls, values, at, 0);
+            flag_number(compare_value(op, width, s, argument_value(calls, values, at, 1)))
+        }
+        Operation::Declare => given,
+        Operation::Assert => 0,
+        Operation::Check => 0,
+        Operation::Unknown => 0,
+    }
 }

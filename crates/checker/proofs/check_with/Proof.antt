@@ -1,20 +1,14 @@
--- `checker::check_with` meets its contract: the names are cleared, and the answer is that of the check. Assumes nothing.
+-- `checker::check_with` meets its contract: with no gap the table of places has every term. Assumes nothing.
 use borrow.Author.Needs.{needs}
-use native.Mathlib.Nat.{le-refl}
+use Rattle.checker.specs.Checking.{checked-whole}
 use Rattle.checker.proofs.check_with.Statement.{statement}
 use Rattle.checker.proofs.check_with.Tie as tie
 
-clear-names-requires : tie.Need-clear-names-requires
-clear-names-requires c κs = search needs
+slice-aggregate-check-by : tie.Need-slice-aggregate-check-by
+slice-aggregate-check-by c = search needs
 
-slice-aggregate-check-records : tie.Need-slice-aggregate-check-records
-slice-aggregate-check-records c = search needs
-
-check-records-requires : tie.Need-check-records-requires
-check-records-requires c κs =
-    let lent = c .before .before .before in
-    let cleared = lent .before .before .before in
-    (cleared .clear-names .ensures, le-refl 9)
+check-by-requires : tie.Need-check-by-requires
+check-by-requires c κs = search needs
 
 same-length : tie.Need-same-length
 same-length c = search needs
@@ -27,11 +21,16 @@ same-length-3 c = search needs
 
 returns : tie.Need-returns
 returns c =
-    let lent = c .before .before .before in
-    let sorted = lent .before .before in
-    sorted .before .before .check-records .ensures
+    let sorted = c .before .before .before .before in
+    checked-whole (sorted .before .before .before .check-by .ensures)
 
 pub check-with-spec : {M : Type 1} → statement M
 check-with-spec =
     tie.close
-    (tie.spec clear-names-requires slice-aggregate-check-records check-records-requires same-length same-length-2 same-length-3 returns)
+    (tie.spec
+    slice-aggregate-check-by
+    check-by-requires
+    same-length
+    same-length-2
+    same-length-3
+    returns)

@@ -23,7 +23,7 @@ wrong-from-requires c κs =
     let head = c .before in
     let operation = head .before .before in
     let known = operation .before .before .before in
-    let args = known .before .before .args in
+    let args = known .before .before .before .before .args in
     let whole =
     head-whole (args .names .now) (args .tops .now) (args .calls .now) (args .at) (sym (head .head-stands .ensures) ∙ c .if1 .taken) in
     (omega (arith, whole, head .before .count-at .ensures), operation .operation-at .ensures)

@@ -11,17 +11,19 @@ use Rattle.engine.specs.Steps.{failing-none, failing-turn, failing-here}
 use Rattle.checker.specs.Tables.{wordSort, standsBy, wrongAs, onWrong}
 use mathlib.Core.Option.{Option}
 use Rattle.checker.specs.declared.Wrong.the-variants.{At}
+use Rattle.term_table.specs.Near.{sortNear}
 use Rattle.checker.specs.TableLaws.{stands-is}
 use Rattle.checker.proofs.wrong_from.Statement.{statement}
 use Rattle.checker.proofs.wrong_from.Tie as tie
 
 abbrev Inv-loop : tie.InvT-loop
-Inv-loop calls sorts terms at operation n first before₀ sort-before₀ i₀ before sort-before i =
-    (i ≤ n) × (before ≡ getD calls (at + i) 0) × (sort-before ≡ wordSort sorts calls terms before)
-    × (firstFailing (standsBy sorts calls terms at) 0 n ≡ firstFailing (standsBy sorts calls terms at) i (n - i))
+Inv-loop calls sorts recent places gap terms at operation n first before₀ sort-before₀ i₀ before sort-before i =
+    (i ≤ n) × (before ≡ getD calls (at + i) 0) × (sort-before ≡ wordSort (sortNear sorts recent places gap calls terms) terms before)
+    × (firstFailing (standsBy (sortNear sorts recent places gap calls terms) calls terms at) 0 n
+    ≡ firstFailing (standsBy (sortNear sorts recent places gap calls terms) calls terms at) i (n - i))
 
 abbrev μ-loop : tie.MeasureT-loop
-μ-loop calls sorts terms at operation n first before₀ sort-before₀ i₀ before sort-before i = n - i
+μ-loop calls sorts recent places gap terms at operation n first before₀ sort-before₀ i₀ before sort-before i = n - i
 
 argument-word-requires : tie.Need-argument-word-requires Inv-loop μ-loop
 argument-word-requires c κs = search needs
@@ -34,12 +36,13 @@ word-sort-requires c κs = search needs
 
 loop-holds : tie.Need-loop-holds Inv-loop μ-loop
 loop-holds c =
-    let args = c .before .before .before .before .before .args in
-    let w = args .calls .now in (
+    let args = c .before .before .before .before .before .before .before .args in
+    let w = args .calls .now in
+    let sort = sortNear (args .sorts .now) (args .recent .now) (args .places .now) (args .gap) w (args .terms) in (
       omega arith,
       c .before .word-at .ensures ∙ ap (λ (j : ℕ). getD w j 0) (let e : args .at ≡ args .at + 0 = omega arith in e),
       c .word-sort .ensures,
-      ap (firstFailing (standsBy (args .sorts .now) w (args .terms) (args .at)) 0) (let e : args .n ≡ args .n - 0 = omega arith in e),
+      ap (firstFailing (standsBy sort w (args .terms) (args .at)) 0) (let e : args .n ≡ args .n - 0 = omega arith in e),
     )
 
 argument-word-requires-2 : tie.Need-argument-word-requires-2 Inv-loop μ-loop
@@ -67,12 +70,13 @@ loop-again c =
     let turn = read .before .before in
     let state = turn .before .loop in
     let inv = state .inv in
-    let start = turn .before .before .before .before .before .before .before in
+    let start = turn .before .before .before .before .before .before .before .before .before in
     let args = start .args in
     let w = args .calls .now in
-    let test = standsBy (args .sorts .now) w (args .terms) (args .at) in
+    let sort = sortNear (args .sorts .now) (args .recent .now) (args .places .now) (args .gap) w (args .terms) in
+    let test = standsBy sort w (args .terms) (args .at) in
     let stands =
-    stands-is (args .sorts .now) w (args .terms) (args .at) (state .i)
+    stands-is sort w (args .terms) (args .at) (state .i)
     (tested .before .argument .ensures ∙ ap (λ (op : Op). argumentOf op (state .i)) (start .pre .1))
     (turn .before .before .before .before .argument-word .ensures)
     (inv .1) (read .before .argument-word2 .ensures) (inv .2) (read .word-sort2 .ensures) (tested .admitted .ensures) in (
@@ -94,12 +98,13 @@ returns c =
     let turn = read .before .before in
     let state = turn .before .loop in
     let inv = state .inv in
-    let start = turn .before .before .before .before .before .before .before in
+    let start = turn .before .before .before .before .before .before .before .before .before in
     let args = start .args in
     let w = args .calls .now in
-    let test = standsBy (args .sorts .now) w (args .terms) (args .at) in
+    let sort = sortNear (args .sorts .now) (args .recent .now) (args .places .now) (args .gap) w (args .terms) in
+    let test = standsBy sort w (args .terms) (args .at) in
     let stands =
-    stands-is (args .sorts .now) w (args .terms) (args .at) (state .i)
+    stands-is sort w (args .terms) (args .at) (state .i)
     (tested .before .argument .ensures ∙ ap (λ (op : Op). argumentOf op (state .i)) (start .pre .1))
     (turn .before .before .before .before .argument-word .ensures)
     (inv .1) (read .before .argument-word2 .ensures) (inv .2) (read .word-sort2 .ensures) (tested .admitted .ensures) in
@@ -110,9 +115,11 @@ returns c =
 returns-2 : tie.Need-returns-2 Inv-loop μ-loop
 returns-2 c =
     let state = c .before .loop in
-    let args = c .before .before .before .before .before .before .before .args in
+    let args = c .before .before .before .before .before .before .before .before .before .args in
+    let w = args .calls .now in
+    let sort = sortNear (args .sorts .now) (args .recent .now) (args .places .now) (args .gap) w (args .terms) in
     sym (ap (λ (o : Option ℕ). wrongAs (onWrong o (λ i. args .at + 1 + i))) (state .inv .3
-    ∙ failing-none (standsBy (args .sorts .now) (args .calls .now) (args .terms) (args .at)) (state .i) (args .n - state .i)
+    ∙ failing-none (standsBy sort w (args .terms) (args .at)) (state .i) (args .n - state .i)
     (omega arith)))
 
 pub wrong-from-spec : {M : Type 1} → statement M

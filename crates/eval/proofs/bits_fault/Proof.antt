@@ -6,7 +6,8 @@ use mathlib.Core.Path.{sym, ap, _∙_}
 use native.Mathlib.Omega.{arith}
 use lib.ListN.{length}
 use Rattle.checker.specs.Tables.{wrongAs}
-use Rattle.eval.specs.declared.Progress.{Progress}
+use Rattle.call_list.specs.declared.Cursor.{Cursor}
+use Rattle.call_list.specs.Cursors.{passed-next}
 use Rattle.eval.specs.RecordLaws.{BitsTo, bits-start, bits-here, bits-next, bits-end}
 use Rattle.eval.proofs.bits_fault.Statement.{statement}
 use Rattle.eval.proofs.bits_fault.Tie as tie
@@ -30,23 +31,37 @@ returns c =
     let wrong = sym (c .before .wrong-bits .ensures) ∙ c .if2 .taken in
     sym (ap wrongAs (bits-here (state .inv) (inside .if1 .taken) wrong))
 
-progress-after-requires : tie.Need-progress-after-requires Inv-loop μ-loop
-progress-after-requires c κs =
-    let inside = c .before .before in
-    let state = inside .before .before .loop in
-    (inside .if1 .taken, state .inv .few-terms, state .inv .few-names)
+next-requires : tie.Need-next-requires Inv-loop μ-loop
+next-requires c κs = search needs
 
 loop-less : tie.Need-loop-less Inv-loop μ-loop
 loop-less c =
     let inside = c .before .before .before in
-    omega (arith, inside .if1 .taken, ap (λ (done : Progress). done .at) (c .progress-after .ensures))
+    let looped = inside .before .before in
+    let state = looped .loop in
+    let start = looped .before .before .before in
+    let within = inside .if1 .taken in
+    let few-terms = state .inv .few-terms in
+    let few-names = state .inv .few-names in
+    let next =
+    passed-next (start .args .calls .now) (state .seen) (c .next .ensures) (omega (arith, within, start))
+    (omega (arith, within, few-terms, start)) (omega (arith, within, few-names, start)) in
+    omega (arith, within, ap (λ (s : Cursor). s .at) next)
 
 loop-again : tie.Need-loop-again Inv-loop μ-loop
 loop-again c =
     let inside = c .before .before .before in
-    let state = inside .before .before .loop in
+    let looped = inside .before .before in
+    let state = looped .loop in
+    let start = looped .before .before .before in
+    let within = inside .if1 .taken in
+    let few-terms = state .inv .few-terms in
+    let few-names = state .inv .few-names in
+    let next =
+    passed-next (start .args .calls .now) (state .seen) (c .next .ensures) (omega (arith, within, start))
+    (omega (arith, within, few-terms, start)) (omega (arith, within, few-names, start)) in
     let right = sym (c .before .before .wrong-bits .ensures) ∙ c .before .if2 .left in
-    rw (c .progress-after .ensures) (bits-next (state .inv) (inside .if1 .taken) right 0)
+    rw next (bits-next (state .inv) within right)
 
 returns-2 : tie.Need-returns-2 Inv-loop μ-loop
 returns-2 c = sym (ap wrongAs (bits-end (c .before .before .loop .inv) (c .if1 .left)))
@@ -60,7 +75,7 @@ bits-fault-spec =
     loop-holds
     wrong-bits-requires
     returns
-    progress-after-requires
+    next-requires
     loop-less
     loop-again
     returns-2)

@@ -3,22 +3,41 @@ use borrow.Author.Needs.{needs}
 use Rattle.eval.proofs.evaluate.Statement.{statement}
 use Rattle.eval.proofs.evaluate.Tie as tie
 
-slice-aggregate-evaluate-with : tie.Need-slice-aggregate-evaluate-with
-slice-aggregate-evaluate-with c = search needs
+gap-of-requires : tie.Need-gap-of-requires
+gap-of-requires c κs = search needs
 
-slice-aggregate-evaluate-with-2 : tie.Need-slice-aggregate-evaluate-with-2
-slice-aggregate-evaluate-with-2 c = search needs
+slice-aggregate-evaluate-by : tie.Need-slice-aggregate-evaluate-by
+slice-aggregate-evaluate-by c = search needs
 
-evaluate-with-requires : tie.Need-evaluate-with-requires
-evaluate-with-requires c κs = search needs
+slice-aggregate-evaluate-by-2 : tie.Need-slice-aggregate-evaluate-by-2
+slice-aggregate-evaluate-by-2 c = search needs
+
+slice-aggregate-evaluate-by-3 : tie.Need-slice-aggregate-evaluate-by-3
+slice-aggregate-evaluate-by-3 c = search needs
+
+slice-aggregate-evaluate-by-4 : tie.Need-slice-aggregate-evaluate-by-4
+slice-aggregate-evaluate-by-4 c = search needs
+
+evaluate-by-requires : tie.Need-evaluate-by-requires
+evaluate-by-requires c κs = search needs
 
 same-length : tie.Need-same-length
 same-length c = search needs
 
 returns : tie.Need-returns
-returns c = let lent = c .before .before .before in lent .before .evaluate-with .ensures
+returns c =
+    let sorted = c .before .before .before in
+    sorted .before .before .before .evaluate-by .ensures
 
 pub evaluate-spec : {M : Type 1} → statement M
 evaluate-spec =
     tie.close
-    (tie.spec slice-aggregate-evaluate-with slice-aggregate-evaluate-with-2 evaluate-with-requires same-length returns)
+    (tie.spec
+    gap-of-requires
+    slice-aggregate-evaluate-by
+    slice-aggregate-evaluate-by-2
+    slice-aggregate-evaluate-by-3
+    slice-aggregate-evaluate-by-4
+    evaluate-by-requires
+    same-length
+    returns)

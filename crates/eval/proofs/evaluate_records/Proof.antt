@@ -6,20 +6,24 @@ use mathlib.Core.Path.{_≡_, refl, ap, _∙_}
 use native.Mathlib.Omega.{arith}
 use lib.ListN.{length}
 use Rattle.call_list.specs.Operations.{opFrom}
-use Rattle.eval.specs.declared.Progress.{Progress}
+use Rattle.call_list.specs.declared.Cursor.{Cursor}
+use Rattle.call_list.specs.Cursors.{passed-next}
 use Rattle.eval.specs.RecordLaws.{false-low, EvaluatedTo, evaluated-start, evaluated-next, evaluated-end}
 use Rattle.eval.proofs.evaluate_records.Statement.{statement}
 use Rattle.eval.proofs.evaluate_records.Tie as tie
 
 abbrev Inv-loop : tie.InvT-loop
-Inv-loop calls bits values₀ sorts done₀ values done = (length values ≡ length values₀) × EvaluatedTo calls bits values₀ sorts values done
+Inv-loop calls bits values₀ sorts recent₀ places gap done₀ falses₀ values recent done falses =
+    (length values ≡ length values₀) × (length recent ≡ length recent₀) × EvaluatedTo gap calls bits values₀ sorts places values recent done falses
 
 abbrev μ-loop : tie.MeasureT-loop
-μ-loop calls bits values₀ sorts done₀ values done = length calls - done .at
+μ-loop calls bits values₀ sorts recent₀ places gap done₀ falses₀ values recent done falses = length calls - done .at
 
 loop-holds : tie.Need-loop-holds Inv-loop μ-loop
 loop-holds c =
-    let start = c .before .before .before .before in (refl, evaluated-start (start .pre))
+    let entry = c .before .before .before in
+    let start = entry .before .before .before in
+    (refl, refl, evaluated-start (start .args .recent .now) (start .pre))
 
 operation-at-requires : tie.Need-operation-at-requires Inv-loop μ-loop
 operation-at-requires c κs = search needs
@@ -33,70 +37,102 @@ cast-number-at c = search needs
 number-at-requires : tie.Need-number-at-requires Inv-loop μ-loop
 number-at-requires c κs = search needs
 
+number-at-requires-2 : tie.Need-number-at-requires-2 Inv-loop μ-loop
+number-at-requires-2 c κs = search needs
+
 false-of-requires : tie.Need-false-of-requires Inv-loop μ-loop
 false-of-requires c κs = search needs
 
 add-falses : tie.Need-add-falses Inv-loop μ-loop
 add-falses c =
-    let inside = c .before .before .before .before .before .before in
-    let state = inside .before .before .loop in
+    let read = c .before .before in
+    let told = read .before .before .before in
+    let inside = told .before in
+    let looped = inside .before .before in
+    let state = looped .loop in
+    let entry = looped .before .before .before in
+    let start = entry .before .before .before .before in
     omega (
       arith,
       inside .if1 .taken,
-      state .inv .1 .few-falses,
-      c .before .false-of .ensures,
-      false-low (opFrom (c .before .before .before .before .before .operation-at .result)) (c .before .before .number-at .result),
+      state .inv .2 .few-falses,
+      c .false-of .ensures,
+      false-low (opFrom (told .operation-at .result)) (read .number-at .result),
+      start,
     )
-
-number-at-requires-2 : tie.Need-number-at-requires-2 Inv-loop μ-loop
-number-at-requires-2 c κs = search needs
 
 write-value-requires : tie.Need-write-value-requires Inv-loop μ-loop
 write-value-requires c κs = search needs
 
-progress-after-requires : tie.Need-progress-after-requires Inv-loop μ-loop
-progress-after-requires c κs =
-    let written = c .before .before in
-    let counted = written .before .before .before .before in
-    let read = counted .before in
-    let inside = read .before .before .before .before in
-    let state = inside .before .before .loop in
-    (inside .if1 .taken, state .inv .1 .few-terms, state .inv .1 .few-names)
+note-recent-requires : tie.Need-note-recent-requires Inv-loop μ-loop
+note-recent-requires c κs = search needs
+
+next-requires : tie.Need-next-requires Inv-loop μ-loop
+next-requires c κs = search needs
 
 loop-less : tie.Need-loop-less Inv-loop μ-loop
 loop-less c =
-    let written = c .before .before .before in
-    let counted = written .before .before .before .before in
-    let read = counted .before in
-    let inside = read .before .before .before .before in
-    let state = inside .before .before .loop in
-    omega (arith, inside .if1 .taken, ap (λ (done : Progress). done .at) (c .progress-after .ensures))
+    let noted = c .before .before .before in
+    let written = noted .before .before .before .before in
+    let counted = written .before .before .before in
+    let given = counted .before in
+    let read = given .before in
+    let told = read .before .before .before in
+    let inside = told .before in
+    let looped = inside .before .before in
+    let state = looped .loop in
+    let entry = looped .before .before .before in
+    let start = entry .before .before .before .before in
+    let within = inside .if1 .taken in
+    let few-terms = state .inv .2 .few-terms in
+    let few-names = state .inv .2 .few-names in
+    let next =
+    passed-next (start .args .calls .now) (state .done) (c .next .ensures) (omega (arith, within, start))
+    (omega (arith, within, few-terms, start)) (omega (arith, within, few-names, start)) in
+    omega (arith, within, ap (λ (s : Cursor). s .at) next)
 
 loop-again : tie.Need-loop-again Inv-loop μ-loop
 loop-again c =
-    let written = c .before .before .before in
-    let counted = written .before .before .before .before in
-    let read = counted .before in
-    let inside = read .before .before .before .before in
-    let state = inside .before .before .loop in (
+    let noted = c .before .before .before in
+    let written = noted .before .before .before .before in
+    let counted = written .before .before .before in
+    let given = counted .before in
+    let read = given .before in
+    let told = read .before .before .before in
+    let inside = told .before in
+    let looped = inside .before .before in
+    let state = looped .loop in
+    let entry = looped .before .before .before in
+    let start = entry .before .before .before .before in
+    let within = inside .if1 .taken in
+    let few-terms = state .inv .2 .few-terms in
+    let few-names = state .inv .2 .few-names in
+    let next =
+    passed-next (start .args .calls .now) (state .done) (c .next .ensures) (omega (arith, within, start))
+    (omega (arith, within, few-terms, start)) (omega (arith, within, few-names, start)) in (
       written .write-value .kept .1 .0 ∙ state .inv .0,
+      noted .note-recent .kept .1 .1 .0 ∙ state .inv .1,
       rw (
-        c .progress-after .ensures,
+        next,
+        noted .note-recent .ensures,
         written .write-value .ensures,
-        written .before .before .number-at2 .ensures,
+        given .number-at2 .ensures,
         counted .false-of .ensures,
         read .number-at .ensures,
         read .before .argument-at .ensures,
-        read .before .before .before .operation-at .ensures,
+        told .operation-at .ensures,
       )
-          (evaluated-next (state .inv .1) (inside .if1 .taken)),
+          (evaluated-next (state .inv .2) within),
     )
 
 same-length : tie.Need-same-length Inv-loop μ-loop
 same-length c = c .before .before .loop .inv .0
 
+same-length-2 : tie.Need-same-length-2 Inv-loop μ-loop
+same-length-2 c = c .before .before .loop .inv .1
+
 returns : tie.Need-returns Inv-loop μ-loop
-returns c = evaluated-end (c .before .before .loop .inv .1) (c .if1 .left)
+returns c = evaluated-end (c .before .before .loop .inv .2) (c .if1 .left)
 
 pub evaluate-records-spec : {M : Type 1} → statement M
 evaluate-records-spec =
@@ -109,12 +145,14 @@ evaluate-records-spec =
     argument-at-requires
     cast-number-at
     number-at-requires
+    number-at-requires-2
     false-of-requires
     add-falses
-    number-at-requires-2
     write-value-requires
-    progress-after-requires
+    note-recent-requires
+    next-requires
     loop-less
     loop-again
     same-length
+    same-length-2
     returns)

@@ -1,5 +1,6 @@
 -- `term_table::note_place` meets its contract: each way out has what its tests say. Assumes nothing.
 use borrow.Author.Needs.{needs}
+use borrow.Author.Tests.{eq-eqb, ne-eqb}
 use Rattle.term_table.proofs.note_place.Statement.{statement}
 use Rattle.term_table.proofs.note_place.Tie as tie
 
@@ -8,6 +9,15 @@ operation-at-requires c κs = search needs
 
 makes-term-requires : tie.Need-makes-term-requires
 makes-term-requires c κs = search needs
+
+add-step : tie.Need-add-step
+add-step c = search needs
+
+rem-if2 : tie.Need-rem-if2
+rem-if2 c = search needs
+
+div-put : tie.Need-div-put
+div-put c = search needs
 
 cast-put : tie.Need-cast-put
 cast-put c = search needs
@@ -21,16 +31,28 @@ same-length c = search needs
 returns : tie.Need-returns
 returns c =
     let put = c .before .before in
-    let tested = put .before .before in
+    let turn = put .before .before in
+    let tested = turn .before in
     rw (
       ← tested .before .before .operation-at .ensures,
       ← tested .before .makes-term .ensures,
       tested .if1 .taken,
+      eq-eqb _ _ (turn .if2 .taken),
       put .put .ensures,
     )
 
 returns-2 : tie.Need-returns-2
-returns-2 c = rw (← c .before .before .operation-at .ensures, ← c .before .makes-term .ensures, c .if1 .left)
+returns-2 c =
+    let tested = c .before in
+    rw (
+      ← tested .before .before .operation-at .ensures,
+      ← tested .before .makes-term .ensures,
+      tested .if1 .taken,
+      ne-eqb _ _ (c .if2 .left),
+    )
+
+returns-3 : tie.Need-returns-3
+returns-3 c = rw (← c .before .before .operation-at .ensures, ← c .before .makes-term .ensures, c .if1 .left)
 
 pub note-place-spec : {M : Type 1} → statement M
 note-place-spec =
@@ -38,8 +60,12 @@ note-place-spec =
     (tie.spec
     operation-at-requires
     makes-term-requires
+    add-step
+    rem-if2
+    div-put
     cast-put
     put-requires
     same-length
     returns
-    returns-2)
+    returns-2
+    returns-3)

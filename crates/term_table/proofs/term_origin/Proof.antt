@@ -1,6 +1,6 @@
 -- `term_table::term_origin` meets its contract: each way out has what its tests say. Assumes nothing.
-use borrow.Author.Tests.{lt-ltb, le-ltb}
 use borrow.Author.Needs.{needs}
+use borrow.Author.Tests.{lt-ltb, le-ltb}
 use Rattle.term_table.proofs.term_origin.Statement.{statement}
 use Rattle.term_table.proofs.term_origin.Tie as tie
 
@@ -10,8 +10,19 @@ entry-requires c κs = search needs
 returns : tie.Need-returns
 returns c = rw (lt-ltb _ _ (c .before .if1 .taken), c .entry .ensures)
 
-place-of-term-requires : tie.Need-place-of-term-requires
-place-of-term-requires c κs = search needs
+is-recent-requires : tie.Need-is-recent-requires
+is-recent-requires c κs = search needs
+
+ring-entry-requires : tie.Need-ring-entry-requires
+ring-entry-requires c κs = search needs
+
+returns-2 : tie.Need-returns-2
+returns-2 c =
+    let recent = c .before .before in
+    rw (le-ltb _ _ (recent .before .if1 .left), ← recent .is-recent .ensures, c .before .if2 .taken, c .ring-entry .ensures)
+
+near-place-requires : tie.Need-near-place-requires
+near-place-requires c κs = search needs
 
 origin-at-requires : tie.Need-origin-at-requires
 origin-at-requires c κs = search needs
@@ -19,12 +30,15 @@ origin-at-requires c κs = search needs
 earlier-origin-requires : tie.Need-earlier-origin-requires
 earlier-origin-requires c κs = search needs
 
-returns-2 : tie.Need-returns-2
-returns-2 c =
-    let at-if1 = c .before .before .before in
+returns-3 : tie.Need-returns-3
+returns-3 c =
+    let placed = c .before .before in
+    let recent = placed .before .before in
     rw (
-      le-ltb _ _ (at-if1 .if1 .left),
-      ← c .before .before .place-of-term .ensures,
+      le-ltb _ _ (recent .before .if1 .left),
+      ← recent .is-recent .ensures,
+      placed .before .if2 .left,
+      ← placed .near-place .ensures,
       ← c .before .origin-at .ensures,
       c .earlier-origin .ensures,
     )
@@ -35,7 +49,10 @@ term-origin-spec =
     (tie.spec
     entry-requires
     returns
-    place-of-term-requires
+    is-recent-requires
+    ring-entry-requires
+    returns-2
+    near-place-requires
     origin-at-requires
     earlier-origin-requires
-    returns-2)
+    returns-3)

@@ -1,4 +1,4 @@
--- `call_list::place_of_term` meets its contract: from each record on, the scan finds the place that it finds from the first.
+-- `call_list::place_from` meets its contract: from each record on, the scan finds the place that it finds from the first.
 -- The measure is how many words are left. Assumes nothing.
 use Prim.Native.Nat.{ℕ, _+_, _-_, _≤_}
 use mathlib.Core.Path.{_≡_, refl, sym, ap, _∙_}
@@ -8,15 +8,15 @@ use lib.ListN.{length}
 use Rattle.engine.specs.Encode.{makesTerm, nextAt}
 use Rattle.engine.specs.Structure.{termPlace}
 use Rattle.engine.specs.StructureLaws.{place-end, place-here, place-next, place-skip}
-use Rattle.call_list.proofs.place_of_term.Statement.{statement}
-use Rattle.call_list.proofs.place_of_term.Tie as tie
+use Rattle.call_list.proofs.place_from.Statement.{statement}
+use Rattle.call_list.proofs.place_from.Tie as tie
 
 abbrev Inv-loop : tie.InvT-loop
-Inv-loop calls at₀ left₀ at left =
-    (n : ℕ) × (length calls - at ≤ n) × (termPlace (length calls) calls 0 left₀ ≡ termPlace n calls at left)
+Inv-loop calls from left at₀ more₀ at more =
+    (n : ℕ) × (length calls - at ≤ n) × (termPlace (length calls) calls from left ≡ termPlace n calls at more)
 
 abbrev μ-loop : tie.MeasureT-loop
-μ-loop calls at₀ left₀ at left = length calls - at
+μ-loop calls from left at₀ more₀ at more = length calls - at
 
 loop-holds : tie.Need-loop-holds Inv-loop μ-loop
 loop-holds c = (length (c .before .args .calls .now), omega arith, refl)
@@ -35,10 +35,10 @@ returns c =
     let w = turn .before .before .before .args .calls .now in
     let inv = state .inv in
     let makes = sym (made .makes-term .ensures ∙ ap makesTerm (made .before .operation-at .ensures)) ∙ c .before .if1 .taken in
-    sym (inv .2 ∙ place-here w (state .at) (state .left) (turn .loop-test .taken) (inv .0) (omega arith) makes (c .if2 .taken))
+    sym (inv .2 ∙ place-here w (state .at) (state .more) (turn .loop-test .taken) (inv .0) (omega arith) makes (c .if2 .taken))
 
-sub-left : tie.Need-sub-left Inv-loop μ-loop
-sub-left c = search needs
+sub-more : tie.Need-sub-more Inv-loop μ-loop
+sub-more c = search needs
 
 next-record-requires : tie.Need-next-record-requires Inv-loop μ-loop
 next-record-requires c κs = search needs
@@ -57,8 +57,8 @@ loop-again c =
     let next : c .next-record .result ≡ nextAt w (state .at) = omega (arith, c .next-record .ensures, turn .loop-test .taken) in (
       inv .0 - 1,
       omega arith,
-      inv .2 ∙ place-next w (state .at) (state .left) (turn .loop-test .taken) (inv .0) (omega arith) makes (c .before .if2 .left)
-          ∙ ap (λ (k : ℕ). termPlace (inv .0 - 1) w k (state .left - 1)) (sym next),
+      inv .2 ∙ place-next w (state .at) (state .more) (turn .loop-test .taken) (inv .0) (omega arith) makes (c .before .if2 .left)
+          ∙ ap (λ (k : ℕ). termPlace (inv .0 - 1) w k (state .more - 1)) (sym next),
     )
 
 next-record-requires-2 : tie.Need-next-record-requires-2 Inv-loop μ-loop
@@ -78,18 +78,18 @@ loop-again-2 c =
     let next : c .next-record2 .result ≡ nextAt w (state .at) = omega (arith, c .next-record2 .ensures, turn .loop-test .taken) in (
       inv .0 - 1,
       omega arith,
-      inv .2 ∙ place-skip w (state .at) (state .left) (turn .loop-test .taken) (inv .0) (omega arith) makes
-          ∙ ap (λ (k : ℕ). termPlace (inv .0 - 1) w k (state .left)) (sym next),
+      inv .2 ∙ place-skip w (state .at) (state .more) (turn .loop-test .taken) (inv .0) (omega arith) makes
+          ∙ ap (λ (k : ℕ). termPlace (inv .0 - 1) w k (state .more)) (sym next),
     )
 
 returns-2 : tie.Need-returns-2 Inv-loop μ-loop
 returns-2 c =
     let state = c .before .loop in
     let inv = state .inv in
-    sym (inv .2 ∙ place-end (inv .0) (c .before .before .before .args .calls .now) (state .at) (state .left) (c .loop-test .left))
+    sym (inv .2 ∙ place-end (inv .0) (c .before .before .before .args .calls .now) (state .at) (state .more) (c .loop-test .left))
 
-pub place-of-term-spec : {M : Type 1} → statement M
-place-of-term-spec =
+pub place-from-spec : {M : Type 1} → statement M
+place-from-spec =
     tie.close
     (tie.spec
     Inv-loop
@@ -98,7 +98,7 @@ place-of-term-spec =
     operation-at-requires
     makes-term-requires
     returns
-    sub-left
+    sub-more
     next-record-requires
     loop-less
     loop-again

@@ -1,0 +1,43 @@
+-- `term_values::concat_value` meets its contract: the concatenation of its arguments' numbers. Assumes nothing.
+use borrow.Author.Needs.{needs}
+use Rattle.term_values.proofs.concat_value.Statement.{statement}
+use Rattle.term_values.proofs.concat_value.Tie as tie
+
+argument-sort-requires : tie.Need-argument-sort-requires
+argument-sort-requires c κs = search needs
+
+argument-sort-requires-2 : tie.Need-argument-sort-requires-2
+argument-sort-requires-2 c κs = search needs
+
+argument-value-requires : tie.Need-argument-value-requires
+argument-value-requires c κs = search needs
+
+argument-value-requires-2 : tie.Need-argument-value-requires-2
+argument-value-requires-2 c κs = search needs
+
+concat-requires : tie.Need-concat-requires
+concat-requires c κs = search needs
+
+returns : tie.Need-returns
+returns c =
+    let low = c .before in
+    let high = low .before in
+    let low-sort = high .before in
+    rw (
+      c .concat .ensures,
+      low .argument-value2 .ensures,
+      high .argument-value .ensures,
+      low-sort .argument-sort2 .ensures,
+      low-sort .before .argument-sort .ensures,
+    )
+
+pub concat-value-spec : {M : Type 1} → statement M
+concat-value-spec =
+    tie.close
+    (tie.spec
+    argument-sort-requires
+    argument-sort-requires-2
+    argument-value-requires
+    argument-value-requires-2
+    concat-requires
+    returns)
