@@ -11,7 +11,8 @@ use lib.Seq.{drop-cons}
 use Rattle.logic.specs.Trit.{shows, readbackNumber}
 use Rattle.logic.specs.declared.Readback.the-variants.{Shown}
 use Rattle.logic.specs.declared.Fault.{Fault}
-use Rattle.text.specs.Write.{overwrite, overwrite-none, overwrite-more}
+use Rattle.engine.specs.Emit.{overwrite}
+use Rattle.text.specs.Write.{overwrite-none, overwrite-more}
 use Rattle.text.specs.Names.{spelling, askedFrom, asked}
 use Rattle.tokens.specs.Token.{Token}
 use Rattle.answer.specs.Reply.{Result, Reader, got, refused, return, onGot, pairs, pairSpelled, shownFirst, table}

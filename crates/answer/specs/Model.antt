@@ -11,7 +11,8 @@ use borrow.Author.Tests.{lt-ltb, le-ltb, eq-eqb, ne-eqb}
 use Rattle.logic.specs.declared.Fault.{Fault}
 use Rattle.engine.specs.Call.{Name}
 use Rattle.text.specs.Names.{askedFrom, asked}
-use Rattle.text.specs.Write.{overwrite, overwrite-fits}
+use Rattle.engine.specs.Emit.{overwrite}
+use Rattle.text.specs.Write.{overwrite-fits}
 use Rattle.answer.specs.declared.Mark.the-variants.{Fine, Bad}
 use Rattle.answer.specs.declared.Step.{Step}
 use Rattle.answer.specs.declared.Step.the-variants as step

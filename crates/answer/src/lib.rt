@@ -15,7 +15,7 @@ ghost use Rattle.answer.specs.Model.{listed, Tabled, replyAfter};
 ghost use Rattle.answer.specs.Step.{endResult, stepResult, bitResult, entryResult, trit, entryOf, entries, written};
 ghost use Rattle.answer.specs.Entries.{forget, nothing};
 ghost use Rattle.text.specs.Names.{spelling, asked};
-ghost use Rattle.text.specs.Write.{overwrite};
+ghost use Rattle.engine.specs.Emit.{overwrite};
 
 // What a solver said. After sat the table is written; a refusal has document 01's number and the place of the byte or mark at fault.
 pub enum Answer {

@@ -7,7 +7,8 @@ use Rattle.logic.specs.Table.{tab}
 use Rattle.engine.specs.Encode.{callAt}
 use Rattle.call_list.specs.Literal.{payloads}
 use Rattle.term_table.specs.Tables.{placeBy}
-use Rattle.pieces.specs.Text.{numbered, spelledAs, extractText, applied}
+use Rattle.syntax.specs.Text.{extractText}
+use Rattle.pieces.specs.Text.{numbered, spelledAs, applied}
 
 -- How term k is written, of so many terms so far, by the record that the table and the records give for it.
 abbrev pub referenceBy : List ℕ → List ℕ → ℕ → ℕ → List ℕ

@@ -1,6 +1,6 @@
 -- `pieces::put_declared` meets its contract: the letter, the index and the suffix that the record's arguments have. Assumes nothing.
 use borrow.Author.Needs.{needs}
-use Rattle.text.specs.Write.{wrote-then}
+use Rattle.engine.specs.Emit.{wrote-then}
 use Rattle.pieces.proofs.put_declared.Statement.{statement}
 use Rattle.pieces.proofs.put_declared.Tie as tie
 
@@ -38,7 +38,7 @@ returns c =
     let letter = index .before .before .before .before .before in
     let start = letter .before .before .before .before .before .before in
     let short = start .good .0 .0 in
-    wrote-then short (wrote-then short (rw (letter .before .letter-byte .ensures, letter .before .before .argument-at .ensures) at (letter .put-byte .ensures)) (rw (index .before .argument-at2 .ensures) at (index .put-number .ensures))) (rw (suffix .before .argument-at3 .ensures) at (suffix .put-suffix .ensures))
+    wrote-then (wrote-then (rw (letter .before .letter-byte .ensures, letter .before .before .argument-at .ensures) at (letter .put-byte .ensures)) (rw (index .before .argument-at2 .ensures) at (index .put-number .ensures)) short) (rw (suffix .before .argument-at3 .ensures) at (suffix .put-suffix .ensures)) short
 
 pub put-declared-spec : {M : Type 1} → statement M
 put-declared-spec =

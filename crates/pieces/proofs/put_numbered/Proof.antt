@@ -1,6 +1,6 @@
 -- `pieces::put_numbered` meets its contract: the letter, then the number. Assumes nothing.
 use borrow.Author.Needs.{needs}
-use Rattle.text.specs.Write.{wrote-then}
+use Rattle.engine.specs.Emit.{wrote-then}
 use Rattle.pieces.proofs.put_numbered.Statement.{statement}
 use Rattle.pieces.proofs.put_numbered.Tie as tie
 
@@ -18,7 +18,7 @@ returns c =
     let number = c .before .before in
     let letter = number .before .before .before .before in
     let start = letter .before .before .before in
-    wrote-then (start .good .0 .0) (letter .put-byte .ensures) (number .put-number .ensures)
+    wrote-then (letter .put-byte .ensures) (number .put-number .ensures) (start .good .0 .0)
 
 pub put-numbered-spec : {M : Type 1} → statement M
 put-numbered-spec = tie.close (tie.spec put-byte-requires put-number-requires same-length returns)

@@ -1,8 +1,8 @@
--- `pieces::put_bool` meets its contract: true for 1, else false. Assumes nothing.
+-- `syntax::put_bool` meets its contract: true for 1, else false. Assumes nothing.
 use borrow.Author.Needs.{needs}
 use borrow.Author.Tests.{eq-eqb, ne-eqb}
-use Rattle.pieces.proofs.put_bool.Statement.{statement}
-use Rattle.pieces.proofs.put_bool.Tie as tie
+use Rattle.syntax.proofs.put_bool.Statement.{statement}
+use Rattle.syntax.proofs.put_bool.Tie as tie
 
 slice-aggregate-put-bytes : tie.Need-slice-aggregate-put-bytes
 slice-aggregate-put-bytes c = search needs

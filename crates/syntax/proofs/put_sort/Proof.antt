@@ -1,9 +1,9 @@
--- `pieces::put_sort` meets its contract: Bool at 0, otherwise a vector of the width. Assumes nothing.
+-- `syntax::put_sort` meets its contract: Bool at 0, otherwise a vector of the width. Assumes nothing.
 use borrow.Author.Needs.{needs}
-use Rattle.text.specs.Write.{wrote-then}
-use Rattle.pieces.proofs.Laws.{sort-vector}
-use Rattle.pieces.proofs.put_sort.Statement.{statement}
-use Rattle.pieces.proofs.put_sort.Tie as tie
+use Rattle.engine.specs.Emit.{wrote-then}
+use Rattle.syntax.proofs.Laws.{sort-vector}
+use Rattle.syntax.proofs.put_sort.Statement.{statement}
+use Rattle.syntax.proofs.put_sort.Tie as tie
 
 slice-aggregate-put-bytes : tie.Need-slice-aggregate-put-bytes
 slice-aggregate-put-bytes c = search needs
@@ -43,7 +43,7 @@ returns-2 c =
     let vector = opened .before .before .before in
     let start = vector .before .before in
     let short = start .good .0 .0 in
-    rw (sort-vector _ (vector .if1 .left)) (wrote-then short (wrote-then short (opened .put-bytes2 .ensures) (width .put-number .ensures)) (closed .put-byte .ensures))
+    rw (sort-vector _ (vector .if1 .left)) (wrote-then (wrote-then (opened .put-bytes2 .ensures) (width .put-number .ensures) short) (closed .put-byte .ensures) short)
 
 pub put-sort-spec : {M : Type 1} → statement M
 put-sort-spec =

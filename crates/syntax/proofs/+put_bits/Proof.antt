@@ -1,17 +1,17 @@
--- `pieces::put_bits` meets its contract: the bits of the half, then the lowest bit. The width falls. Assumes nothing.
+-- `syntax::put_bits` meets its contract: the bits of the half, then the lowest bit. The width falls. Assumes nothing.
 use borrow.Author.Needs.{needs}
 use Prim.Native.Nat.{ℕ, _<_}
 use borrow.Fn.Kinds.{In}
 use borrow.Fn.PlainCycle.{Measures, is, falls, and}
 use Rattle.text.proofs.put_byte.Reads as put-byte-reads
 use native.Mathlib.Omega.{arith}
-use Rattle.text.specs.Write.{wrote-none, wrote-then}
-use Rattle.pieces.proofs.Laws.{bits-none, bits-more}
-use Rattle.pieces.proofs.put_bits.Reads as put-bits
-use Rattle.pieces.proofs.put_bits.Kinds as put-bits-kinds
-use Rattle.pieces.proofs.+put_bits.Lts-put_bits as put-bits-lts
-use Rattle.pieces.proofs.+put_bits.{statement}
-use Rattle.pieces.proofs.+put_bits.Tie.{close}
+use Rattle.engine.specs.Emit.{wrote-none, wrote-then}
+use Rattle.syntax.proofs.Laws.{bits-none, bits-more}
+use Rattle.syntax.proofs.put_bits.Reads as put-bits
+use Rattle.syntax.proofs.put_bits.Kinds as put-bits-kinds
+use Rattle.syntax.proofs.+put_bits.Lts-put_bits as put-bits-lts
+use Rattle.syntax.proofs.+put_bits.{statement}
+use Rattle.syntax.proofs.+put_bits.Tie.{close}
 
 abbrev μ-put-bits : Measures 1 put-bits-kinds.ps ℕ
 μ-put-bits κs a = a .1 .1 .1 .0
@@ -59,7 +59,7 @@ put-bits-returns-2 t c =
     let last = c .before .before in
     let half = last .before .before .before .before in
     let start = half .before .before .before .before in
-    rw (bits-more _ _ (half .before .before .if1 .left)) (wrote-then (start .good .0 .0) (half .put-bits .ensures) (last .put-byte .ensures))
+    rw (bits-more _ _ (half .before .before .if1 .left)) (wrote-then (half .put-bits .ensures) (last .put-byte .ensures) (start .good .0 .0))
 
 pub +put-bits-spec : {M : Type 1} → statement M
 +put-bits-spec = close μ-put-bits λ t. put-bits-lts.spec (put-bits-claims t)

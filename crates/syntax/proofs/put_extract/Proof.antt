@@ -1,8 +1,8 @@
--- `pieces::put_extract` meets its contract: the pieces in their order. Assumes nothing.
+-- `syntax::put_extract` meets its contract: the pieces in their order. Assumes nothing.
 use borrow.Author.Needs.{needs}
-use Rattle.text.specs.Write.{wrote-then}
-use Rattle.pieces.proofs.put_extract.Statement.{statement}
-use Rattle.pieces.proofs.put_extract.Tie as tie
+use Rattle.engine.specs.Emit.{wrote-then}
+use Rattle.syntax.proofs.put_extract.Statement.{statement}
+use Rattle.syntax.proofs.put_extract.Tie as tie
 
 slice-aggregate-put-bytes : tie.Need-slice-aggregate-put-bytes
 slice-aggregate-put-bytes c = search needs
@@ -34,7 +34,7 @@ returns c =
     let opened = high .before .before .before .before in
     let start = opened .before .before .before .before in
     let short = start .good .0 .0 in
-    wrote-then short (wrote-then short (wrote-then short (wrote-then short (opened .put-bytes .ensures) (high .put-number .ensures)) (spaced .put-byte .ensures)) (low .put-number2 .ensures)) (closed .put-byte2 .ensures)
+    wrote-then (wrote-then (wrote-then (wrote-then (opened .put-bytes .ensures) (high .put-number .ensures) short) (spaced .put-byte .ensures) short) (low .put-number2 .ensures) short) (closed .put-byte2 .ensures) short
 
 pub put-extract-spec : {M : Type 1} → statement M
 put-extract-spec =
