@@ -15,7 +15,13 @@ ghost use Rattle.call_list.specs.Operations.{opFrom};
 ghost use Rattle.syntax.specs.Text.{operationText};
 ghost use Rattle.pieces.specs.Text.{numbered, spaced, applied, conjunction};
 ghost use Rattle.pieces.specs.Shape.{lineOf, bodyOf, nameOf};
-ghost use Rattle.pieces.specs.Arguments.{referenceBy, argumentTexts, extractionText};
+ghost use Rattle.pieces.specs.Arguments.{spelledBy, referenceBy, argumentTexts, extractionText};
+
+// How a term is written: by the name that the record at a place declares, or by its number.
+enum Reference {
+    Named(usize),
+    Numbered,
+}
 
 // What the line of a record does.
 pub enum Line {
@@ -129,7 +135,21 @@ pub fn put_numbered(text: &mut [u8], at: usize, term: usize) -> usize
     text::put_number(text, number, term)
 }
 
-// Writes a term, of so many so far: a declared one by its name, any other by its number.
+// How a term, of so many so far, is written: a declared one by its name, any other by its number.
+fn reference_of(calls: &[u32], places: &[u32], terms: usize, term: Term) -> Reference
+    ensures { λ r. ⌜ r ≡ spelledBy (now (places .entry)) (now (calls .entry)) terms (term .0) ⌝ }
+{
+    if terms <= term.0 as usize {
+        return Reference::Numbered;
+    }
+    let head = term_table::term_place(calls, places, term);
+    if call_list::is_declare(call_list::operation_at(calls, head)) {
+        return Reference::Named(head);
+    }
+    Reference::Numbered
+}
+
+// Writes a term, of so many so far.
 pub fn put_reference(
     text: &mut [u8],
     at: usize,
@@ -140,15 +160,10 @@ pub fn put_reference(
 ) -> usize
     ensures { λ r. ⌜ Wrote (now (text .entry)) at (referenceBy (now (places .entry)) (now (calls .entry)) terms (term .0)) (now (text .exit)) r ⌝ }
 {
-    let k = term.0 as usize;
-    if terms <= k {
-        return put_numbered(text, at, k);
+    match reference_of(calls, places, terms, term) {
+        Reference::Named(head) => put_declared(text, at, calls, head),
+        Reference::Numbered => put_numbered(text, at, term.0 as usize),
     }
-    let head = term_table::term_place(calls, places, term);
-    if call_list::is_declare(call_list::operation_at(calls, head)) {
-        return put_declared(text, at, calls, head);
-    }
-    put_numbered(text, at, k)
 }
 
 // Writes a space and a term.

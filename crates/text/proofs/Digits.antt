@@ -14,26 +14,21 @@ pub record Stored (text₀ : List ℕ) (at n : ℕ) (text : List ℕ) (left end 
   pub whole : decimal n ≡ decimal left ++ digits
   pub place : end ≡ at + length (decimal left)
   pub long : length text ≡ length text₀
-  pub room : end + length digits ≤ length text₀
   pub stored : text ≡ overwrite text₀ end digits
 
-pub stored-none : (text : List ℕ) (at n count : ℕ) → count ≡ length (decimal n) → at + count ≤ length text
-    → Stored text at n text n (at + count)
-stored-none text at n count is fits = record {
+pub stored-none : (text : List ℕ) (at n count : ℕ) → count ≡ length (decimal n) → Stored text at n text n (at + count)
+stored-none text at n count is = record {
   digits = [];
   whole = sym (append-nil (decimal n));
   place = ap (λ (k : ℕ). at + k) is;
   long = refl;
-  room = omega arith;
   stored = sym (overwrite-none text (at + count));
 }
 
 module _ {text₀ text : List ℕ} {at n left end : ℕ} (here : Stored text₀ at n text left end) where
   -- There is a place before the digits for another.
-  pub stored-before : 10 ≤ left → (1 ≤ end) × (end - 1 < length text)
-  stored-before large =
-      let more = length-more left large in
-      (omega (arith, here .place), omega (arith, here .place, here .long, here .room))
+  pub stored-before : 10 ≤ left → 1 ≤ end
+  stored-before large = let more = length-more left large in omega (arith, here .place)
 
   pub stored-more : 10 ≤ left → Stored text₀ at n (set text (end - 1) (48 + left % 10)) (left / 10) (end - 1)
   stored-more large =
@@ -45,7 +40,6 @@ module _ {text₀ text : List ℕ} {at n left end : ℕ} (here : Stored text₀ 
             ∙ append-assoc (decimal (left / 10)) ((48 + left % 10) ∷ []) (here .digits);
         place = omega (arith, here .place);
         long = length-set text (end - 1) (48 + left % 10) ∙ here .long;
-        room = omega (arith, here .place, here .room);
         stored =
             ap (λ (l : List ℕ). set l (end - 1) (48 + left % 10))
             (here .stored ∙ ap (λ (k : ℕ). overwrite text₀ k (here .digits)) (sym next))
@@ -53,9 +47,6 @@ module _ {text₀ text : List ℕ} {at n left end : ℕ} (here : Stored text₀ 
       }
 
   -- The first digit is the last to be stored.
-  pub stored-first : left < 10 → at < length text
-  stored-first small = let one = length-one left small in omega (arith, here .place, here .long, here .room)
-
   pub stored-all : left < 10 → set text at (48 + left) ≡ overwrite text₀ at (decimal n)
   stored-all small =
       let one = length-one left small in

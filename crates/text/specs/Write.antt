@@ -2,13 +2,12 @@
 -- counted all the same, so that a text of no bytes tells how much room the whole needs.
 use mathlib.Core.Path.{_≡_, refl, sym, ap, _∙_}
 use mathlib.Core.List.{List, [], _∷_, _++_}
-use Prim.Native.Nat.{ℕ, suc, _+_, _-_, _<_, _≤_, _^_, min}
-use native.Mathlib.Nat.{zero-add, lt-of-not-le}
-use native.Mathlib.Decide.{decLe}
+use Prim.Native.Nat.{ℕ, suc, _+_, _-_, _<_, _≤_, _^_}
+use native.Mathlib.Nat.{zero-add}
 use native.Mathlib.Numerals.{add-one}
 use native.Mathlib.Omega.{arith}
 use lib.ListN.{length, take, drop, getD, set, take-append-drop}
-use lib.Seq.{sets-eq, set-comm, take-suc, take-at, take-all, length-take-le}
+use lib.Seq.{sets-eq, set-comm, take-suc, take-at, length-take-le}
 use Rattle.engine.specs.Emit.{Wrote, overwrite, counted, length-overwrite, overwrite-out, overwrite-append}
 
 pub overwrite-none : (text : List ℕ) (at : ℕ) → overwrite text at [] ≡ text
@@ -33,22 +32,14 @@ overwrite-next text at bytes i inside =
     sym (rw (add-one i, take-suc bytes i 0 inside) (overwrite-append text at (take i bytes) (getD bytes i 0 ∷ []) ∙ rw long))
 
 -- Only the bytes for which there is room change the text.
-pub overwrite-room : (text : List ℕ) (at : ℕ) (bytes : List ℕ)
-    → overwrite text at (take (min (length bytes) (length text - at)) bytes) ≡ overwrite text at bytes
-overwrite-room text at bytes = go (decLe (length bytes) (length text - at))
-  where
-    go : Dec (length bytes ≤ length text - at)
-        → overwrite text at (take (min (length bytes) (length text - at)) bytes) ≡ overwrite text at bytes
-    go (yes fits) = ap (overwrite text at) (take-all (min (length bytes) (length text - at)) bytes (omega arith))
-    go (no more) =
-        let room = length text - at in
-        let few : room < length bytes = lt-of-not-le more in
-        let least : min (length bytes) room ≡ room = omega arith in
-        let long : length (take room bytes) ≡ room = length-take-le room bytes (omega arith) in
-        let same = length-overwrite text at (take room bytes) in
-        rw least
-        (sym (ap (overwrite text at) (sym (take-append-drop room bytes)) ∙ overwrite-append text at (take room bytes) (drop room bytes)
-        ∙ overwrite-out (overwrite text at (take room bytes)) (at + length (take room bytes)) (drop room bytes) (omega arith)))
+pub overwrite-room : (text : List ℕ) (at : ℕ) (bytes : List ℕ) → length text - at ≤ length bytes
+    → overwrite text at (take (length text - at) bytes) ≡ overwrite text at bytes
+overwrite-room text at bytes few =
+    let room = length text - at in
+    let long : length (take room bytes) ≡ room = length-take-le room bytes few in
+    let same = length-overwrite text at (take room bytes) in
+    sym (ap (overwrite text at) (sym (take-append-drop room bytes)) ∙ overwrite-append text at (take room bytes) (drop room bytes)
+    ∙ overwrite-out (overwrite text at (take room bytes)) (at + length (take room bytes)) (drop room bytes) (omega arith))
 
 -- A byte before others.
 set-before : (bytes text : List ℕ) (at place b : ℕ) → at < place

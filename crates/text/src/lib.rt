@@ -1,7 +1,7 @@
 // Bytes of a lent text: reading one, and writing bytes, texts and decimal numbers with the next place counted past the end.
 ghost use mathlib.Core.Path.{_≡_};
 ghost use mathlib.Core.List.{_∷_, []};
-ghost use Prim.Native.Nat.{_+_, _-_, _≤_, min};
+ghost use Prim.Native.Nat.{_+_, _-_, _≤_, _<_, _^_};
 ghost use lib.ListN.{length, take, getD, set};
 ghost use Rattle.engine.specs.Emit.{Wrote, overwrite, counted};
 ghost use Rattle.text.specs.Bytes.{decimal};
@@ -42,16 +42,6 @@ pub fn put_byte(text: &mut [u8], at: usize, byte: u8) -> usize
     place_past(at, 1)
 }
 
-// How many of n bytes there is room for from a place on.
-fn fitting(room: usize, at: usize, n: usize) -> usize
-    ensures { λ r. ⌜ r ≡ min n (room - at) ⌝ }
-{
-    if room <= at {
-        return 0;
-    }
-    if room - at < n { room - at } else { n }
-}
-
 // Stores the first n of some bytes from a place on.
 fn copy_bytes(text: &mut [u8], at: usize, bytes: &[u8], n: usize)
     requires { ⌜ (n ≤ length (now bytes)) × (n ≤ length (now text) - at) ⌝ }
@@ -68,8 +58,15 @@ fn copy_bytes(text: &mut [u8], at: usize, bytes: &[u8], n: usize)
 pub fn put_bytes(text: &mut [u8], at: usize, bytes: &[u8]) -> usize
     ensures { λ r. ⌜ Wrote (now (text .entry)) at (now (bytes .entry)) (now (text .exit)) r ⌝ }
 {
-    let n = fitting(text.len(), at, bytes.len());
-    copy_bytes(text, at, bytes, n);
+    if text.len() <= at {
+        return place_past(at, bytes.len());
+    }
+    let room = text.len() - at;
+    if room < bytes.len() {
+        copy_bytes(text, at, bytes, room);
+        return place_past(at, bytes.len());
+    }
+    copy_bytes(text, at, bytes, bytes.len());
     place_past(at, bytes.len())
 }
 
@@ -95,30 +92,19 @@ fn digit_count(n: usize) -> usize
     count + 4
 }
 
-// Writes the decimal digits of a number one by one from a place on and gives the next place.
-fn put_digits(text: &mut [u8], at: usize, n: usize) -> usize
-    ensures { λ r. ⌜ Wrote (now (text .entry)) at (decimal n) (now (text .exit)) r ⌝ }
-{
-    if n < 10 {
-        return put_byte(text, at, (48 + n) as u8);
-    }
-    let last = put_digits(text, at, n / 10);
-    put_byte(text, last, (48 + n % 10) as u8)
-}
-
 // Stores the decimal digits of a number, of which there are so many, from a place on, the last one first.
 fn store_digits(text: &mut [u8], at: usize, n: usize, count: usize)
-    requires { ⌜ (count ≡ length (decimal n)) × (at + count ≤ length (now text)) ⌝ }
+    requires { ⌜ (count ≡ length (decimal n)) × (at + count < 2 ^ 64) ⌝ }
     ensures { λ _. ⌜ now (text .exit) ≡ overwrite (now (text .entry)) at (decimal n) ⌝ }
 {
     let mut left = n;
     let mut end = at + count;
     while 10 <= left {
         end -= 1;
-        text[end] = (48 + left % 10) as u8;
+        set_byte(text, end, (48 + left % 10) as u8);
         left = left / 10;
     }
-    text[at] = (48 + left) as u8;
+    set_byte(text, at, (48 + left) as u8);
 }
 
 // Writes a number in decimal from a place on and gives the next place.
@@ -126,13 +112,10 @@ pub fn put_number(text: &mut [u8], at: usize, n: usize) -> usize
     ensures { λ r. ⌜ Wrote (now (text .entry)) at (decimal n) (now (text .exit)) r ⌝ }
 {
     let count = digit_count(n);
-    if text.len() <= at {
+    if at < text.len() {
+        store_digits(text, at, n, count);
         return place_past(at, count);
     }
-    if text.len() - at < count {
-        return put_digits(text, at, n);
-    }
-    store_digits(text, at, n, count);
     place_past(at, count)
 }
 

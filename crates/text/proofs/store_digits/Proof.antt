@@ -2,9 +2,7 @@
 -- stand where they belong. The measure is what is left. Assumes nothing.
 use borrow.Author.Needs.{needs}
 use mathlib.Core.Path.{_∙_}
-use native.Mathlib.Omega.{arith}
-use lib.ListN.{length-set}
-use Rattle.text.proofs.Digits.{Stored, stored-none, stored-before, stored-more, stored-first, stored-all}
+use Rattle.text.proofs.Digits.{Stored, stored-none, stored-before, stored-more, stored-all}
 use Rattle.text.proofs.store_digits.Statement.{statement}
 use Rattle.text.proofs.store_digits.Tie as tie
 
@@ -18,40 +16,48 @@ add-end : tie.Need-add-end Inv-loop μ-loop
 add-end c = search needs
 
 loop-holds : tie.Need-loop-holds Inv-loop μ-loop
-loop-holds c = stored-none _ _ _ _ (c .pre .0) (c .pre .1)
+loop-holds c = stored-none _ _ _ _ (c .before .pre .0)
 
 sub-end : tie.Need-sub-end Inv-loop μ-loop
-sub-end c = stored-before (c .before .loop .inv) (c .loop-test .taken) .0
+sub-end c = stored-before (c .before .loop .inv) (c .loop-test .taken)
 
-add-text : tie.Need-add-text Inv-loop μ-loop
-add-text c = search needs
+add-set-byte : tie.Need-add-set-byte Inv-loop μ-loop
+add-set-byte c = search needs
 
-cast-text : tie.Need-cast-text Inv-loop μ-loop
-cast-text c = search needs
+cast-set-byte : tie.Need-cast-set-byte Inv-loop μ-loop
+cast-set-byte c = search needs
 
-slice-write-text : tie.Need-slice-write-text Inv-loop μ-loop
-slice-write-text c = stored-before (c .before .loop .inv) (c .loop-test .taken) .1
+set-byte-requires : tie.Need-set-byte-requires Inv-loop μ-loop
+set-byte-requires c κs = search needs
 
 loop-less : tie.Need-loop-less Inv-loop μ-loop
 loop-less c = search needs
 
 loop-again : tie.Need-loop-again Inv-loop μ-loop
-loop-again c = stored-more (c .before .loop .inv) (c .loop-test .taken)
+loop-again c =
+    let written = c .before .before in
+    let turn = written .before .before in
+    rw (written .set-byte .ensures) (stored-more (turn .before .loop .inv) (turn .loop-test .taken))
 
-add-text-2 : tie.Need-add-text-2 Inv-loop μ-loop
-add-text-2 c = search needs
+add-set-byte-2 : tie.Need-add-set-byte-2 Inv-loop μ-loop
+add-set-byte-2 c = search needs
 
-cast-text-2 : tie.Need-cast-text-2 Inv-loop μ-loop
-cast-text-2 c = search needs
+cast-set-byte-2 : tie.Need-cast-set-byte-2 Inv-loop μ-loop
+cast-set-byte-2 c = search needs
 
-slice-write-text-2 : tie.Need-slice-write-text-2 Inv-loop μ-loop
-slice-write-text-2 c = stored-first (c .before .loop .inv) (c .loop-test .left)
+set-byte-requires-2 : tie.Need-set-byte-requires-2 Inv-loop μ-loop
+set-byte-requires-2 c κs = search needs
 
 same-length : tie.Need-same-length Inv-loop μ-loop
-same-length c = length-set (c .before .loop .text) _ _ ∙ c .before .loop .inv .long
+same-length c =
+    let written = c .before .before in
+    written .set-byte2 .kept .0 ∙ written .before .before .before .loop .inv .long
 
 returns : tie.Need-returns Inv-loop μ-loop
-returns c = stored-all (c .before .loop .inv) (c .loop-test .left)
+returns c =
+    let written = c .before .before in
+    let done = written .before .before in
+    written .set-byte2 .ensures ∙ stored-all (done .before .loop .inv) (done .loop-test .left)
 
 pub store-digits-spec : {M : Type 1} → statement M
 store-digits-spec =
@@ -62,13 +68,13 @@ store-digits-spec =
     add-end
     loop-holds
     sub-end
-    add-text
-    cast-text
-    slice-write-text
+    add-set-byte
+    cast-set-byte
+    set-byte-requires
     loop-less
     loop-again
-    add-text-2
-    cast-text-2
-    slice-write-text-2
+    add-set-byte-2
+    cast-set-byte-2
+    set-byte-requires-2
     same-length
     returns)

@@ -1,8 +1,8 @@
--- `answer::pair_at` meets its contract: the four tokens of a pair in their order. Assumes nothing.
+-- `reply::pair_at` meets its contract: the four tokens of a pair in their order. Assumes nothing.
 use borrow.Author.Needs.{needs}
-use Rattle.answer.specs.Reply.{pairSpelled}
-use Rattle.answer.proofs.pair_at.Statement.{statement}
-use Rattle.answer.proofs.pair_at.Tie as tie
+use Rattle.reply.specs.Reply.{pairSpelled}
+use Rattle.reply.proofs.pair_at.Statement.{statement}
+use Rattle.reply.proofs.pair_at.Tie as tie
 
 slice-aggregate-expect-word : tie.Need-slice-aggregate-expect-word
 slice-aggregate-expect-word c = search needs

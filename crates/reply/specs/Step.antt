@@ -1,20 +1,24 @@
 -- What the steps of the code say of the tokens: a result with the place where reading goes on stands for the tokens from there.
+use mathlib.Core.Path.{_≡_, refl}
 use mathlib.Core.Bool.{Bool, cond}
-use mathlib.Core.List.{List, [], _∷_, _++_}
-use Prim.Native.Nat.{ℕ, zero, suc}
+use mathlib.Core.List.{List, []}
+use Prim.Native.Nat.{ℕ}
 use lib.Dec.{eqb}
 use Rattle.logic.specs.Trit.{shows, readbackNumber}
 use Rattle.logic.specs.declared.Readback.the-variants.{Shown, Absent}
+use Rattle.engine.specs.Call.{Name}
 use Rattle.text.specs.Names.{spelling}
-use Rattle.answer.specs.declared.Step.{Step}
-use Rattle.answer.specs.declared.Step.the-variants as step
-use Rattle.answer.specs.declared.Bit.{Bit}
-use Rattle.answer.specs.declared.Bit.the-variants as bit
-use Rattle.answer.specs.declared.Entry.{Entry}
-use Rattle.answer.specs.declared.Entry.the-variants as entry
-use Rattle.tokens.specs.Token.{Token}
-use Rattle.answer.specs.Reply.{Result, Reader, got, refused, return, onGot, _>>=_, _>>_, pairSpelled}
+use Rattle.tokens.specs.Token.{tokensOf}
 use Rattle.tokens.specs.Place.{tokensFrom}
+use Rattle.reply.specs.declared.Step.{Step}
+use Rattle.reply.specs.declared.Step.the-variants as step
+use Rattle.reply.specs.declared.Bit.{Bit}
+use Rattle.reply.specs.declared.Bit.the-variants as bit
+use Rattle.reply.specs.declared.Entry.{Entry}
+use Rattle.reply.specs.declared.Entry.the-variants as entry
+use Rattle.reply.specs.declared.Verdict.{Verdict}
+use Rattle.reply.specs.declared.Verdict.the-variants as verdict
+use Rattle.reply.specs.Reply.{Result, Reader, Reply, got, refused, return, _>>=_, pairSpelled, model, satisfied, unsat, bad}
 
 abbrev pub stepResult : List ℕ → Step → Result (Unit {0})
 stepResult text (step.At at) = got tt (tokensFrom text at)
@@ -33,11 +37,6 @@ abbrev pub entryResult : List ℕ → Entry → Result ℕ
 entryResult text (entry.Read number at) = got number (tokensFrom text at)
 entryResult text (entry.Refused e) = refused e
 
--- An entry, and those of the tokens after it.
-abbrev pub onEntry : Result ℕ → (List Token → List ℕ) → List ℕ
-onEntry (got number tokens) rest = number ∷ rest tokens
-onEntry (refused e) rest = []
-
 -- The trit of a slot from its two pairs.
 unfoldable pub trit : ℕ → ℕ → Reader ℕ
 trit letter slot = do
@@ -50,15 +49,13 @@ unfoldable pub entryOf : ℕ → ℕ → Reader ℕ
 entryOf slot mark =
     cond (eqb mark 1) (trit 110 slot) (cond (eqb mark 2) (trit 112 slot) (return (readbackNumber Absent)))
 
--- The entries of all slots, the first mark being the slot's.
-unfoldable pub entries : ℕ → List ℕ → Reader (List ℕ)
-entries slot [] = return []
-entries slot (mark ∷ marks) = do
-  number ← entryOf slot mark
-  numbers ← entries (suc slot) marks
-  return (number ∷ numbers)
+-- The reply that the first token leads to.
+abbrev pub replyAfter : List ℕ → List Name → Verdict → Reply
+replyAfter text names verdict.Unsat = unsat
+replyAfter text names (verdict.Sat at) = satisfied (model names (tokensFrom text at))
+replyAfter text names (verdict.Refused e) = bad e
 
--- The entries before the first fault.
-unfoldable pub written : ℕ → List ℕ → List Token → List ℕ
-written slot [] tokens = []
-written slot (mark ∷ marks) tokens = onEntry (entryOf slot mark tokens) (written (suc slot) marks)
+-- The whole text's tokens are those from its start.
+pub tokens-start : (text : List ℕ) → tokensOf text ≡ tokensFrom text 0
+unfolding tokensFrom
+tokens-start text = refl

@@ -1,8 +1,8 @@
--- `answer::end_at` meets its contract: the next token, if there is one, is unreadable. Assumes nothing.
+-- `reply::end_at` meets its contract: the next token, if there is one, is unreadable. Assumes nothing.
 use borrow.Author.Needs.{needs}
 use Rattle.tokens.proofs.Laws.{found-end, found-token}
-use Rattle.answer.proofs.end_at.Statement.{statement}
-use Rattle.answer.proofs.end_at.Tie as tie
+use Rattle.reply.proofs.end_at.Statement.{statement}
+use Rattle.reply.proofs.end_at.Tie as tie
 
 next-token-requires : tie.Need-next-token-requires
 next-token-requires c κs = search needs

@@ -1,8 +1,8 @@
--- `answer::expect_word` meets its contract: the next token is compared with the word. Assumes nothing.
+-- `reply::expect_word` meets its contract: the next token is compared with the word. Assumes nothing.
 use borrow.Author.Needs.{needs}
 use Rattle.tokens.proofs.Laws.{found-end, found-token, found-inside}
-use Rattle.answer.proofs.expect_word.Statement.{statement}
-use Rattle.answer.proofs.expect_word.Tie as tie
+use Rattle.reply.proofs.expect_word.Statement.{statement}
+use Rattle.reply.proofs.expect_word.Tie as tie
 
 next-token-requires : tie.Need-next-token-requires
 next-token-requires c κs = search needs

@@ -1,9 +1,9 @@
--- `answer::entry_at` meets its contract: its tests are those of `entryOf`, in the same order. Assumes nothing.
+-- `reply::entry_at` meets its contract: its tests are those of `entryOf`, in the same order. Assumes nothing.
 use borrow.Author.Needs.{needs}
 use borrow.Author.Tests.{eq-eqb, ne-eqb}
-use Rattle.answer.specs.Step.{entryOf}
-use Rattle.answer.proofs.entry_at.Statement.{statement}
-use Rattle.answer.proofs.entry_at.Tie as tie
+use Rattle.reply.specs.Step.{entryOf}
+use Rattle.reply.proofs.entry_at.Statement.{statement}
+use Rattle.reply.proofs.entry_at.Tie as tie
 
 trit-at-requires : tie.Need-trit-at-requires
 trit-at-requires c κs = search needs

@@ -1,8 +1,8 @@
--- `answer::trit_at` meets its contract: x and then y, and the trit that they show. Assumes nothing.
+-- `reply::trit_at` meets its contract: x and then y, and the trit that they show. Assumes nothing.
 use borrow.Author.Needs.{needs}
-use Rattle.answer.specs.Step.{trit}
-use Rattle.answer.proofs.trit_at.Statement.{statement}
-use Rattle.answer.proofs.trit_at.Tie as tie
+use Rattle.reply.specs.Step.{trit}
+use Rattle.reply.proofs.trit_at.Statement.{statement}
+use Rattle.reply.proofs.trit_at.Tie as tie
 
 slot-pair-at-requires : tie.Need-slot-pair-at-requires
 slot-pair-at-requires c κs = search needs

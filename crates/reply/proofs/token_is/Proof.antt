@@ -1,4 +1,4 @@
--- `answer::token_is` meets its contract. The loop's invariant: the token is the word exactly when their bytes from `i` on are the same.
+-- `reply::token_is` meets its contract. The loop's invariant: the token is the word exactly when their bytes from `i` on are the same.
 -- The measure is the number of bytes left. Assumes nothing.
 use borrow.Author.Needs.{needs}
 use Prim.Native.Nat.{_-_, _+_, _≤_, _<_}
@@ -6,11 +6,11 @@ use mathlib.Core.Path.{_≡_, sym, _∙_}
 use native.Mathlib.Omega.{arith}
 use lib.ListN.{length, drop}
 use lib.Seq.{slice}
-use Rattle.answer.specs.Reply.{same}
-use Rattle.answer.specs.Same.{same-length, same-done, same-stops, same-goes}
+use Rattle.reply.specs.Reply.{same}
+use Rattle.reply.specs.Same.{same-length, same-done, same-stops, same-goes}
 use native.Mathlib.Nat.{add-zero}
-use Rattle.answer.proofs.token_is.Statement.{statement}
-use Rattle.answer.proofs.token_is.Tie as tie
+use Rattle.reply.proofs.token_is.Statement.{statement}
+use Rattle.reply.proofs.token_is.Tie as tie
 
 abbrev Inv-loop : tie.InvT-loop
 Inv-loop text start end word i₀ i = (i ≤ length word) × (same (slice start end text) word ≡ same (slice (start + i) end text) (drop i word))

@@ -9,7 +9,7 @@ use lib.Dec.{eqb}
 use lib.ListN.{length, drop, getD}
 use lib.Seq.{slice, slice-cons, slice-empty, drop-cons, drop-length, length-slice}
 use borrow.Author.Tests.{eq-eqb, ne-eqb}
-use Rattle.answer.specs.Reply.{same}
+use Rattle.reply.specs.Reply.{same}
 
 and-false : (b : Bool) → (b && false) ≡ false
 and-false true = refl

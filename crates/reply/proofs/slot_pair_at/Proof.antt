@@ -1,12 +1,12 @@
--- `answer::slot_pair_at` meets its contract: the name is spelled into 24 bytes, which hold any, and its pair is read. Assumes nothing.
+-- `reply::slot_pair_at` meets its contract: the name is spelled into 24 bytes, which hold any, and its pair is read. Assumes nothing.
 use borrow.Author.Needs.{needs}
 use native.Mathlib.Omega.{arith}
 use mathlib.Core.Path.{sym}
 use lib.Seq.{length-take-le}
 use Rattle.text.specs.Names.{spelling-length}
 use Rattle.text.specs.Write.{start-inside, start-bytes}
-use Rattle.answer.proofs.slot_pair_at.Statement.{statement}
-use Rattle.answer.proofs.slot_pair_at.Tie as tie
+use Rattle.reply.proofs.slot_pair_at.Statement.{statement}
+use Rattle.reply.proofs.slot_pair_at.Tie as tie
 
 slice-aggregate-put-name : tie.Need-slice-aggregate-put-name
 slice-aggregate-put-name c = search needs
