@@ -1,27 +1,24 @@
 -- What the writer's functions need to know of the pieces of a line.
 use mathlib.Core.Path.{_≡_, refl, sym, ap, _∙_}
-use mathlib.Core.Bool.{Bool, true, false, cond}
+use mathlib.Core.Bool.{true, false, cond}
 use mathlib.Core.List.{List, [], _∷_, _++_, append-assoc, append-nil}
 use Prim.Native.Nat.{ℕ, zero, suc, _+_, _<_, _≤_}
 use native.Mathlib.Numerals.{add-one}
 use lib.ListN.{getD}
-use lib.Dec.{ltb}
 use borrow.Author.Tests.{lt-ltb, le-ltb}
 use Rattle.logic.specs.Table.{tab}
 use Rattle.engine.specs.Call as c
-use Rattle.engine.specs.Encode.{Op, callOf, callAt, letters, suffixes, operationAt, countAt}
+use Rattle.engine.specs.Encode.{Op, callOf, letters, suffixes, operationAt, countAt}
 use Rattle.engine.specs.Encode as o
-use Rattle.text.specs.Bytes.{ascii}
-use Rattle.text.specs.Names.{nameText}
+use Rattle.text.specs.Bytes.{ascii, decimal}
+use Rattle.text.specs.Names.{letterText, suffixText, nameText}
 use Rattle.call_list.specs.Literal.{payloads}
 use Rattle.call_list.specs.Operations.{isDeclare}
 use Rattle.term_table.specs.Tables.{placeBy}
 use Rattle.syntax.specs.Text.{operationText}
 use Rattle.pieces.specs.Text.{numbered, spelledAs, spaced, applied, conjunction}
 use Rattle.pieces.specs.Shape.{nameOf}
-use Rattle.pieces.specs.declared.Reference.{Reference}
-use Rattle.pieces.specs.declared.Reference.the-variants.{Named, Numbered}
-use Rattle.pieces.specs.Arguments.{spelledBy, referenceBy}
+use Rattle.pieces.specs.Arguments.{referenceBy}
 
 -- A declared term is written by its name, any other by its number.
 spelled-by : (op : Op) (n : ℕ) (a : ℕ → ℕ) (k : ℕ) → spelledAs k (callOf op n a) ≡ cond (isDeclare op) (nameText (nameOf a)) (numbered k)
@@ -55,34 +52,31 @@ suffix-none (suc zero) one two = absurd (one refl)
 suffix-none (suc (suc zero)) one two = absurd (two refl)
 suffix-none (suc (suc (suc n))) one two = refl
 
+-- The name that a record's arguments spell.
+pub name-spelled : {letter index suffix : ℕ} (a : ℕ → ℕ) → (letter ∷ []) ≡ letterText (getD letters (a 0) c.n) → index ≡ a 1 → suffix ≡ a 2
+    → (letter ∷ []) ++ decimal index ++ suffixText (getD suffixes suffix c.none) ≡ nameText (nameOf a)
+name-spelled {letter} {index} {suffix} a is-letter is-index is-suffix =
+    ap (λ (l : List ℕ). l ++ decimal index ++ suffixText (getD suffixes suffix c.none)) is-letter ∙ rw (is-index, is-suffix)
+
+-- k and a number have no suffix.
+pub numbered-spelled : (k : ℕ) → (107 ∷ []) ++ decimal k ++ [] ≡ numbered k
+numbered-spelled k = append-nil _
+
 -- How a term is written by its record.
-abbrev pub spelling : List ℕ → ℕ → Reference → List ℕ
-spelling w k (Named head) = nameText (nameOf (payloads w head))
-spelling w k Numbered = numbered k
+module _ (places w : List ℕ) (terms term : ℕ) where
+  pub reference-past : terms ≤ term → referenceBy places w terms term ≡ numbered term
+  reference-past h = rw (le-ltb term terms h)
 
-pub reference-spelled : (places w : List ℕ) (terms k : ℕ) → referenceBy places w terms k ≡ spelling w k (spelledBy places w terms k)
-reference-spelled places w terms k = go (ltb k terms) refl
-  where
-    at : ℕ
-    at = placeBy places w k
+  module _ (low : term < terms) {at : ℕ} (found : at ≡ placeBy places w term) where
+    by-operation : referenceBy places w terms term
+        ≡ cond (isDeclare (operationAt w at)) (nameText (nameOf (payloads w at))) (numbered term)
+    by-operation = rw (lt-ltb term terms low, ← found) (spelled-by (operationAt w at) (countAt w at) (payloads w at) term)
 
-    by-record : (declares : Bool) → isDeclare (operationAt w at) ≡ declares
-        → spelledAs k (callAt w at) ≡ spelling w k (cond (isDeclare (operationAt w at)) (Named at) Numbered)
-    by-record true e = spelled-by (operationAt w at) (countAt w at) (payloads w at) k ∙ rw e
-    by-record false e = spelled-by (operationAt w at) (countAt w at) (payloads w at) k ∙ rw e
+    pub reference-declared : isDeclare (operationAt w at) ≡ true → referenceBy places w terms term ≡ nameText (nameOf (payloads w at))
+    reference-declared e = by-operation ∙ rw e
 
-    go : (low : Bool) → ltb k terms ≡ low → referenceBy places w terms k ≡ spelling w k (spelledBy places w terms k)
-    go true e = rw e (by-record (isDeclare (operationAt w at)) refl)
-    go false e = rw e
-
-module _ (places w : List ℕ) (terms k : ℕ) where
-  pub spelled-past : terms ≤ k → Numbered ≡ spelledBy places w terms k
-  spelled-past h = rw (le-ltb k terms h)
-
-  pub spelled-record : {at : ℕ} {op : Op} {declares told : Bool} → k < terms → at ≡ placeBy places w k → op ≡ operationAt w at
-      → declares ≡ isDeclare op → declares ≡ told → cond told (Named at) Numbered ≡ spelledBy places w terms k
-  spelled-record low found is-op is-declares is-told =
-      rw (lt-ltb k terms low, ← found, ← is-op, ← is-declares, is-told)
+    pub reference-numbered : isDeclare (operationAt w at) ≡ false → referenceBy places w terms term ≡ numbered term
+    reference-numbered e = by-operation ∙ rw e
 
 -- Texts after others, and one text.
 pub spaced-append : (a b : List (List ℕ)) → spaced (a ++ b) ≡ spaced a ++ spaced b

@@ -15,12 +15,13 @@ ghost use Rattle.call_list.specs.Operations.{opFrom};
 ghost use Rattle.syntax.specs.Text.{operationText};
 ghost use Rattle.pieces.specs.Text.{numbered, spaced, applied, conjunction};
 ghost use Rattle.pieces.specs.Shape.{lineOf, bodyOf, nameOf};
-ghost use Rattle.pieces.specs.Arguments.{spelledBy, referenceBy, argumentTexts, extractionText};
+ghost use Rattle.pieces.specs.Arguments.{spelled, referenceBy, argumentTexts, extractionText};
 
-// How a term is written: by the name that the record at a place declares, or by its number.
-enum Reference {
-    Named(usize),
-    Numbered,
+// How a term is written: a letter, a number and a suffix, by its number.
+struct Spelling {
+    letter: u8,
+    index: usize,
+    suffix: u32,
 }
 
 // What the line of a record does.
@@ -114,39 +115,64 @@ fn put_suffix(text: &mut [u8], at: usize, suffix: u32) -> usize
     at
 }
 
+// Writes a letter, a number and a suffix.
+fn put_spelling(text: &mut [u8], at: usize, word: Spelling) -> usize
+    ensures { λ r. ⌜ Wrote (now (text .entry)) at (spelled word) (now (text .exit)) r ⌝ }
+{
+    let index = text::put_byte(text, at, word.letter);
+    let suffix = text::put_number(text, index, word.index);
+    put_suffix(text, suffix, word.suffix)
+}
+
+// The name that the record at a place declares.
+fn declared_name(calls: &[u32], head: usize) -> Spelling
+    ensures { λ r. ⌜ spelled r ≡ nameText (nameOf (payloads (now (calls .entry)) head)) ⌝ }
+{
+    Spelling {
+        letter: letter_byte(call_list::argument_at(calls, head, 0)),
+        index: call_list::argument_at(calls, head, 1) as usize,
+        suffix: call_list::argument_at(calls, head, 2),
+    }
+}
+
+// k and a term's number.
+fn number_of(term: usize) -> Spelling
+    ensures { λ r. ⌜ spelled r ≡ numbered term ⌝ }
+{
+    Spelling {
+        letter: b'k',
+        index: term,
+        suffix: 0,
+    }
+}
+
 // Writes the name that the record at a place declares.
 pub fn put_declared(text: &mut [u8], at: usize, calls: &[u32], head: usize) -> usize
     ensures { λ r. ⌜ Wrote (now (text .entry)) at (nameText (nameOf (payloads (now (calls .entry)) head))) (now (text .exit)) r ⌝ }
 {
-    let index = text::put_byte(
-        text,
-        at,
-        letter_byte(call_list::argument_at(calls, head, 0)),
-    );
-    let suffix = text::put_number(text, index, call_list::argument_at(calls, head, 1) as usize);
-    put_suffix(text, suffix, call_list::argument_at(calls, head, 2))
+    put_spelling(text, at, declared_name(calls, head))
 }
 
 // Writes k and a term's number.
 pub fn put_numbered(text: &mut [u8], at: usize, term: usize) -> usize
     ensures { λ r. ⌜ Wrote (now (text .entry)) at (numbered term) (now (text .exit)) r ⌝ }
 {
-    let number = text::put_byte(text, at, b'k');
-    text::put_number(text, number, term)
+    put_spelling(text, at, number_of(term))
 }
 
 // How a term, of so many so far, is written: a declared one by its name, any other by its number.
-fn reference_of(calls: &[u32], places: &[u32], terms: usize, term: Term) -> Reference
-    ensures { λ r. ⌜ r ≡ spelledBy (now (places .entry)) (now (calls .entry)) terms (term .0) ⌝ }
+fn reference_of(calls: &[u32], places: &[u32], terms: usize, term: Term) -> Spelling
+    ensures { λ r. ⌜ spelled r ≡ referenceBy (now (places .entry)) (now (calls .entry)) terms (term .0) ⌝ }
 {
-    if terms <= term.0 as usize {
-        return Reference::Numbered;
+    let k = term.0 as usize;
+    if terms <= k {
+        return number_of(k);
     }
     let head = term_table::term_place(calls, places, term);
     if call_list::is_declare(call_list::operation_at(calls, head)) {
-        return Reference::Named(head);
+        return declared_name(calls, head);
     }
-    Reference::Numbered
+    number_of(k)
 }
 
 // Writes a term, of so many so far.
@@ -160,10 +186,7 @@ pub fn put_reference(
 ) -> usize
     ensures { λ r. ⌜ Wrote (now (text .entry)) at (referenceBy (now (places .entry)) (now (calls .entry)) terms (term .0)) (now (text .exit)) r ⌝ }
 {
-    match reference_of(calls, places, terms, term) {
-        Reference::Named(head) => put_declared(text, at, calls, head),
-        Reference::Numbered => put_numbered(text, at, term.0 as usize),
-    }
+    put_spelling(text, at, reference_of(calls, places, terms, term))
 }
 
 // Writes a space and a term.
