@@ -17,7 +17,8 @@ use Rattle.answer.specs.declared.Mark.the-variants.{Fine, Bad}
 use Rattle.reply.specs.declared.Step.{Step}
 use Rattle.reply.specs.declared.Step.the-variants as step
 use Rattle.tokens.specs.Token.{Token, tokensOf}
-use Rattle.reply.specs.Reply.{Result, Reader, Reply, got, refused, return, onGot, pairs, expect, ended, model, refuse, reply}
+use Rattle.reply.specs.Reply.{Result, Reader, Reply, got, refused, return}
+use Rattle.reply.specs.Reply.{onGot, pairs, expect, ended, model, refuse, reply}
 use Rattle.answer.specs.Reply.{table, badMark, replyTo, tableAfter, answerOf, Read}
 use Rattle.tokens.specs.Place.{tokensFrom}
 use Rattle.answer.specs.Entries.{entries, written, forget, nothing, entries-table, whole}

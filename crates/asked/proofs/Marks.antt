@@ -26,7 +26,8 @@ use Rattle.asked.specs.Marks.{any, declaresName, allDeclared, markStands
 
 -- A record declares a name if it is a declaration, by the name that its arguments spell.
 declares-by : (op : Op) (n : ℕ) (a : ℕ → ℕ) (letter index suffix : ℕ)
-    → declaresName letter index suffix (callOf op n a) ≡ cond (isDeclare op) (isName letter index suffix (nameOf a)) false
+    → declaresName letter index suffix (callOf op n a)
+    ≡ cond (isDeclare op) (isName letter index suffix (nameOf a)) false
 declares-by o.boolLit n a letter index suffix = refl
 declares-by o.boolIte n a letter index suffix = refl
 declares-by o.not n a letter index suffix = refl
@@ -45,7 +46,8 @@ declares-by o.check n a letter index suffix = refl
 declares-by o.unknown n a letter index suffix = refl
 
 pub declares-at : (w : List ℕ) (at letter index suffix : ℕ)
-    → declaresName letter index suffix (callAt w at) ≡ cond (isDeclare (operationAt w at)) (isName letter index suffix (nameOf (payloads w at))) false
+    → declaresName letter index suffix (callAt w at)
+    ≡ cond (isDeclare (operationAt w at)) (isName letter index suffix (nameOf (payloads w at))) false
 declares-at w at letter index suffix = declares-by (operationAt w at) (countAt w at) (payloads w at) letter index suffix
 
 -- The number of a letter or a suffix is the low number of its word.

@@ -48,7 +48,8 @@ fn has_check(calls: &[u32]) -> bool
 
 // Writes the two names of a slot, x then y, with a space between them.
 fn put_pair(text: &mut [u8], at: usize, letter: u8, slot: usize) -> usize
-    ensures { λ r. ⌜ Wrote (now (text .entry)) at (spelling letter slot 120 ++ (ascii " " ++ spelling letter slot 121)) (now (text .exit)) r ⌝ }
+    ensures { λ r. ⌜ Wrote (now (text .entry)) at
+        (spelling letter slot 120 ++ (ascii " " ++ spelling letter slot 121)) (now (text .exit)) r ⌝ }
 {
     let space = text::put_name(text, at, letter, slot, b'x');
     put_second(text, space, letter, slot)
@@ -64,7 +65,8 @@ fn put_second(text: &mut [u8], at: usize, letter: u8, slot: usize) -> usize
 
 // Writes a space and the two names of a slot.
 fn put_spaced_pair(text: &mut [u8], at: usize, letter: u8, slot: usize) -> usize
-    ensures { λ r. ⌜ Wrote (now (text .entry)) at (ascii " " ++ (spelling letter slot 120 ++ (ascii " " ++ spelling letter slot 121))) (now (text .exit)) r ⌝ }
+    ensures { λ r. ⌜ Wrote (now (text .entry)) at
+        (ascii " " ++ (spelling letter slot 120 ++ (ascii " " ++ spelling letter slot 121))) (now (text .exit)) r ⌝ }
 {
     let names = text::put_byte(text, at, b' ');
     put_pair(text, names, letter, slot)
@@ -72,7 +74,8 @@ fn put_spaced_pair(text: &mut [u8], at: usize, letter: u8, slot: usize) -> usize
 
 // Writes the names that a slot's mark asks for, each after a space.
 fn put_mark_names(text: &mut [u8], at: usize, slot: usize, mark: u8) -> usize
-    ensures { λ r. ⌜ Wrote (now (text .entry)) at (spaced (map nameText (namesOfMark slot mark))) (now (text .exit)) r ⌝ }
+    ensures { λ r. ⌜ Wrote (now (text .entry)) at
+        (spaced (map nameText (namesOfMark slot mark))) (now (text .exit)) r ⌝ }
 {
     if mark == 1 {
         return put_spaced_pair(text, at, b'n', slot);
@@ -117,7 +120,8 @@ fn first_asked(recorded: &[u8]) -> usize
 // Writes the line that asks for values, from the first slot that is asked for.
 fn put_values(text: &mut [u8], at: usize, letter: u8, recorded: &[u8], slot: usize) -> usize
     requires { ⌜ slot < length (now recorded) ⌝ }
-    ensures { λ r. ⌜ Wrote (now (text .entry)) at (valuesText letter slot (namesFrom (now (recorded .entry)) (slot + 1))) (now (text .exit)) r ⌝ }
+    ensures { λ r. ⌜ Wrote (now (text .entry)) at
+        (valuesText letter slot (namesFrom (now (recorded .entry)) (slot + 1))) (now (text .exit)) r ⌝ }
 {
     let names = text::put_bytes(text, at, b"(get-value (");
     let rest = put_pair(text, names, letter, slot);
@@ -141,7 +145,9 @@ fn put_get_value(text: &mut [u8], at: usize, recorded: &[u8]) -> usize
 
 // Writes what follows the calls' lines.
 pub fn put_ending(text: &mut [u8], at: usize, calls: &[u32], recorded: &[u8]) -> usize
-    ensures { λ r. ⌜ Wrote (now (text .entry)) at (ending (leaves sorts.start (decode (now (calls .entry))) .checked) (asked (now (recorded .entry)))) (now (text .exit)) r ⌝ }
+    ensures { λ r. ⌜ Wrote (now (text .entry)) at
+        (ending (leaves sorts.start (decode (now (calls .entry))) .checked) (asked (now (recorded .entry))))
+        (now (text .exit)) r ⌝ }
 {
     if has_check(calls) {
         return put_get_value(text, at, recorded);

@@ -21,7 +21,8 @@ use Rattle.pieces.specs.Shape.{nameOf}
 use Rattle.pieces.specs.Arguments.{referenceBy}
 
 -- A declared term is written by its name, any other by its number.
-spelled-by : (op : Op) (n : ℕ) (a : ℕ → ℕ) (k : ℕ) → spelledAs k (callOf op n a) ≡ cond (isDeclare op) (nameText (nameOf a)) (numbered k)
+spelled-by : (op : Op) (n : ℕ) (a : ℕ → ℕ) (k : ℕ)
+    → spelledAs k (callOf op n a) ≡ cond (isDeclare op) (nameText (nameOf a)) (numbered k)
 spelled-by o.boolLit n a k = refl
 spelled-by o.boolIte n a k = refl
 spelled-by o.not n a k = refl
@@ -53,10 +54,12 @@ suffix-none (suc (suc zero)) one two = absurd (two refl)
 suffix-none (suc (suc (suc n))) one two = refl
 
 -- The name that a record's arguments spell.
-pub name-spelled : {letter index suffix : ℕ} (a : ℕ → ℕ) → (letter ∷ []) ≡ letterText (getD letters (a 0) c.n) → index ≡ a 1 → suffix ≡ a 2
+pub name-spelled : {letter index suffix : ℕ} (a : ℕ → ℕ) → (letter ∷ []) ≡ letterText (getD letters (a 0) c.n)
+    → index ≡ a 1 → suffix ≡ a 2
     → (letter ∷ []) ++ decimal index ++ suffixText (getD suffixes suffix c.none) ≡ nameText (nameOf a)
 name-spelled {letter} {index} {suffix} a is-letter is-index is-suffix =
-    ap (λ (l : List ℕ). l ++ decimal index ++ suffixText (getD suffixes suffix c.none)) is-letter ∙ rw (is-index, is-suffix)
+    ap (λ (l : List ℕ). l ++ decimal index ++ suffixText (getD suffixes suffix c.none)) is-letter
+    ∙ rw (is-index, is-suffix)
 
 -- k and a number have no suffix.
 pub numbered-spelled : (k : ℕ) → (107 ∷ []) ++ decimal k ++ [] ≡ numbered k
@@ -70,9 +73,11 @@ module _ (places w : List ℕ) (terms term : ℕ) where
   module _ (low : term < terms) {at : ℕ} (found : at ≡ placeBy places w term) where
     by-operation : referenceBy places w terms term
         ≡ cond (isDeclare (operationAt w at)) (nameText (nameOf (payloads w at))) (numbered term)
-    by-operation = rw (lt-ltb term terms low, ← found) (spelled-by (operationAt w at) (countAt w at) (payloads w at) term)
+    by-operation = rw (lt-ltb term terms low, ← found)
+        (spelled-by (operationAt w at) (countAt w at) (payloads w at) term)
 
-    pub reference-declared : isDeclare (operationAt w at) ≡ true → referenceBy places w terms term ≡ nameText (nameOf (payloads w at))
+    pub reference-declared : isDeclare (operationAt w at) ≡ true
+        → referenceBy places w terms term ≡ nameText (nameOf (payloads w at))
     reference-declared e = by-operation ∙ rw e
 
     pub reference-numbered : isDeclare (operationAt w at) ≡ false → referenceBy places w terms term ≡ numbered term

@@ -1,5 +1,5 @@
-// The pieces of a script's lines: names, terms and applications as SMT-LIB text in a lent slice of bytes. Each function writes a piece from
-// a place on and gives the next place; past the slice's end it only counts.
+// The pieces of a script's lines: names, terms and applications as SMT-LIB text in a lent slice of bytes. Each function
+// writes a piece from a place on and gives the next place; past the slice's end it only counts.
 use call_list::Operation;
 use logic::Term;
 ghost use mathlib.Core.Path.{_≡_};
@@ -148,7 +148,8 @@ fn number_of(term: usize) -> Spelling
 
 // Writes the name that the record at a place declares.
 pub fn put_declared(text: &mut [u8], at: usize, calls: &[u32], head: usize) -> usize
-    ensures { λ r. ⌜ Wrote (now (text .entry)) at (nameText (nameOf (payloads (now (calls .entry)) head))) (now (text .exit)) r ⌝ }
+    ensures { λ r. ⌜ Wrote (now (text .entry)) at (nameText (nameOf (payloads (now (calls .entry)) head)))
+        (now (text .exit)) r ⌝ }
 {
     put_spelling(text, at, declared_name(calls, head))
 }
@@ -184,7 +185,8 @@ pub fn put_reference(
     terms: usize,
     term: Term,
 ) -> usize
-    ensures { λ r. ⌜ Wrote (now (text .entry)) at (referenceBy (now (places .entry)) (now (calls .entry)) terms (term .0)) (now (text .exit)) r ⌝ }
+    ensures { λ r. ⌜ Wrote (now (text .entry)) at
+        (referenceBy (now (places .entry)) (now (calls .entry)) terms (term .0)) (now (text .exit)) r ⌝ }
 {
     put_spelling(text, at, reference_of(calls, places, terms, term))
 }
@@ -198,7 +200,8 @@ fn put_argument(
     terms: usize,
     term: Term,
 ) -> usize
-    ensures { λ r. ⌜ Wrote (now (text .entry)) at (ascii " " ++ referenceBy (now (places .entry)) (now (calls .entry)) terms (term .0)) (now (text .exit)) r ⌝ }
+    ensures { λ r. ⌜ Wrote (now (text .entry)) at
+        (ascii " " ++ referenceBy (now (places .entry)) (now (calls .entry)) terms (term .0)) (now (text .exit)) r ⌝ }
 {
     let next = text::put_byte(text, at, b' ');
     put_reference(text, next, calls, places, terms, term)
@@ -214,7 +217,8 @@ fn put_arguments(
     head: usize,
     n: u32,
 ) -> usize
-    ensures { λ r. ⌜ Wrote (now (text .entry)) start (spaced (argumentTexts (now (places .entry)) (now (calls .entry)) terms head n)) (now (text .exit)) r ⌝ }
+    ensures { λ r. ⌜ Wrote (now (text .entry)) start
+        (spaced (argumentTexts (now (places .entry)) (now (calls .entry)) terms head n)) (now (text .exit)) r ⌝ }
 {
     let mut at = start;
     let mut i = 0;
@@ -237,7 +241,9 @@ pub fn put_application(
     operation: Operation,
     n: u32,
 ) -> usize
-    ensures { λ r. ⌜ Wrote (now (text .entry)) at (applied (operationText (opFrom operation)) (argumentTexts (now (places .entry)) (now (calls .entry)) terms head n)) (now (text .exit)) r ⌝ }
+    ensures { λ r. ⌜ Wrote (now (text .entry)) at
+        (applied (operationText (opFrom operation))
+        (argumentTexts (now (places .entry)) (now (calls .entry)) terms head n)) (now (text .exit)) r ⌝ }
 {
     let name = text::put_byte(text, at, b'(');
     let arguments = syntax::put_operation(text, name, operation);
@@ -255,7 +261,8 @@ pub fn put_conjunction(
     head: usize,
     n: u32,
 ) -> usize
-    ensures { λ r. ⌜ Wrote (now (text .entry)) at (conjunction (argumentTexts (now (places .entry)) (now (calls .entry)) terms head n)) (now (text .exit)) r ⌝ }
+    ensures { λ r. ⌜ Wrote (now (text .entry)) at
+        (conjunction (argumentTexts (now (places .entry)) (now (calls .entry)) terms head n)) (now (text .exit)) r ⌝ }
 {
     if n == 1 {
         let term = Term(call_list::argument_at(calls, head, 0));
@@ -273,7 +280,8 @@ pub fn put_extraction(
     terms: usize,
     head: usize,
 ) -> usize
-    ensures { λ r. ⌜ Wrote (now (text .entry)) at (extractionText (now (places .entry)) (now (calls .entry)) terms head) (now (text .exit)) r ⌝ }
+    ensures { λ r. ⌜ Wrote (now (text .entry)) at
+        (extractionText (now (places .entry)) (now (calls .entry)) terms head) (now (text .exit)) r ⌝ }
 {
     let operation = text::put_byte(text, at, b'(');
     let high = call_list::argument_at(calls, head, 0) as usize;

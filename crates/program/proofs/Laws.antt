@@ -1,5 +1,5 @@
--- Laws of what the program writes: the words of the input one by one, the slots of an accepted list, a script that fits, and what is written for
--- each answer of `verify`.
+-- Laws of what the program writes: the words of the input one by one, the slots of an accepted list, a script that
+-- fits, and what is written for each answer of `verify`.
 use mathlib.Core.Path.{_≡_, refl, sym, ap, _∙_}
 use mathlib.Core.Bool.{Bool, true, false}
 use mathlib.Core.List.{List, [], _∷_, _++_}
@@ -97,7 +97,8 @@ wrote-script w marks before after short done =
 
 -- After the writer's refusal the text is as it was, and takes the refusal's line.
 pub wrote-refused : (w marks before middle after : List ℕ) {e : Fault} {r : ℕ}
-    → Scripted w marks before middle (Refused e) (written w marks (length before)) → Wrote middle 0 (refusalLine e) after r
+    → Scripted w marks before middle (Refused e) (written w marks (length before))
+    → Wrote middle 0 (refusalLine e) after r
     → Wrote before 0 (scriptText w marks (length before)) after r
 wrote-refused w marks before middle after done wrote = rw (← done .answers) (rw (done .writes) at wrote)
 

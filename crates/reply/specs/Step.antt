@@ -18,7 +18,8 @@ use Rattle.reply.specs.declared.Entry.{Entry}
 use Rattle.reply.specs.declared.Entry.the-variants as entry
 use Rattle.reply.specs.declared.Verdict.{Verdict}
 use Rattle.reply.specs.declared.Verdict.the-variants as verdict
-use Rattle.reply.specs.Reply.{Result, Reader, Reply, got, refused, return, _>>=_, pairSpelled, model, satisfied, unsat, bad}
+use Rattle.reply.specs.Reply.{Result, Reader, Reply, got, refused, return}
+use Rattle.reply.specs.Reply.{_>>=_, pairSpelled, model, satisfied, unsat, bad}
 
 abbrev pub stepResult : List ℕ → Step → Result (Unit {0})
 stepResult text (step.At at) = got tt (tokensFrom text at)

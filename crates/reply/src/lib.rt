@@ -59,7 +59,8 @@ fn token_is(text: &[u8], start: usize, end: usize, word: &[u8]) -> bool
 
 // Reads a token of one spelling.
 pub fn expect_word(text: &[u8], at: usize, word: &[u8]) -> Step
-    ensures { λ r. ⌜ expectSpelled (now (word .entry)) (tokensFrom (now (text .entry)) at) ≡ stepResult (now (text .entry)) r ⌝ }
+    ensures { λ r. ⌜ expectSpelled (now (word .entry)) (tokensFrom (now (text .entry)) at)
+        ≡ stepResult (now (text .entry)) r ⌝ }
 {
     match tokens::next_token(text, at) {
         Next::End => Step::Refused(Fault {
@@ -81,7 +82,8 @@ pub fn expect_word(text: &[u8], at: usize, word: &[u8]) -> Step
 
 // Reads the name asked.
 fn expect_name(text: &[u8], at: usize, name: &[u8]) -> Step
-    ensures { λ r. ⌜ expectName (now (name .entry)) (tokensFrom (now (text .entry)) at) ≡ stepResult (now (text .entry)) r ⌝ }
+    ensures { λ r. ⌜ expectName (now (name .entry)) (tokensFrom (now (text .entry)) at)
+        ≡ stepResult (now (text .entry)) r ⌝ }
 {
     match tokens::next_token(text, at) {
         Next::End => Step::Refused(Fault {
@@ -138,7 +140,8 @@ fn value_at(text: &[u8], at: usize) -> Bit
 
 // Reads a pair: a name that is spelled as asked, and its value.
 fn pair_at(text: &[u8], at: usize, name: &[u8]) -> Bit
-    ensures { λ r. ⌜ pairSpelled (now (name .entry)) (tokensFrom (now (text .entry)) at) ≡ bitResult (now (text .entry)) r ⌝ }
+    ensures { λ r. ⌜ pairSpelled (now (name .entry)) (tokensFrom (now (text .entry)) at)
+        ≡ bitResult (now (text .entry)) r ⌝ }
 {
     match expect_word(text, at, b"(") {
         Step::Refused(e) => Bit::Refused(e),
@@ -157,7 +160,8 @@ fn pair_at(text: &[u8], at: usize, name: &[u8]) -> Bit
 
 // Reads the pair of a slot's name.
 fn slot_pair_at(text: &[u8], at: usize, letter: u8, slot: usize, suffix: u8) -> Bit
-    ensures { λ r. ⌜ pairSpelled (spelling letter slot suffix) (tokensFrom (now (text .entry)) at) ≡ bitResult (now (text .entry)) r ⌝ }
+    ensures { λ r. ⌜ pairSpelled (spelling letter slot suffix) (tokensFrom (now (text .entry)) at)
+        ≡ bitResult (now (text .entry)) r ⌝ }
 {
     let mut name = [0u8; 24];
     let n = text::put_name(&mut name, 0, letter, slot, suffix);
@@ -210,7 +214,8 @@ pub fn end_at(text: &[u8], at: usize) -> Step
 
 // Reads the answer's first token.
 pub fn verdict_of(text: &[u8]) -> Verdict
-    ensures { λ r. ⌜ ((names : List Name) → reply names (tokensOf (now (text .entry))) ≡ replyAfter (now (text .entry)) names r) ⌝ }
+    ensures { λ r. ⌜ ((names : List Name)
+        → reply names (tokensOf (now (text .entry))) ≡ replyAfter (now (text .entry)) names r) ⌝ }
 {
     match tokens::next_token(text, 0) {
         Next::End => Verdict::Refused(Fault {

@@ -31,17 +31,20 @@ abbrev pub bodyKind : List ℕ → ℕ → Body
 bodyKind w head = bodyOf (operationAt w head)
 
 -- The same as the code finds them.
-pub line-kind : (w : List ℕ) (head : ℕ) {op : Op} {found told : Line} → op ≡ operationAt w head → found ≡ lineOf op → found ≡ told
+pub line-kind : (w : List ℕ) (head : ℕ) {op : Op} {found told : Line} → op ≡ operationAt w head → found ≡ lineOf op
+    → found ≡ told
     → lineKind w head ≡ told
 line-kind w head is-op is-line is-told = ap lineOf (sym is-op) ∙ sym is-line ∙ is-told
 
-pub body-kind : (w : List ℕ) (head : ℕ) {op : Op} {found told : Body} → op ≡ operationAt w head → found ≡ bodyOf op → found ≡ told
+pub body-kind : (w : List ℕ) (head : ℕ) {op : Op} {found told : Body} → op ≡ operationAt w head → found ≡ bodyOf op
+    → found ≡ told
     → bodyKind w head ≡ told
 body-kind w head is-op is-body is-told = ap bodyOf (sym is-op) ∙ sym is-body ∙ is-told
 
 -- The text of the term that the record at a place makes, after so many terms.
 abbrev pub bodyAt : List ℕ → List ℕ → ℕ → ℕ → List ℕ
-bodyAt places w terms head = bodyBy (bodyKind w head) (referenceBy places w terms) (operationAt w head) (countAt w head) (payloads w head)
+bodyAt places w terms head = bodyBy (bodyKind w head) (referenceBy places w terms) (operationAt w head)
+    (countAt w head) (payloads w head)
 
 -- The sort of the term that the record at a place makes: from the table, past it by the record.
 abbrev pub sortBy : List ℕ → List ℕ → ℕ → ℕ → Sort
@@ -64,18 +67,21 @@ assertAt places w terms head = assertLine (referenceBy places w terms (payloads 
 abbrev pub lineAt : List ℕ → ℕ → ℕ → List ℕ
 lineAt w records head = line (firstCalls w records) (callAt w head)
 
--- What the writer needs at a place, after some records that make so many terms: the record has its operation's arguments, and the tables give
--- the names of the terms and the record's sort.
+-- What the writer needs at a place, after some records that make so many terms: the record has its operation's
+-- arguments, and the tables give the names of the terms and the record's sort.
 pub record Writable (w places sorts : List ℕ) (records terms head : ℕ) : Type 0 where
   pub ready : Ready w head
   pub counted : countFits (operationAt w head) (countAt w head) (argumentAt w head 0) ≡ true
   pub many : terms ≡ length (made (firstCalls w records))
-  pub sort : lineKind w head ≡ Define → sortBy sorts w terms head ≡ sortOfCall (sortsOf (firstCalls w records)) (callAt w head)
+  pub sort : lineKind w head ≡ Define
+      → sortBy sorts w terms head ≡ sortOfCall (sortsOf (firstCalls w records)) (callAt w head)
   pub references : referenceBy places w terms ≡ reference (firstCalls w records)
 
 module _ {w places sorts : List ℕ} {records terms head : ℕ} (can : Writable w places sorts records terms head) where
-  by-kind : lineAt w records head ≡ lineBy (lineKind w head) (firstCalls w records) (operationAt w head) (countAt w head) (payloads w head)
-  by-kind = line-by (operationAt w head) (countAt w head) (payloads w head) (argumentAt w head 0) (firstCalls w records) (can .counted)
+  by-kind : lineAt w records head
+      ≡ lineBy (lineKind w head) (firstCalls w records) (operationAt w head) (countAt w head) (payloads w head)
+  by-kind = line-by (operationAt w head) (countAt w head) (payloads w head) (argumentAt w head 0)
+      (firstCalls w records) (can .counted)
 
   pub line-declared : lineKind w head ≡ Declare → lineAt w records head ≡ declareAt w head
   line-declared e = by-kind ∙ rw e
@@ -91,7 +97,8 @@ module _ {w places sorts : List ℕ} {records terms head : ℕ} (can : Writable 
           ≡ assertLine (reference (firstCalls w records) (payloads w head 0))
       asserted = rw e
 
-  pub line-defined : lineKind w head ≡ Define → lineAt w records head ≡ defineAt places w terms head (sortBy sorts w terms head)
+  pub line-defined : lineKind w head ≡ Define
+      → lineAt w records head ≡ defineAt places w terms head (sortBy sorts w terms head)
   line-defined e =
       by-kind ∙ defined
       ∙ ap (λ (r : ℕ → List ℕ). defineLine terms (sortBy sorts w terms head)
@@ -99,5 +106,6 @@ module _ {w places sorts : List ℕ} {records terms head : ℕ} (can : Writable 
     where
       defined : lineBy (lineKind w head) (firstCalls w records) (operationAt w head) (countAt w head) (payloads w head)
           ≡ defineLine terms (sortBy sorts w terms head)
-          (bodyBy (bodyKind w head) (reference (firstCalls w records)) (operationAt w head) (countAt w head) (payloads w head))
+          (bodyBy (bodyKind w head) (reference (firstCalls w records)) (operationAt w head) (countAt w head)
+          (payloads w head))
       defined = rw (e, can .sort e, can .many)

@@ -51,7 +51,8 @@ assertLine term = ascii "(assert " ++ term ++ ascii ")\n"
 -- The line of a call by what it does.
 abbrev pub lineBy : Line → List Call → Op → ℕ → (ℕ → ℕ) → List ℕ
 lineBy Define before op n a =
-    defineLine (length (made before)) (sortOfCall (sortsOf before) (callOf op n a)) (bodyBy (bodyOf op) (reference before) op n a)
+    defineLine (length (made before)) (sortOfCall (sortsOf before) (callOf op n a))
+    (bodyBy (bodyOf op) (reference before) op n a)
 lineBy Declare before op n a = declareLine (nameOf a) (a 3)
 lineBy Assert before op n a = assertLine (reference before (a 0))
 lineBy Check before op n a = ascii "(check-sat)\n"

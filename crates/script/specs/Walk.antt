@@ -21,11 +21,14 @@ use Rattle.engine.specs.Structure.{originOf, sortFrom, placeOfTerm}
 use Rattle.engine.specs.StructureLaws.{Below}
 use Rattle.engine.specs.Reached.{Right, right-read, said, Tabled}
 use Rattle.term_table.specs.Tables.{recordSort, placeBy}
-use Rattle.term_table.specs.Sorted.{ReadTo, read-start, record-sort-said, read-next, terms-next, tabled-before, sorts-kept}
+use Rattle.term_table.specs.Sorted.{ReadTo, read-start, record-sort-said}
+use Rattle.term_table.specs.Sorted.{read-next, terms-next, tabled-before, sorts-kept}
 use Rattle.term_table.specs.Placed.{Placed, place-is}
 use Rattle.name_table.specs.Named.{NamesTo}
-use Rattle.call_list.specs.Made.{made, made-append, made-past, makes-operation, sortsOf, sortOfCall, sort-here, leaves-append}
-use Rattle.call_list.specs.Records.{firstCalls, Reached, reached-start, reached-next, first-more, split, madeAt, made-at, made-place}
+use Rattle.call_list.specs.Made.{made, made-append, made-past, makes-operation}
+use Rattle.call_list.specs.Made.{sortsOf, sortOfCall, sort-here, leaves-append}
+use Rattle.call_list.specs.Records.{firstCalls, Reached, reached-start, reached-next}
+use Rattle.call_list.specs.Records.{first-more, split, madeAt, made-at, made-place}
 use Rattle.pieces.specs.Shape.{lineOf, bodyOf}
 use Rattle.pieces.specs.declared.Line.the-variants.{Define}
 use Rattle.pieces.specs.declared.Body.the-variants.{Literal}
@@ -160,12 +163,14 @@ module _ {w table : List ℕ} {y : Context} {i at k : ℕ} (here : Walked w tabl
         record-sort-said (here .read) (next .0) (sort .1) ∙ sort .0
 
     last-sort : makesTerm (operationAt w at) ≡ true
-        → sortAt (after (leaves start (firstCalls w i)) (callAt w at) .sorts) k ≡ sortOfCall (sortsOf (firstCalls w i)) (callAt w at)
+        → sortAt (after (leaves start (firstCalls w i)) (callAt w at) .sorts) k
+        ≡ sortOfCall (sortsOf (firstCalls w i)) (callAt w at)
     unfolding leaves
     last-sort makes =
         ap (λ (x : Context). sortAt (x .sorts) k) (sym (leaves-append start (firstCalls w i) (callAt w at ∷ [])))
         ∙ ap (λ (n : ℕ). sortAt (sortsOf (firstCalls w i ++ (callAt w at ∷ []))) n) (here .reached .many)
-        ∙ sort-here (firstCalls w i) (callAt w at) [] (makes-operation (operationAt w at) (countAt w at) (payloads w at) ∙ makes)
+        ∙ sort-here (firstCalls w i) (callAt w at) []
+        (makes-operation (operationAt w at) (countAt w at) (payloads w at) ∙ makes)
 
     table-sort : Tabled table (y .sorts) → k < length table → makesTerm (operationAt w at) ≡ true
         → getD table k 0 ≡ sortOfCall (sortsOf (firstCalls w i)) (callAt w at)
@@ -179,11 +184,13 @@ module _ {w table : List ℕ} {y : Context} {i at k : ℕ} (here : Walked w tabl
         → sortBy table w k at ≡ sortOfCall (sortsOf (firstCalls w i)) (callAt w at)
     walked-sort tabled makes = go (ltb k (length table)) refl
       where
-        go : (b : Bool) → ltb k (length table) ≡ b → sortBy table w k at ≡ sortOfCall (sortsOf (firstCalls w i)) (callAt w at)
+        go : (b : Bool) → ltb k (length table) ≡ b
+            → sortBy table w k at ≡ sortOfCall (sortsOf (firstCalls w i)) (callAt w at)
         go true e = rw e (table-sort tabled (ltb-true k (length table) e) makes)
         go false e = rw e record-sort
 
-    pub walked-writable : (places : List ℕ) → Placed w places (length (y .sorts)) → Tabled table (y .sorts) → Writable w places table i k at
+    pub walked-writable : (places : List ℕ) → Placed w places (length (y .sorts)) → Tabled table (y .sorts)
+        → Writable w places table i k at
     walked-writable places placed tabled = record {
       ready = ready w at (leaves start (firstCalls w i)) (next .0);
       counted = stands (leaves start (firstCalls w i)) w at (next .0 .head) .counted;

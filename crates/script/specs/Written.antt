@@ -73,18 +73,19 @@ module _ (w marks : List ℕ) (room : ℕ) where
   marked-fine e = rw e
 
 -- The room that a dry run counts.
-module _ (text : List ℕ) (room needed : ℕ) (short : room < 2 ^ 63) (is-length : needed ≡ counted (0 + length text)) where
-  pub room-short : room < needed → roomFor (length text) room ≡ refuse 15 needed
-  room-short h =
-      let long : room < length text = omega arith in
-      let same : counted (length text) ≡ needed = omega arith in
-      rw (lt-ltb room (length text) long, same)
+module _ (text : List ℕ) (room needed : ℕ) (short : room < 2 ^ 63) (is-length : needed ≡ counted (0 + length text))
+  where
+    pub room-short : room < needed → roomFor (length text) room ≡ refuse 15 needed
+    room-short h =
+        let long : room < length text = omega arith in
+        let same : counted (length text) ≡ needed = omega arith in
+        rw (lt-ltb room (length text) long, same)
 
-  pub room-enough : needed ≤ room → roomFor (length text) room ≡ Bytes needed
-  room-enough h =
-      let fits : length text ≤ room = omega arith in
-      let same : length text ≡ needed = omega arith in
-      rw (le-ltb room (length text) fits, same)
+    pub room-enough : needed ≤ room → roomFor (length text) room ≡ Bytes needed
+    room-enough h =
+        let fits : length text ≤ room = omega arith in
+        let same : length text ≡ needed = omega arith in
+        rw (le-ltb room (length text) fits, same)
 
 pub whole-text : {text before after : List ℕ} {r : ℕ} → Wrote before 0 text after r → length text ≤ length before
     → after ≡ text ++ drop (length text) before

@@ -1,5 +1,5 @@
-// The script writer: a call list and the names that its recorded marks ask for, as SMT-LIB text in a lent slice of bytes. Each function
-// writes a part from a place on and gives the next place; past the slice's end it only counts.
+// The script writer: a call list and the names that its recorded marks ask for, as SMT-LIB text in a lent slice of
+// bytes. Each function writes a part from a place on and gives the next place; past the slice's end it only counts.
 use asked::Mark;
 use checker::CallList;
 use logic::Fault;
@@ -48,7 +48,8 @@ fn put_body(
     head: usize,
 ) -> usize
     requires { ⌜ Ready (now calls) head ⌝ }
-    ensures { λ r. ⌜ Wrote (now (text .entry)) at (bodyAt (now (places .entry)) (now (calls .entry)) terms head) (now (text .exit)) r ⌝ }
+    ensures { λ r. ⌜ Wrote (now (text .entry)) at (bodyAt (now (places .entry)) (now (calls .entry)) terms head)
+        (now (text .exit)) r ⌝ }
 {
     let operation = call_list::operation_at(calls, head);
     let n = call_list::count_at(calls, head);
@@ -81,7 +82,8 @@ fn put_define(
     sort: u32,
 ) -> usize
     requires { ⌜ Ready (now calls) head ⌝ }
-    ensures { λ r. ⌜ Wrote (now (text .entry)) at (defineAt (now (places .entry)) (now (calls .entry)) terms head sort) (now (text .exit)) r ⌝ }
+    ensures { λ r. ⌜ Wrote (now (text .entry)) at
+        (defineAt (now (places .entry)) (now (calls .entry)) terms head sort) (now (text .exit)) r ⌝ }
 {
     let name = text::put_bytes(text, at, b"(define-fun ");
     let parameters = pieces::put_numbered(text, name, terms);
@@ -112,7 +114,8 @@ fn put_assert(
     terms: usize,
     head: usize,
 ) -> usize
-    ensures { λ r. ⌜ Wrote (now (text .entry)) at (assertAt (now (places .entry)) (now (calls .entry)) terms head) (now (text .exit)) r ⌝ }
+    ensures { λ r. ⌜ Wrote (now (text .entry)) at (assertAt (now (places .entry)) (now (calls .entry)) terms head)
+        (now (text .exit)) r ⌝ }
 {
     let place = text::put_bytes(text, at, b"(assert ");
     let term = Term(call_list::argument_at(calls, head, 0));
@@ -182,7 +185,8 @@ fn put_script(
     recorded: &[u8],
 ) -> usize
     requires { ⌜ HasTables (now calls) (now places) (now sorts) ⌝ }
-    ensures { λ r. ⌜ Wrote (now (text .entry)) 0 (script (decode (now (calls .entry))) (asked (now (recorded .entry)))) (now (text .exit)) r ⌝ }
+    ensures { λ r. ⌜ Wrote (now (text .entry)) 0
+        (script (decode (now (calls .entry))) (asked (now (recorded .entry)))) (now (text .exit)) r ⌝ }
 {
     let lines = text::put_bytes(
         text,
@@ -244,8 +248,9 @@ fn write_marked(
     }
 }
 
-// Writes the script of a call list and its recorded marks into a lent text: 19 for a malformed list, then 2, then 15 at the room needed.
-// The caller lends tables for the places and sorts of the first terms and the names of low indexes; what they hold afterwards is free.
+// Writes the script of a call list and its recorded marks into a lent text: 19 for a malformed list, then 2, then 15 at
+// the room needed. The caller lends tables for the places and sorts of the first terms and the names of low indexes;
+// what they hold afterwards is free.
 pub fn write_script_with(
     calls: &[u32],
     recorded: &[u8],

@@ -21,7 +21,8 @@ bit-odd n = go (eqb (n % 2) 1) refl
   where
     go : (b : Bool) → eqb (n % 2) 1 ≡ b → cond (eqb (n % 2) 1) 1 0 ≡ n % 2
     go true e = rw e (sym (eqb-true (n % 2) 1 e))
-    go false e = let zero-bit : n % 2 ≡ 0 = (let no : n % 2 ≡ 1 → ⊥ = eqb-false (n % 2) 1 e in omega arith) in rw (e, zero-bit)
+    go false e = let zero-bit : n % 2
+        ≡ 0 = (let no : n % 2 ≡ 1 → ⊥ = eqb-false (n % 2) 1 e in omega arith) in rw (e, zero-bit)
 
 pub bits-more : (n width : ℕ) → (width ≡ 0 → ⊥)
     → bitsText (nat2bv width n) ≡ bitsText (nat2bv (width - 1) (n / 2)) ++ ((48 + n % 2) ∷ [])

@@ -1,5 +1,5 @@
-// SMT-LIB's texts of operations, sorts and literals, in a lent slice of bytes. Each function writes a text from a place on and gives the next
-// place; past the slice's end it only counts.
+// SMT-LIB's texts of operations, sorts and literals, in a lent slice of bytes. Each function writes a text from a place
+// on and gives the next place; past the slice's end it only counts.
 use call_list::Operation;
 use engine::BinaryOp;
 use engine::Compare;
@@ -8,7 +8,8 @@ ghost use lib.Dec.{eqb};
 ghost use Rattle.bitvec.specs.Bits.{nat2bv};
 ghost use Rattle.engine.specs.Emit.{Wrote, binaryOf, compareOf};
 ghost use Rattle.call_list.specs.Operations.{opFrom};
-ghost use Rattle.syntax.specs.Text.{sortText, boolText, bitsText, literalText, binaryText, compareText, operationText, extractText};
+ghost use Rattle.syntax.specs.Text.{sortText, boolText, bitsText, literalText};
+ghost use Rattle.syntax.specs.Text.{binaryText, compareText, operationText, extractText};
 
 // Writes the name of an operation on two bit vectors.
 fn put_binary(text: &mut [u8], at: usize, op: BinaryOp) -> usize

@@ -15,31 +15,36 @@ use Rattle.asked.proofs.checks_here.Tie as tie
 -- A record is a check if its line is.
 by-line : (w : List ℕ) (at : ℕ) {op : Op} {line told : Line} → op ≡ operationAt w at → line ≡ lineOf op → line ≡ told
     → isCheck told ≡ checks (callAt w at)
-by-line w at is-op is-line is-told = sym (checks-at w at ∙ ap (λ (op : Op). isCheck (lineOf op)) (sym is-op) ∙ ap isCheck (sym is-line ∙ is-told))
+by-line w at is-op is-line is-told = sym
+    (checks-at w at ∙ ap (λ (op : Op). isCheck (lineOf op)) (sym is-op) ∙ ap isCheck (sym is-line ∙ is-told))
 
 returns : tie.Need-returns
 returns c =
     let lined = c .before .before in
     let start = lined .before .before .before in
-    by-line (start .args .calls .now) (start .args .head) (lined .before .operation-at .ensures) (lined .line-of .ensures) (c .enum-told .given .1)
+    by-line (start .args .calls .now) (start .args .head) (lined .before .operation-at .ensures)
+    (lined .line-of .ensures) (c .enum-told .given .1)
 
 returns-2 : tie.Need-returns-2
 returns-2 c =
     let lined = c .before .before in
     let start = lined .before .before .before in
-    by-line (start .args .calls .now) (start .args .head) (lined .before .operation-at .ensures) (lined .line-of .ensures) (c .enum-told2 .given .1)
+    by-line (start .args .calls .now) (start .args .head) (lined .before .operation-at .ensures)
+    (lined .line-of .ensures) (c .enum-told2 .given .1)
 
 returns-3 : tie.Need-returns-3
 returns-3 c =
     let lined = c .before .before in
     let start = lined .before .before .before in
-    by-line (start .args .calls .now) (start .args .head) (lined .before .operation-at .ensures) (lined .line-of .ensures) (c .enum-told3 .given .1)
+    by-line (start .args .calls .now) (start .args .head) (lined .before .operation-at .ensures)
+    (lined .line-of .ensures) (c .enum-told3 .given .1)
 
 returns-4 : tie.Need-returns-4
 returns-4 c =
     let lined = c .before .before in
     let start = lined .before .before .before in
-    by-line (start .args .calls .now) (start .args .head) (lined .before .operation-at .ensures) (lined .line-of .ensures) (c .enum-told4 .given .1)
+    by-line (start .args .calls .now) (start .args .head) (lined .before .operation-at .ensures)
+    (lined .line-of .ensures) (c .enum-told4 .given .1)
 
 pub checks-here-spec : {M : Type 1} → statement M
 checks-here-spec =

@@ -1,4 +1,5 @@
--- `asked::declares_here` meets its contract: operation, letter, index and suffix are tested in this order. Assumes nothing.
+-- `asked::declares_here` meets its contract: operation, letter, index and suffix are tested in this order. Assumes
+-- nothing.
 use borrow.Author.Needs.{needs}
 use borrow.Author.Tests.{eq-eqb, ne-eqb, not-true, not-false}
 use mathlib.Core.Path.{sym, ap, _∙_}

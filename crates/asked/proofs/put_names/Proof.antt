@@ -1,5 +1,5 @@
--- `asked::put_names` meets its contract. The loop's invariant: what is written and what the marks from `slot` on ask for are all names.
--- The measure is the number of marks left. Assumes nothing.
+-- `asked::put_names` meets its contract. The loop's invariant: what is written and what the marks from `slot` on ask
+-- for are all names. The measure is the number of marks left. Assumes nothing.
 use borrow.Author.Needs.{needs}
 use Prim.Native.Nat.{_-_}
 use mathlib.Core.Path.{_≡_, refl, _∙_}
@@ -13,7 +13,8 @@ use Rattle.asked.proofs.put_names.Statement.{statement}
 use Rattle.asked.proofs.put_names.Tie as tie
 
 abbrev Inv-loop : tie.InvT-loop
-Inv-loop text₀ start recorded first at₀ slot₀ text at slot = (done : List ℕ) × (length text ≡ length text₀) × NamesLeft recorded first slot done × Wrote text₀ start done text at
+Inv-loop text₀ start recorded first at₀ slot₀ text at slot = (done : List ℕ) × (length text ≡ length text₀)
+    × NamesLeft recorded first slot done × Wrote text₀ start done text at
 
 abbrev μ-loop : tie.MeasureT-loop
 μ-loop text₀ start recorded first at₀ slot₀ text at slot = length recorded - slot

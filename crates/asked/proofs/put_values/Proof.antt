@@ -36,7 +36,8 @@ returns c =
     let opened = pair .before .before .before .before in
     let start = opened .before .before .before .before .before in
     let short = start .good .0 .0 in
-    wrote-then (wrote-then (wrote-then (opened .put-bytes .ensures) (pair .put-pair .ensures) short) (names .put-names .ensures) short) (closed .put-bytes2 .ensures) short
+    wrote-then (wrote-then (wrote-then (opened .put-bytes .ensures) (pair .put-pair .ensures) short)
+    (names .put-names .ensures) short) (closed .put-bytes2 .ensures) short
 
 pub put-values-spec : {M : Type 1} → statement M
 put-values-spec =

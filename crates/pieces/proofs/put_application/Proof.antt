@@ -28,7 +28,8 @@ returns c =
     let known = opened .before .before .before in
     let start = known .before .before in
     let short = start .good .0 .0 in
-    wrote-then (wrote-then (wrote-then (opened .put-byte .ensures) (named .put-operation .ensures) short) (argued .put-arguments .ensures) short) (closed .put-byte2 .ensures) short
+    wrote-then (wrote-then (wrote-then (opened .put-byte .ensures) (named .put-operation .ensures) short)
+    (argued .put-arguments .ensures) short) (closed .put-byte2 .ensures) short
 
 pub put-application-spec : {M : Type 1} → statement M
 put-application-spec =

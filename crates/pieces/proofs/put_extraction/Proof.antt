@@ -50,7 +50,8 @@ returns c =
     let operation = rw (low .argument-at2 .ensures, high .argument-at .ensures) at (named .put-extract .ensures) in
     let argument = rw (third .argument-at3 .ensures) at (argued .put-argument .ensures) in
     rw spaced-one
-    (wrote-then (wrote-then (wrote-then (opened .put-byte .ensures) operation short) argument short) (closed .put-byte2 .ensures) short)
+    (wrote-then (wrote-then (wrote-then (opened .put-byte .ensures) operation short) argument short)
+    (closed .put-byte2 .ensures) short)
 
 pub put-extraction-spec : {M : Type 1} → statement M
 put-extraction-spec =

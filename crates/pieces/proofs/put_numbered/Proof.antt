@@ -4,7 +4,8 @@ use Rattle.pieces.proofs.put_numbered.Statement.{statement}
 use Rattle.pieces.proofs.put_numbered.Tie as tie
 
 returns : tie.Need-returns
-returns c = let written = c .before .before in rw (written .before .number-of .ensures) at (written .put-spelling .ensures)
+returns c = let written = c .before .before in rw (written .before .number-of .ensures) at
+    (written .put-spelling .ensures)
 
 pub put-numbered-spec : {M : Type 1} → statement M
 put-numbered-spec =

@@ -4,7 +4,8 @@ use Rattle.pieces.proofs.put_reference.Statement.{statement}
 use Rattle.pieces.proofs.put_reference.Tie as tie
 
 returns : tie.Need-returns
-returns c = let written = c .before .before in rw (written .before .reference-of .ensures) at (written .put-spelling .ensures)
+returns c = let written = c .before .before in rw (written .before .reference-of .ensures) at
+    (written .put-spelling .ensures)
 
 pub put-reference-spec : {M : Type 1} → statement M
 put-reference-spec =

@@ -11,7 +11,8 @@ returns c =
     let lettered = numbered .before .before .before .before in
     let start = lettered .before .before .before in
     let short = start .good .0 .0 in
-    wrote-then (wrote-then (lettered .put-byte .ensures) (numbered .put-number .ensures) short) (suffixed .put-suffix .ensures) short
+    wrote-then (wrote-then (lettered .put-byte .ensures) (numbered .put-number .ensures) short)
+    (suffixed .put-suffix .ensures) short
 
 pub put-spelling-spec : {M : Type 1} → statement M
 put-spelling-spec =

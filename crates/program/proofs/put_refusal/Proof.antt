@@ -13,7 +13,9 @@ returns c =
     let opened = numbered .before .before .before .before .before in
     let start = opened .before .before .before .before in
     let short = start .good .0 .0 in
-    wrote-then (wrote-then (wrote-then (wrote-then (opened .put-bytes .ensures) (numbered .put-number .ensures) short) (parted .put-bytes2 .ensures) short) (placed .put-number2 .ensures) short) (ended .put-byte .ensures) short
+    wrote-then (wrote-then
+    (wrote-then (wrote-then (opened .put-bytes .ensures) (numbered .put-number .ensures) short)
+    (parted .put-bytes2 .ensures) short) (placed .put-number2 .ensures) short) (ended .put-byte .ensures) short
 
 pub put-refusal-spec : {M : Type 1} → statement M
 put-refusal-spec =

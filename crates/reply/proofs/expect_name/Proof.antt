@@ -1,4 +1,5 @@
--- `reply::expect_name` meets its contract: the next token is compared with the name, and then with the parentheses. Assumes nothing.
+-- `reply::expect_name` meets its contract: the next token is compared with the name, and then with the parentheses.
+-- Assumes nothing.
 use borrow.Author.Needs.{needs}
 use Rattle.tokens.proofs.Laws.{found-end, found-token, found-inside}
 use Rattle.reply.proofs.expect_name.Statement.{statement}

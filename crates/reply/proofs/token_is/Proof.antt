@@ -1,5 +1,5 @@
--- `reply::token_is` meets its contract. The loop's invariant: the token is the word exactly when their bytes from `i` on are the same.
--- The measure is the number of bytes left. Assumes nothing.
+-- `reply::token_is` meets its contract. The loop's invariant: the token is the word exactly when their bytes from `i`
+-- on are the same. The measure is the number of bytes left. Assumes nothing.
 use borrow.Author.Needs.{needs}
 use Prim.Native.Nat.{_-_, _+_, _≤_, _<_}
 use mathlib.Core.Path.{_≡_, sym, _∙_}

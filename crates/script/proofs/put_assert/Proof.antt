@@ -33,7 +33,9 @@ returns c =
     let known = opened .before .before .before in
     let start = known .before .before .before in
     let short = start .good .0 .0 in
-    wrote-then (wrote-then (opened .put-bytes .ensures) (rw (term .before .before .argument-at .ensures) at (term .put-reference .ensures)) short) (closed .put-bytes2 .ensures) short
+    wrote-then (wrote-then (opened .put-bytes .ensures)
+    (rw (term .before .before .argument-at .ensures) at (term .put-reference .ensures)) short)
+    (closed .put-bytes2 .ensures) short
 
 pub put-assert-spec : {M : Type 1} → statement M
 put-assert-spec =

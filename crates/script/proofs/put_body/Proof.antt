@@ -10,7 +10,8 @@ put-literal-requires c κs =
     let found = told .before .before in
     let known = found .before .before in
     let start = known .before .before .before .before in
-    let kind = body-kind (start .args .calls .now) (start .args .head) (known .operation-at .ensures) (found .body-of .ensures) (told .enum-told3 .given .1) in
+    let kind = body-kind (start .args .calls .now) (start .args .head) (known .operation-at .ensures)
+    (found .body-of .ensures) (told .enum-told3 .given .1) in
     start .pre kind
 
 returns : tie.Need-returns
@@ -21,7 +22,8 @@ returns c =
     let counted = found .before in
     let known = counted .before in
     let start = known .before .before .before .before in
-    let kind = body-kind (start .args .calls .now) (start .args .head) (known .operation-at .ensures) (found .body-of .ensures) (told .enum-told .given .1) in
+    let kind = body-kind (start .args .calls .now) (start .args .head) (known .operation-at .ensures)
+    (found .body-of .ensures) (told .enum-told .given .1) in
     rw kind (rw (written .before .argument-at .ensures) at (written .put-bool .ensures))
 
 returns-2 : tie.Need-returns-2
@@ -32,7 +34,8 @@ returns-2 c =
     let counted = found .before in
     let known = counted .before in
     let start = known .before .before .before .before in
-    let kind = body-kind (start .args .calls .now) (start .args .head) (known .operation-at .ensures) (found .body-of .ensures) (told .enum-told2 .given .1) in
+    let kind = body-kind (start .args .calls .now) (start .args .head) (known .operation-at .ensures)
+    (found .body-of .ensures) (told .enum-told2 .given .1) in
     rw kind (rw (counted .count-at .ensures) at (written .put-conjunction .ensures))
 
 returns-3 : tie.Need-returns-3
@@ -43,7 +46,8 @@ returns-3 c =
     let counted = found .before in
     let known = counted .before in
     let start = known .before .before .before .before in
-    let kind = body-kind (start .args .calls .now) (start .args .head) (known .operation-at .ensures) (found .body-of .ensures) (told .enum-told3 .given .1) in
+    let kind = body-kind (start .args .calls .now) (start .args .head) (known .operation-at .ensures)
+    (found .body-of .ensures) (told .enum-told3 .given .1) in
     rw kind (written .put-literal .ensures)
 
 returns-4 : tie.Need-returns-4
@@ -54,7 +58,8 @@ returns-4 c =
     let counted = found .before in
     let known = counted .before in
     let start = known .before .before .before .before in
-    let kind = body-kind (start .args .calls .now) (start .args .head) (known .operation-at .ensures) (found .body-of .ensures) (told .enum-told4 .given .1) in
+    let kind = body-kind (start .args .calls .now) (start .args .head) (known .operation-at .ensures)
+    (found .body-of .ensures) (told .enum-told4 .given .1) in
     rw kind (written .put-extraction .ensures)
 
 returns-5 : tie.Need-returns-5
@@ -65,7 +70,8 @@ returns-5 c =
     let counted = found .before in
     let known = counted .before in
     let start = known .before .before .before .before in
-    let kind = body-kind (start .args .calls .now) (start .args .head) (known .operation-at .ensures) (found .body-of .ensures) (told .enum-told5 .given .1) in
+    let kind = body-kind (start .args .calls .now) (start .args .head) (known .operation-at .ensures)
+    (found .body-of .ensures) (told .enum-told5 .given .1) in
     rw kind (rw (known .operation-at .ensures, counted .count-at .ensures) at (written .put-application .ensures))
 
 pub put-body-spec : {M : Type 1} → statement M

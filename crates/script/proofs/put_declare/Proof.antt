@@ -40,7 +40,10 @@ returns c =
     let opened = named .before .before .before .before in
     let start = opened .before .before .before .before .before in
     let short = start .good .0 .0 in
-    wrote-then (wrote-then (wrote-then (wrote-then (opened .put-bytes .ensures) (named .put-declared .ensures) short) (spaced .put-byte .ensures) short) (rw (sorted .before .argument-at .ensures) at (sorted .put-sort .ensures)) short) (closed .put-bytes2 .ensures) short
+    wrote-then (wrote-then
+    (wrote-then (wrote-then (opened .put-bytes .ensures) (named .put-declared .ensures) short)
+    (spaced .put-byte .ensures) short) (rw (sorted .before .argument-at .ensures) at (sorted .put-sort .ensures))
+    short) (closed .put-bytes2 .ensures) short
 
 pub put-declare-spec : {M : Type 1} → statement M
 put-declare-spec =

@@ -49,7 +49,11 @@ returns c =
     let known = opened .before .before .before in
     let start = known .before .before .before in
     let short = start .good .0 .0 in
-    wrote-then (wrote-then (wrote-then (wrote-then (wrote-then (wrote-then (opened .put-bytes .ensures) (numbered .put-numbered .ensures) short) (empty .put-bytes2 .ensures) short) (sorted .put-sort .ensures) short) (spaced .put-byte .ensures) short) (body .put-body .ensures) short) (closed .put-bytes3 .ensures) short
+    wrote-then (wrote-then
+    (wrote-then (wrote-then
+    (wrote-then (wrote-then (opened .put-bytes .ensures) (numbered .put-numbered .ensures) short)
+    (empty .put-bytes2 .ensures) short) (sorted .put-sort .ensures) short) (spaced .put-byte .ensures) short)
+    (body .put-body .ensures) short) (closed .put-bytes3 .ensures) short
 
 pub put-define-spec : {M : Type 1} → statement M
 put-define-spec =

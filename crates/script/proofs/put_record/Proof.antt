@@ -11,8 +11,10 @@ returns c =
     let found = told .before .before in
     let known = found .before in
     let start = known .before .before .before .before .before in
-    let kind = line-kind (start .args .calls .now) (start .args .head) (known .operation-at .ensures) (found .line-of .ensures) (told .enum-told .given .1) in
-    rw (line-defined (start .pre) kind) (rw (written .before .before .sort-here .ensures) at (written .put-define .ensures))
+    let kind = line-kind (start .args .calls .now) (start .args .head) (known .operation-at .ensures)
+    (found .line-of .ensures) (told .enum-told .given .1) in
+    rw (line-defined (start .pre) kind)
+    (rw (written .before .before .sort-here .ensures) at (written .put-define .ensures))
 
 returns-2 : tie.Need-returns-2
 returns-2 c =
@@ -21,7 +23,8 @@ returns-2 c =
     let found = told .before .before in
     let known = found .before in
     let start = known .before .before .before .before .before in
-    let kind = line-kind (start .args .calls .now) (start .args .head) (known .operation-at .ensures) (found .line-of .ensures) (told .enum-told2 .given .1) in
+    let kind = line-kind (start .args .calls .now) (start .args .head) (known .operation-at .ensures)
+    (found .line-of .ensures) (told .enum-told2 .given .1) in
     rw (line-declared (start .pre) kind) (written .put-declare .ensures)
 
 returns-3 : tie.Need-returns-3
@@ -31,7 +34,8 @@ returns-3 c =
     let found = told .before .before in
     let known = found .before in
     let start = known .before .before .before .before .before in
-    let kind = line-kind (start .args .calls .now) (start .args .head) (known .operation-at .ensures) (found .line-of .ensures) (told .enum-told3 .given .1) in
+    let kind = line-kind (start .args .calls .now) (start .args .head) (known .operation-at .ensures)
+    (found .line-of .ensures) (told .enum-told3 .given .1) in
     rw (line-asserted (start .pre) kind) (written .put-assert .ensures)
 
 returns-4 : tie.Need-returns-4
@@ -41,7 +45,8 @@ returns-4 c =
     let found = told .before .before in
     let known = found .before in
     let start = known .before .before .before .before .before in
-    let kind = line-kind (start .args .calls .now) (start .args .head) (known .operation-at .ensures) (found .line-of .ensures) (told .enum-told4 .given .1) in
+    let kind = line-kind (start .args .calls .now) (start .args .head) (known .operation-at .ensures)
+    (found .line-of .ensures) (told .enum-told4 .given .1) in
     rw (line-checked (start .pre) kind) (written .put-bytes .ensures)
 
 pub put-record-spec : {M : Type 1} → statement M

@@ -1,5 +1,5 @@
--- `script::put_records` meets its contract. The loop's invariant: the walk has come to `head`, past `records` records that make `terms` terms,
--- and their lines are written. The measure is what is left of the list. Assumes nothing.
+-- `script::put_records` meets its contract. The loop's invariant: the walk has come to `head`, past `records` records
+-- that make `terms` terms, and their lines are written. The measure is what is left of the list. Assumes nothing.
 use borrow.Author.Needs.{needs}
 use Prim.Native.Nat.{_-_, _+_, _≤_}
 use mathlib.Core.Path.{_≡_, refl, ap, _∙_}
@@ -18,7 +18,8 @@ use Rattle.script.proofs.put_records.Tie as tie
 abbrev Inv-loop : tie.InvT-loop
 Inv-loop text₀ start calls places sorts at₀ head₀ records₀ terms₀ text at head records terms =
     (has : HasTables calls places sorts) × (length text ≡ length text₀) × (terms ≤ records)
-    × Walked calls sorts (has .leaving) records head terms × Wrote text₀ start (lines [] (firstCalls calls records)) text at
+    × Walked calls sorts (has .leaving) records head terms
+    × Wrote text₀ start (lines [] (firstCalls calls records)) text at
 
 abbrev μ-loop : tie.MeasureT-loop
 μ-loop text₀ start calls places sorts at₀ head₀ records₀ terms₀ text at head records terms = length calls - head

@@ -35,7 +35,8 @@ returns c =
     let known = lent .before .before .before in
     let start = known .before .before .before in
     let short = start .good .0 .0 in
-    wrote-then (wrote-then (headed .put-bytes .ensures) (lined .put-records .ensures) short) (ended .put-ending .ensures) short
+    wrote-then (wrote-then (headed .put-bytes .ensures) (lined .put-records .ensures) short)
+    (ended .put-ending .ensures) short
 
 pub put-script-spec : {M : Type 1} → statement M
 put-script-spec =

@@ -59,7 +59,8 @@ put-bits-returns-2 t c =
     let last = c .before .before in
     let half = last .before .before .before .before in
     let start = half .before .before .before .before in
-    rw (bits-more _ _ (half .before .before .if1 .left)) (wrote-then (half .put-bits .ensures) (last .put-byte .ensures) (start .good .0 .0))
+    rw (bits-more _ _ (half .before .before .if1 .left))
+    (wrote-then (half .put-bits .ensures) (last .put-byte .ensures) (start .good .0 .0))
 
 pub +put-bits-spec : {M : Type 1} → statement M
 +put-bits-spec = close μ-put-bits λ t. put-bits-lts.spec (put-bits-claims t)

@@ -34,7 +34,9 @@ returns c =
     let opened = high .before .before .before .before in
     let start = opened .before .before .before .before in
     let short = start .good .0 .0 in
-    wrote-then (wrote-then (wrote-then (wrote-then (opened .put-bytes .ensures) (high .put-number .ensures) short) (spaced .put-byte .ensures) short) (low .put-number2 .ensures) short) (closed .put-byte2 .ensures) short
+    wrote-then (wrote-then
+    (wrote-then (wrote-then (opened .put-bytes .ensures) (high .put-number .ensures) short)
+    (spaced .put-byte .ensures) short) (low .put-number2 .ensures) short) (closed .put-byte2 .ensures) short
 
 pub put-extract-spec : {M : Type 1} → statement M
 put-extract-spec =

@@ -33,13 +33,15 @@ returns-9 : tie.Need-returns-9
 returns-9 c = rw (c .enum-told9 .given .1) (wrote-none _ _ (omega arith))
 
 returns-10 : tie.Need-returns-10
-returns-10 c = let w = c .before .before in rw (w .before .before .before .enum-told10 .given .1) (w .put-bytes7 .ensures)
+returns-10 c = let w = c .before .before in rw (w .before .before .before .enum-told10 .given .1)
+    (w .put-bytes7 .ensures)
 
 returns-11 : tie.Need-returns-11
 returns-11 c = let w = c .before .before in rw (w .before .before .before .operation .given .1) (w .put-binary .ensures)
 
 returns-12 : tie.Need-returns-12
-returns-12 c = let w = c .before .before in rw (w .before .before .before .operation2 .given .1) (w .put-compare .ensures)
+returns-12 c = let w = c .before .before in rw (w .before .before .before .operation2 .given .1)
+    (w .put-compare .ensures)
 
 returns-13 : tie.Need-returns-13
 returns-13 c = rw (c .enum-told11 .given .1) (wrote-none _ _ (omega arith))

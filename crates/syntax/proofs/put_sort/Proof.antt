@@ -43,7 +43,9 @@ returns-2 c =
     let vector = opened .before .before .before in
     let start = vector .before .before in
     let short = start .good .0 .0 in
-    rw (sort-vector _ (vector .if1 .left)) (wrote-then (wrote-then (opened .put-bytes2 .ensures) (width .put-number .ensures) short) (closed .put-byte .ensures) short)
+    rw (sort-vector _ (vector .if1 .left))
+    (wrote-then (wrote-then (opened .put-bytes2 .ensures) (width .put-number .ensures) short)
+    (closed .put-byte .ensures) short)
 
 pub put-sort-spec : {M : Type 1} → statement M
 put-sort-spec =

@@ -1,5 +1,5 @@
--- `text::copy_bytes` meets its contract. The loop's invariant: the bytes before `i` are stored. The measure is the number of bytes left.
--- Assumes nothing.
+-- `text::copy_bytes` meets its contract. The loop's invariant: the bytes before `i` are stored. The measure is the
+-- number of bytes left. Assumes nothing.
 use borrow.Author.Needs.{needs}
 use Prim.Native.Nat.{_≤_, _-_, _<_, _+_}
 use mathlib.Core.Path.{_≡_, refl, sym, ap, _∙_}
@@ -11,7 +11,8 @@ use Rattle.text.proofs.copy_bytes.Statement.{statement}
 use Rattle.text.proofs.copy_bytes.Tie as tie
 
 abbrev Inv-loop : tie.InvT-loop
-Inv-loop text₀ at bytes n i₀ text i = (i ≤ n) × (length text ≡ length text₀) × (text ≡ overwrite text₀ at (take i bytes))
+Inv-loop text₀ at bytes n i₀ text i = (i ≤ n) × (length text ≡ length text₀)
+    × (text ≡ overwrite text₀ at (take i bytes))
 
 abbrev μ-loop : tie.MeasureT-loop
 μ-loop text₀ at bytes n i₀ text i = n - i

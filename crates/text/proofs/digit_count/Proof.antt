@@ -1,11 +1,12 @@
--- `text::digit_count` meets its contract. The loop's invariant: the digits counted and those of what is left are the number's; a machine word
--- has at most 20. The measure is what is left. Assumes nothing.
+-- `text::digit_count` meets its contract. The loop's invariant: the digits counted and those of what is left are the
+-- number's; a machine word has at most 20. The measure is what is left. Assumes nothing.
 use borrow.Author.Needs.{needs}
 use Prim.Native.Nat.{_≤_, _+_}
 use mathlib.Core.Path.{_≡_, sym, _∙_}
 use native.Mathlib.Omega.{arith}
 use lib.ListN.{length}
-use Rattle.text.specs.Bytes.{decimal, decimal-length, length-one, length-two, length-three, length-four, length-above}
+use Rattle.text.specs.Bytes.{decimal, decimal-length, length-one}
+use Rattle.text.specs.Bytes.{length-two, length-three, length-four, length-above}
 use Rattle.text.proofs.digit_count.Statement.{statement}
 use Rattle.text.proofs.digit_count.Tie as tie
 

@@ -1,4 +1,5 @@
--- `text::put_bytes` meets its contract: only the bytes for which there is room are stored, and all are counted. Assumes nothing.
+-- `text::put_bytes` meets its contract: only the bytes for which there is room are stored, and all are counted.
+-- Assumes nothing.
 use borrow.Author.Needs.{needs}
 use mathlib.Core.Path.{_∙_}
 use native.Mathlib.Omega.{arith}
@@ -16,7 +17,8 @@ returns-2 c =
     let short = copied .before .before in
     let start = short .before .before .before .before in
     record {
-      words = copied .copy-bytes .ensures ∙ overwrite-room (start .args .text .now) (start .args .at) (start .args .bytes .now) (omega arith);
+      words = copied .copy-bytes .ensures
+          ∙ overwrite-room (start .args .text .now) (start .args .at) (start .args .bytes .now) (omega arith);
       count = c .place-past2 .ensures;
     }
 

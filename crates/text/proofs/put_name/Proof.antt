@@ -23,7 +23,8 @@ returns c =
     let lettered = numbered .before .before .before .before in
     let start = lettered .before .before .before in
     let short = start .good .0 .0 in
-    wrote-then (wrote-then (lettered .put-byte .ensures) (numbered .put-number .ensures) short) (suffixed .put-byte2 .ensures) short
+    wrote-then (wrote-then (lettered .put-byte .ensures) (numbered .put-number .ensures) short)
+    (suffixed .put-byte2 .ensures) short
 
 pub put-name-spec : {M : Type 1} → statement M
 put-name-spec =

@@ -1,5 +1,5 @@
--- `text::store_digits` meets its contract. The loop's invariant: the number is written as what is left of it and then the digits stored, which
--- stand where they belong. The measure is what is left. Assumes nothing.
+-- `text::store_digits` meets its contract. The loop's invariant: the number is written as what is left of it and then
+-- the digits stored, which stand where they belong. The measure is what is left. Assumes nothing.
 use borrow.Author.Needs.{needs}
 use mathlib.Core.Path.{_∙_}
 use Rattle.text.proofs.Digits.{Stored, stored-none, stored-before, stored-more, stored-all}
