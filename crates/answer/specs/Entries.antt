@@ -11,11 +11,31 @@ use lib.Seq.{drop-cons}
 use Rattle.logic.specs.Trit.{shows, readbackNumber}
 use Rattle.logic.specs.declared.Readback.the-variants.{Shown}
 use Rattle.logic.specs.declared.Fault.{Fault}
-use Rattle.text.specs.Write.{overwrite, overwrite-none, overwrite-more}
+use Rattle.engine.specs.Emit.{overwrite}
+use Rattle.text.specs.Write.{overwrite-none, overwrite-more}
 use Rattle.text.specs.Names.{spelling, askedFrom, asked}
 use Rattle.tokens.specs.Token.{Token}
-use Rattle.answer.specs.Reply.{Result, Reader, got, refused, return, onGot, pairs, pairSpelled, shownFirst, table}
-use Rattle.answer.specs.Step.{trit, entryOf, entries, written}
+use Rattle.reply.specs.Reply.{Result, Reader, got, refused, return, onGot, _>>=_, pairs, pairSpelled}
+use Rattle.reply.specs.Step.{trit, entryOf}
+use Rattle.answer.specs.Reply.{shownFirst, table}
+
+-- An entry, and those of the tokens after it.
+abbrev pub onEntry : Result ℕ → (List Token → List ℕ) → List ℕ
+onEntry (got number tokens) rest = number ∷ rest tokens
+onEntry (refused e) rest = []
+
+-- The entries of all slots, the first mark being the slot's.
+unfoldable pub entries : ℕ → List ℕ → Reader (List ℕ)
+entries slot [] = return []
+entries slot (mark ∷ marks) = do
+  number ← entryOf slot mark
+  numbers ← entries (suc slot) marks
+  return (number ∷ numbers)
+
+-- The entries before the first fault.
+unfoldable pub written : ℕ → List ℕ → List Token → List ℕ
+written slot [] tokens = []
+written slot (mark ∷ marks) tokens = onEntry (entryOf slot mark tokens) (written (suc slot) marks)
 
 module _ {A : Type 0} where
   -- Where reading goes on, whatever was read.

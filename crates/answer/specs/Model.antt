@@ -11,17 +11,17 @@ use borrow.Author.Tests.{lt-ltb, le-ltb, eq-eqb, ne-eqb}
 use Rattle.logic.specs.declared.Fault.{Fault}
 use Rattle.engine.specs.Call.{Name}
 use Rattle.text.specs.Names.{askedFrom, asked}
-use Rattle.text.specs.Write.{overwrite, overwrite-fits}
+use Rattle.engine.specs.Emit.{overwrite}
+use Rattle.text.specs.Write.{overwrite-fits}
 use Rattle.answer.specs.declared.Mark.the-variants.{Fine, Bad}
-use Rattle.answer.specs.declared.Step.{Step}
-use Rattle.answer.specs.declared.Step.the-variants as step
-use Rattle.answer.specs.declared.Verdict.{Verdict}
-use Rattle.answer.specs.declared.Verdict.the-variants as verdict
+use Rattle.reply.specs.declared.Step.{Step}
+use Rattle.reply.specs.declared.Step.the-variants as step
 use Rattle.tokens.specs.Token.{Token, tokensOf}
-use Rattle.answer.specs.Reply.{Result, Reader, Reply, got, refused, return, onGot, pairs, table, badMark, expect, ended, model, satisfied, unsat, sat, bad, refuse, reply, replyTo, tableAfter, answerOf, Read}
+use Rattle.reply.specs.Reply.{Result, Reader, Reply, got, refused, return}
+use Rattle.reply.specs.Reply.{onGot, pairs, expect, ended, model, refuse, reply}
+use Rattle.answer.specs.Reply.{table, badMark, replyTo, tableAfter, answerOf, Read}
 use Rattle.tokens.specs.Place.{tokensFrom}
-use Rattle.answer.specs.Step.{entries, written}
-use Rattle.answer.specs.Entries.{forget, nothing, entries-table, whole}
+use Rattle.answer.specs.Entries.{entries, written, forget, nothing, entries-table, whole}
 
 module _ (marks : List ℕ) (i : ℕ) (inside : i < length marks) where
   pub mark-bad : 2 < getD marks i 0 → badMark i (drop i marks) ≡ Bad i
@@ -61,12 +61,6 @@ Tabled text marks result (step.At first) =
     (bits : List Bool) × (left rest : List Token)
     × (result ≡ got bits left)
     × (entries 0 marks (tokensFrom text first) ≡ got (table marks bits) rest)
-
--- The reply that the first token leads to.
-abbrev pub replyAfter : List ℕ → List Name → Verdict → Reply
-replyAfter text names verdict.Unsat = unsat
-replyAfter text names (verdict.Sat at) = satisfied (model names (tokensFrom text at))
-replyAfter text names (verdict.Refused e) = bad e
 
 -- Reading in turn, taken together in either way.
 regroup : {A B C : Type 0} (r : Result A) (f : A → Reader B) (g : B → Reader C)
@@ -122,11 +116,6 @@ nothing-table marks tokens e = rw (entries-table 0 marks tokens, empty (asked ma
     empty : (names : List Name) → nothing names ≡ true → names ≡ []
     empty [] e = refl
     empty (name ∷ names) e = let z : _≡_ {A = ℕ} 0 1 = cc in absurd (omega arith)
-
--- The whole text's tokens are those from its start.
-pub tokens-start : (text : List ℕ) → tokensOf text ≡ tokensFrom text 0
-unfolding tokensFrom
-tokens-start text = refl
 
 -- Marks first, then room, then the text.
 module _ (text marks : List ℕ) (room : ℕ) where

@@ -18,7 +18,9 @@ use Rattle.text.specs.Names.{nameText, letterText, suffixText, asked, askedFrom
 use Rattle.answer.specs.declared.Answer.the-variants.{Sat}
 use Rattle.answer.specs.declared.Mark.the-variants.{Fine}
 use Rattle.tokens.specs.Token.{tokens, tokensOf, run, white, parenthesis}
-use Rattle.answer.specs.Reply.{got, same, expect, expectName, value, pairSpelled, pair, pairs, model, ended, reply, sat, satisfied, table, badMark, Read}
+use Rattle.reply.specs.Reply.{got, same, expect, expectName, value, pairSpelled}
+use Rattle.reply.specs.Reply.{pair, pairs, model, ended, reply, sat, satisfied}
+use Rattle.answer.specs.Reply.{table, badMark, Read}
 use Rattle.answer.specs.Model.{reply-text, read-as}
 
 -- A table that fits recorded marks: 3 where the mark is 0, the number of a trit where it is 1 or 2.

@@ -5,7 +5,6 @@ use mathlib.Core.List.{List, [], _∷_, _++_, map, append-assoc, append-nil}
 use Prim.Native.Nat.{ℕ, suc, _+_, _-_, _<_, _≤_}
 use native.Mathlib.Numerals.{add-one}
 use native.Mathlib.Omega.{arith}
-use lib.Dec.{eqb}
 use lib.ListN.{length, drop, getD, drop-of-length-le}
 use lib.Seq.{drop-cons}
 use borrow.Author.Tests.{ne-eqb}
@@ -20,20 +19,23 @@ use Rattle.text.specs.Names.{nameText, spelling, namesOfMark, bothNames, askedF
 use Rattle.call_list.specs.Records.{firstCalls, Reached, reached-start, reached-next, first-more, split, madeAt}
 use Rattle.call_list.specs.Literal.{payloads}
 use Rattle.pieces.specs.Text.{spaced}
-use Rattle.pieces.specs.Shape.{shapeOf, shapeAt}
+use Rattle.pieces.specs.Shape.{lineOf}
+use Rattle.pieces.specs.declared.Line.{Line}
+use Rattle.pieces.specs.declared.Line.the-variants.{Define, Declare, Assert, Check}
 use Rattle.pieces.proofs.Laws.{spaced-append}
 use Rattle.asked.specs.Marks.{any}
-use Rattle.asked.specs.Ending.{getValue, namesFrom, FirstAsked}
+use Rattle.asked.specs.Ending.{getValue, checks, namesFrom, FirstAsked}
 
 -- ---- check
 
-abbrev pub checks : Call → Bool
-checks (c.term t) = false
-checks (c.declare name w) = false
-checks (c.assert k) = false
-checks c.check = true
+-- A line that is a check's.
+abbrev pub isCheck : Line → Bool
+isCheck Define = false
+isCheck Declare = false
+isCheck Assert = false
+isCheck Check = true
 
-checks-by : (op : Op) (n : ℕ) (a : ℕ → ℕ) → checks (callOf op n a) ≡ eqb (shapeOf op) 7
+checks-by : (op : Op) (n : ℕ) (a : ℕ → ℕ) → checks (callOf op n a) ≡ isCheck (lineOf op)
 checks-by o.boolLit n a = refl
 checks-by o.boolIte n a = refl
 checks-by o.not n a = refl
@@ -126,7 +128,7 @@ module _ {p : Call → Bool} {w : List ℕ} {i at k : ℕ} (here : NoneOf p w i 
         ∙ ap (λ (l : List Call). firstCalls w i ++ l) (calls-step (length w - i - 1) w at inside))
         ∙ any-append p (firstCalls w i) (callAt w at ∷ rest) ∙ rw (here .none, e)
 
-pub checks-at : (w : List ℕ) (at : ℕ) → checks (callAt w at) ≡ eqb (shapeAt w at) 7
+pub checks-at : (w : List ℕ) (at : ℕ) → checks (callAt w at) ≡ isCheck (lineOf (operationAt w at))
 checks-at w at = checks-by (operationAt w at) (countAt w at) (payloads w at)
 
 -- ---- the names asked

@@ -19,13 +19,15 @@ use Rattle.call_list.specs.Literal.{payloads}
 use Rattle.engine.specs.Sorts.{Context, start, after, leaves}
 use Rattle.name_table.specs.Names.{nameEntry, bySearch}
 use Rattle.name_table.specs.Named.{isName, named, NamesTo}
-use Rattle.pieces.specs.Shape.{shapeOf, shapeAt, nameOf}
+use Rattle.call_list.specs.Operations.{isDeclare}
+use Rattle.pieces.specs.Shape.{nameOf}
 use Rattle.asked.specs.declared.Mark.the-variants.{Fine, Bad}
 use Rattle.asked.specs.Marks.{any, declaresName, allDeclared, markStands, badMark, lowNumber, declaredBy, pairBy, standsBy, badBy}
 
 -- A record declares a name if it is a declaration, by the name that its arguments spell.
 declares-by : (op : Op) (n : ℕ) (a : ℕ → ℕ) (letter index suffix : ℕ)
-    → declaresName letter index suffix (callOf op n a) ≡ cond (eqb (shapeOf op) 5) (isName letter index suffix (nameOf a)) false
+    → declaresName letter index suffix (callOf op n a)
+    ≡ cond (isDeclare op) (isName letter index suffix (nameOf a)) false
 declares-by o.boolLit n a letter index suffix = refl
 declares-by o.boolIte n a letter index suffix = refl
 declares-by o.not n a letter index suffix = refl
@@ -44,7 +46,8 @@ declares-by o.check n a letter index suffix = refl
 declares-by o.unknown n a letter index suffix = refl
 
 pub declares-at : (w : List ℕ) (at letter index suffix : ℕ)
-    → declaresName letter index suffix (callAt w at) ≡ cond (eqb (shapeAt w at) 5) (isName letter index suffix (nameOf (payloads w at))) false
+    → declaresName letter index suffix (callAt w at)
+    ≡ cond (isDeclare (operationAt w at)) (isName letter index suffix (nameOf (payloads w at))) false
 declares-at w at letter index suffix = declares-by (operationAt w at) (countAt w at) (payloads w at) letter index suffix
 
 -- The number of a letter or a suffix is the low number of its word.

@@ -4,7 +4,8 @@ use mathlib.Core.Bool.{Bool, true, false}
 use mathlib.Core.List.{List, [], _∷_, _++_, map}
 use Prim.Native.Nat.{ℕ, _<_}
 use lib.ListN.{length, drop, getD}
-use Rattle.engine.specs.Call.{Name}
+use Rattle.engine.specs.Call.{Name, Call}
+use Rattle.engine.specs.Call as c
 use Rattle.text.specs.Bytes.{ascii}
 use Rattle.text.specs.Names.{nameText, spelling, askedFrom}
 use Rattle.pieces.specs.Text.{spaced}
@@ -20,6 +21,13 @@ ending true names = getValue names
 ending false names = ascii "; nothing asked\n"
 
 -- ---- as the code goes
+
+-- Whether a call is a check.
+abbrev pub checks : Call → Bool
+checks (c.term t) = false
+checks (c.declare name w) = false
+checks (c.assert k) = false
+checks c.check = true
 
 -- The names that the marks from a slot on ask for, each after a space.
 abbrev pub namesFrom : List ℕ → ℕ → List ℕ

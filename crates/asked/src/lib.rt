@@ -1,4 +1,5 @@
 // What the recorded marks ask of a solver: whether the calls declare the names, and the text that asks for their values.
+use pieces::Line;
 ghost use mathlib.Core.Path.{_≡_};
 ghost use mathlib.Core.List.{_++_, map};
 ghost use Prim.Native.Nat.{_+_, _<_};
@@ -8,9 +9,9 @@ ghost use Rattle.engine.specs.Sorts as sorts;
 ghost use Rattle.engine.specs.Sorts.{leaves};
 ghost use Rattle.text.specs.Bytes.{ascii};
 ghost use Rattle.text.specs.Names.{nameText, namesOfMark, spelling, asked};
-ghost use Rattle.text.specs.Write.{Wrote};
+ghost use Rattle.engine.specs.Emit.{Wrote};
 ghost use Rattle.pieces.specs.Text.{spaced};
-ghost use Rattle.asked.specs.Ending.{getValue, ending, namesFrom, FirstAsked, valuesText};
+ghost use Rattle.asked.specs.Ending.{getValue, ending, checks, namesFrom, FirstAsked, valuesText};
 ghost use Rattle.asked.specs.Marks.{any, lowNumber, declaresName, declaredBy, pairBy, standsBy, badBy};
 
 // The first recorded mark that does not stand, if there is one.
@@ -19,13 +20,25 @@ pub enum Mark {
     Bad(usize),
 }
 
+// Whether the record at a place is a check.
+fn checks_here(calls: &[u32], head: usize) -> bool
+    ensures { λ r. ⌜ r ≡ checks (callAt (now (calls .entry)) head) ⌝ }
+{
+    match pieces::line_of(call_list::operation_at(calls, head)) {
+        Line::Define => false,
+        Line::Declare => false,
+        Line::Assert => false,
+        Line::Check => true,
+    }
+}
+
 // Whether a call list has a check.
 fn has_check(calls: &[u32]) -> bool
     ensures { λ r. ⌜ r ≡ leaves sorts.start (decode (now (calls .entry))) .checked ⌝ }
 {
     let mut head = 0;
     while head < calls.len() {
-        if pieces::shape(call_list::operation_number(calls, head)) == 7 {
+        if checks_here(calls, head) {
             return true;
         }
         head = call_list::next_record(calls, head);
@@ -35,7 +48,8 @@ fn has_check(calls: &[u32]) -> bool
 
 // Writes the two names of a slot, x then y, with a space between them.
 fn put_pair(text: &mut [u8], at: usize, letter: u8, slot: usize) -> usize
-    ensures { λ r. ⌜ Wrote (now (text .entry)) (now (text .exit)) at r (spelling letter slot 120 ++ (ascii " " ++ spelling letter slot 121)) ⌝ }
+    ensures { λ r. ⌜ Wrote (now (text .entry)) at
+        (spelling letter slot 120 ++ (ascii " " ++ spelling letter slot 121)) (now (text .exit)) r ⌝ }
 {
     let space = text::put_name(text, at, letter, slot, b'x');
     put_second(text, space, letter, slot)
@@ -43,7 +57,7 @@ fn put_pair(text: &mut [u8], at: usize, letter: u8, slot: usize) -> usize
 
 // Writes a space and a slot's y name.
 fn put_second(text: &mut [u8], at: usize, letter: u8, slot: usize) -> usize
-    ensures { λ r. ⌜ Wrote (now (text .entry)) (now (text .exit)) at r (ascii " " ++ spelling letter slot 121) ⌝ }
+    ensures { λ r. ⌜ Wrote (now (text .entry)) at (ascii " " ++ spelling letter slot 121) (now (text .exit)) r ⌝ }
 {
     let name = text::put_byte(text, at, b' ');
     text::put_name(text, name, letter, slot, b'y')
@@ -51,7 +65,8 @@ fn put_second(text: &mut [u8], at: usize, letter: u8, slot: usize) -> usize
 
 // Writes a space and the two names of a slot.
 fn put_spaced_pair(text: &mut [u8], at: usize, letter: u8, slot: usize) -> usize
-    ensures { λ r. ⌜ Wrote (now (text .entry)) (now (text .exit)) at r (ascii " " ++ (spelling letter slot 120 ++ (ascii " " ++ spelling letter slot 121))) ⌝ }
+    ensures { λ r. ⌜ Wrote (now (text .entry)) at
+        (ascii " " ++ (spelling letter slot 120 ++ (ascii " " ++ spelling letter slot 121))) (now (text .exit)) r ⌝ }
 {
     let names = text::put_byte(text, at, b' ');
     put_pair(text, names, letter, slot)
@@ -59,7 +74,8 @@ fn put_spaced_pair(text: &mut [u8], at: usize, letter: u8, slot: usize) -> usize
 
 // Writes the names that a slot's mark asks for, each after a space.
 fn put_mark_names(text: &mut [u8], at: usize, slot: usize, mark: u8) -> usize
-    ensures { λ r. ⌜ Wrote (now (text .entry)) (now (text .exit)) at r (spaced (map nameText (namesOfMark slot mark))) ⌝ }
+    ensures { λ r. ⌜ Wrote (now (text .entry)) at
+        (spaced (map nameText (namesOfMark slot mark))) (now (text .exit)) r ⌝ }
 {
     if mark == 1 {
         return put_spaced_pair(text, at, b'n', slot);
@@ -72,7 +88,7 @@ fn put_mark_names(text: &mut [u8], at: usize, slot: usize, mark: u8) -> usize
 
 // Writes the names that the marks from a slot on ask for, each after a space.
 fn put_names(text: &mut [u8], start: usize, recorded: &[u8], first: usize) -> usize
-    ensures { λ r. ⌜ Wrote (now (text .entry)) (now (text .exit)) start r (namesFrom (now (recorded .entry)) first) ⌝ }
+    ensures { λ r. ⌜ Wrote (now (text .entry)) start (namesFrom (now (recorded .entry)) first) (now (text .exit)) r ⌝ }
 {
     let mut at = start;
     let mut slot = first;
@@ -104,7 +120,8 @@ fn first_asked(recorded: &[u8]) -> usize
 // Writes the line that asks for values, from the first slot that is asked for.
 fn put_values(text: &mut [u8], at: usize, letter: u8, recorded: &[u8], slot: usize) -> usize
     requires { ⌜ slot < length (now recorded) ⌝ }
-    ensures { λ r. ⌜ Wrote (now (text .entry)) (now (text .exit)) at r (valuesText letter slot (namesFrom (now (recorded .entry)) (slot + 1))) ⌝ }
+    ensures { λ r. ⌜ Wrote (now (text .entry)) at
+        (valuesText letter slot (namesFrom (now (recorded .entry)) (slot + 1))) (now (text .exit)) r ⌝ }
 {
     let names = text::put_bytes(text, at, b"(get-value (");
     let rest = put_pair(text, names, letter, slot);
@@ -114,7 +131,7 @@ fn put_values(text: &mut [u8], at: usize, letter: u8, recorded: &[u8], slot: usi
 
 // Writes the line that asks for the values of the names asked, if there are any.
 fn put_get_value(text: &mut [u8], at: usize, recorded: &[u8]) -> usize
-    ensures { λ r. ⌜ Wrote (now (text .entry)) (now (text .exit)) at r (getValue (asked (now (recorded .entry)))) ⌝ }
+    ensures { λ r. ⌜ Wrote (now (text .entry)) at (getValue (asked (now (recorded .entry)))) (now (text .exit)) r ⌝ }
 {
     let slot = first_asked(recorded);
     if slot < recorded.len() {
@@ -128,7 +145,9 @@ fn put_get_value(text: &mut [u8], at: usize, recorded: &[u8]) -> usize
 
 // Writes what follows the calls' lines.
 pub fn put_ending(text: &mut [u8], at: usize, calls: &[u32], recorded: &[u8]) -> usize
-    ensures { λ r. ⌜ Wrote (now (text .entry)) (now (text .exit)) at r (ending (leaves sorts.start (decode (now (calls .entry))) .checked) (asked (now (recorded .entry)))) ⌝ }
+    ensures { λ r. ⌜ Wrote (now (text .entry)) at
+        (ending (leaves sorts.start (decode (now (calls .entry))) .checked) (asked (now (recorded .entry))))
+        (now (text .exit)) r ⌝ }
 {
     if has_check(calls) {
         return put_get_value(text, at, recorded);
@@ -153,7 +172,7 @@ fn low_number(number: u32) -> u32
 fn declares_here(calls: &[u32], head: usize, letter: u32, index: usize, suffix: u32) -> bool
     ensures { λ r. ⌜ r ≡ declaresName letter index suffix (callAt (now (calls .entry)) head) ⌝ }
 {
-    if pieces::shape(call_list::operation_number(calls, head)) != 5 {
+    if !call_list::is_declare(call_list::operation_at(calls, head)) {
         return false;
     }
     if letter != low_number(call_list::argument_at(calls, head, 0)) {

@@ -1,33 +1,28 @@
 -- What the writer's functions need to know of the pieces of a line.
 use mathlib.Core.Path.{_≡_, refl, sym, ap, _∙_}
-use mathlib.Core.Bool.{Bool, true, false, cond}
+use mathlib.Core.Bool.{true, false, cond}
 use mathlib.Core.List.{List, [], _∷_, _++_, append-assoc, append-nil}
-use Prim.Native.Nat.{ℕ, zero, suc, _+_, _-_, _/_, _%_, _<_, _≤_}
-use native.Mathlib.Numerals.{add-one, sub-one}
-use native.Mathlib.Omega.{arith}
-use lib.Dec.{eqb}
+use Prim.Native.Nat.{ℕ, zero, suc, _+_, _<_, _≤_}
+use native.Mathlib.Numerals.{add-one}
 use lib.ListN.{getD}
-use borrow.Author.Tests.{ne-eqb, eqb-true, eqb-false, lt-ltb, le-ltb}
-use Rattle.logic.specs.Word.{payloadOf}
+use borrow.Author.Tests.{lt-ltb, le-ltb}
 use Rattle.logic.specs.Table.{tab}
-use Rattle.bitvec.specs.Bits.{bit, odd, nat2bv}
 use Rattle.engine.specs.Call as c
-use Rattle.engine.specs.Encode.{Op, callOf, opOf, letters, suffixes, operationAt, countAt}
+use Rattle.engine.specs.Encode.{Op, callOf, letters, suffixes, operationAt, countAt}
 use Rattle.engine.specs.Encode as o
 use Rattle.text.specs.Bytes.{ascii, decimal}
-use Rattle.text.specs.Names.{nameText}
+use Rattle.text.specs.Names.{letterText, suffixText, nameText}
 use Rattle.call_list.specs.Literal.{payloads}
+use Rattle.call_list.specs.Operations.{isDeclare}
 use Rattle.term_table.specs.Tables.{placeBy}
-use Rattle.pieces.specs.Text.{numbered, spelledAs, sortText, bitsText, spaced, applied, conjunction}
-use Rattle.pieces.specs.Shape.{shapeOf, shapeAt, nameOf}
+use Rattle.syntax.specs.Text.{operationText}
+use Rattle.pieces.specs.Text.{numbered, spelledAs, spaced, applied, conjunction}
+use Rattle.pieces.specs.Shape.{nameOf}
 use Rattle.pieces.specs.Arguments.{referenceBy}
 
--- The shape as the code finds it.
-pub shape-at : (w : List ℕ) (head : ℕ) {op shape : ℕ} → op ≡ payloadOf (getD w head 0) % 32 → shape ≡ shapeOf (opOf op) → shapeAt w head ≡ shape
-shape-at w head is-op is-shape = rw (is-shape, is-op)
-
 -- A declared term is written by its name, any other by its number.
-spelled-by : (op : Op) (n : ℕ) (a : ℕ → ℕ) (k : ℕ) → spelledAs k (callOf op n a) ≡ cond (eqb (shapeOf op) 5) (nameText (nameOf a)) (numbered k)
+spelled-by : (op : Op) (n : ℕ) (a : ℕ → ℕ) (k : ℕ)
+    → spelledAs k (callOf op n a) ≡ cond (isDeclare op) (nameText (nameOf a)) (numbered k)
 spelled-by o.boolLit n a k = refl
 spelled-by o.boolIte n a k = refl
 spelled-by o.not n a k = refl
@@ -58,20 +53,35 @@ suffix-none (suc zero) one two = absurd (one refl)
 suffix-none (suc (suc zero)) one two = absurd (two refl)
 suffix-none (suc (suc (suc n))) one two = refl
 
+-- The name that a record's arguments spell.
+pub name-spelled : {letter index suffix : ℕ} (a : ℕ → ℕ) → (letter ∷ []) ≡ letterText (getD letters (a 0) c.n)
+    → index ≡ a 1 → suffix ≡ a 2
+    → (letter ∷ []) ++ decimal index ++ suffixText (getD suffixes suffix c.none) ≡ nameText (nameOf a)
+name-spelled {letter} {index} {suffix} a is-letter is-index is-suffix =
+    ap (λ (l : List ℕ). l ++ decimal index ++ suffixText (getD suffixes suffix c.none)) is-letter
+    ∙ rw (is-index, is-suffix)
+
+-- k and a number have no suffix.
+pub numbered-spelled : (k : ℕ) → (107 ∷ []) ++ decimal k ++ [] ≡ numbered k
+numbered-spelled k = append-nil _
+
 -- How a term is written by its record.
 module _ (places w : List ℕ) (terms term : ℕ) where
   pub reference-past : terms ≤ term → referenceBy places w terms term ≡ numbered term
   reference-past h = rw (le-ltb term terms h)
 
-  module _ (low : term < terms) {at op : ℕ} (found : at ≡ placeBy places w term) (is-op : op ≡ payloadOf (getD w at 0) % 32) where
-    by-shape : referenceBy places w terms term ≡ cond (eqb (shapeOf (opOf op)) 5) (nameText (nameOf (payloads w at))) (numbered term)
-    by-shape = rw (lt-ltb term terms low, ← found, is-op) (spelled-by (operationAt w at) (countAt w at) (payloads w at) term)
+  module _ (low : term < terms) {at : ℕ} (found : at ≡ placeBy places w term) where
+    by-operation : referenceBy places w terms term
+        ≡ cond (isDeclare (operationAt w at)) (nameText (nameOf (payloads w at))) (numbered term)
+    by-operation = rw (lt-ltb term terms low, ← found)
+        (spelled-by (operationAt w at) (countAt w at) (payloads w at) term)
 
-    pub reference-declared : shapeOf (opOf op) ≡ 5 → referenceBy places w terms term ≡ nameText (nameOf (payloads w at))
-    reference-declared e = by-shape ∙ rw e
+    pub reference-declared : isDeclare (operationAt w at) ≡ true
+        → referenceBy places w terms term ≡ nameText (nameOf (payloads w at))
+    reference-declared e = by-operation ∙ rw e
 
-    pub reference-numbered : (shapeOf (opOf op) ≡ 5 → ⊥) → referenceBy places w terms term ≡ numbered term
-    reference-numbered e = by-shape ∙ rw (ne-eqb _ 5 e)
+    pub reference-numbered : isDeclare (operationAt w at) ≡ false → referenceBy places w terms term ≡ numbered term
+    reference-numbered e = by-operation ∙ rw e
 
 -- Texts after others, and one text.
 pub spaced-append : (a b : List (List ℕ)) → spaced (a ++ b) ≡ spaced a ++ spaced b
@@ -102,31 +112,8 @@ module _ (f : ℕ → List ℕ) where
   unfolding tab
   conjunction-one n e = rw e
 
-  pub conjunction-more : (n : ℕ) → (n ≡ 1 → ⊥) → conjunction (tab n f) ≡ applied (ascii "and") (tab n f)
+  pub conjunction-more : (n : ℕ) → (n ≡ 1 → ⊥) → conjunction (tab n f) ≡ applied (operationText o.and) (tab n f)
   unfolding tab
   conjunction-more zero e = refl
   conjunction-more (suc zero) e = absurd (e refl)
   conjunction-more (suc (suc n)) e = refl
-
--- A literal's digits, the last one last.
-pub bits-none : (n width : ℕ) → width ≡ 0 → bitsText (nat2bv width n) ≡ []
-unfolding bitsText nat2bv
-bits-none n width e = rw e
-
-bit-odd : (n : ℕ) → bit (odd n) ≡ n % 2
-bit-odd n = go (eqb (n % 2) 1) refl
-  where
-    go : (b : Bool) → eqb (n % 2) 1 ≡ b → cond (eqb (n % 2) 1) 1 0 ≡ n % 2
-    go true e = rw e (sym (eqb-true (n % 2) 1 e))
-    go false e = let zero-bit : n % 2 ≡ 0 = (let no : n % 2 ≡ 1 → ⊥ = eqb-false (n % 2) 1 e in omega arith) in rw (e, zero-bit)
-
-pub bits-more : (n width : ℕ) → (width ≡ 0 → ⊥)
-    → bitsText (nat2bv width n) ≡ bitsText (nat2bv (width - 1) (n / 2)) ++ ((48 + n % 2) ∷ [])
-unfolding bitsText nat2bv
-bits-more n zero h = absurd (h refl)
-bits-more n (suc width) h = rw (bit-odd n, sub-one (suc width))
-
--- A sort that is no Bool's.
-pub sort-vector : (w : ℕ) → (w ≡ 0 → ⊥) → sortText w ≡ ascii "(_ BitVec " ++ decimal w ++ ascii ")"
-sort-vector zero h = absurd (h refl)
-sort-vector (suc n) h = refl

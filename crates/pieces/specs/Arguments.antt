@@ -1,13 +1,23 @@
 -- What the writer writes of a record's arguments, with a table of the places of terms.
 use mathlib.Core.Bool.{cond}
-use mathlib.Core.List.{List, [], _∷_}
+use mathlib.Core.List.{List, [], _∷_, _++_}
 use Prim.Native.Nat.{ℕ}
 use lib.Dec.{ltb}
+use lib.ListN.{getD}
 use Rattle.logic.specs.Table.{tab}
-use Rattle.engine.specs.Encode.{callAt}
+use Rattle.engine.specs.Call as c
+use Rattle.engine.specs.Encode.{suffixes, callAt}
 use Rattle.call_list.specs.Literal.{payloads}
 use Rattle.term_table.specs.Tables.{placeBy}
-use Rattle.pieces.specs.Text.{numbered, spelledAs, extractText, applied}
+use Rattle.syntax.specs.Text.{extractText}
+use Rattle.text.specs.Bytes.{decimal}
+use Rattle.text.specs.Names.{suffixText}
+use Rattle.pieces.specs.declared.Spelling.{Spelling}
+use Rattle.pieces.specs.Text.{numbered, spelledAs, applied}
+
+-- A letter, a number in decimal and a suffix, by its number.
+abbrev pub spelled : Spelling → List ℕ
+spelled word = (word .letter ∷ []) ++ decimal (word .index) ++ suffixText (getD suffixes (word .suffix) c.none)
 
 -- How term k is written, of so many terms so far, by the record that the table and the records give for it.
 abbrev pub referenceBy : List ℕ → List ℕ → ℕ → ℕ → List ℕ

@@ -1,75 +1,52 @@
--- What the writer looks up of an operation: the shape of its line, and of an application the name and the number of arguments.
-use mathlib.Core.List.{List, []}
+-- What the writer goes by: what the line of an operation's record does, and how its term is written.
 use Prim.Native.Nat.{ℕ}
 use lib.ListN.{getD}
 use Rattle.engine.specs.Call.{Name}
 use Rattle.engine.specs.Call as c
-use Rattle.engine.specs.Encode.{Op, letters, suffixes, operationAt}
+use Rattle.engine.specs.Encode.{Op, letters, suffixes}
 use Rattle.engine.specs.Encode as o
-use Rattle.text.specs.Bytes.{ascii}
-use Rattle.pieces.specs.Text.{binaryText, compareText}
+use Rattle.pieces.specs.declared.Line.{Line}
+use Rattle.pieces.specs.declared.Line.the-variants.{Define, Declare, Assert, Check}
+use Rattle.pieces.specs.declared.Body.{Body}
+use Rattle.pieces.specs.declared.Body.the-variants as body
 
--- The shape of an operation's line: an application (0), a Bool (1), an and (2), a literal (3), an extract (4), a declaration (5), an
--- assertion (6), check (7).
-abbrev pub shapeOf : Op → ℕ
-shapeOf o.boolLit = 1
-shapeOf o.boolIte = 0
-shapeOf o.not = 0
-shapeOf o.and = 2
-shapeOf o.lit = 3
-shapeOf o.equal = 0
-shapeOf o.ite = 0
-shapeOf o.concat = 0
-shapeOf o.extract = 4
-shapeOf o.bvnot = 0
-shapeOf (o.op2 op) = 0
-shapeOf (o.compare op) = 0
-shapeOf o.declare = 5
-shapeOf o.assert = 6
-shapeOf o.check = 7
-shapeOf o.unknown = 7
+-- A term is defined, a name declared.
+abbrev pub lineOf : Op → Line
+lineOf o.boolLit = Define
+lineOf o.boolIte = Define
+lineOf o.not = Define
+lineOf o.and = Define
+lineOf o.lit = Define
+lineOf o.equal = Define
+lineOf o.ite = Define
+lineOf o.concat = Define
+lineOf o.extract = Define
+lineOf o.bvnot = Define
+lineOf (o.op2 op) = Define
+lineOf (o.compare op) = Define
+lineOf o.declare = Declare
+lineOf o.assert = Assert
+lineOf o.check = Check
+lineOf o.unknown = Check
 
--- The shape of the line of the record at a place.
-abbrev pub shapeAt : List ℕ → ℕ → ℕ
-shapeAt w head = shapeOf (operationAt w head)
-
--- How many arguments an application has.
-abbrev pub arityOf : Op → ℕ
-arityOf o.boolLit = 0
-arityOf o.boolIte = 3
-arityOf o.not = 1
-arityOf o.and = 0
-arityOf o.lit = 0
-arityOf o.equal = 2
-arityOf o.ite = 3
-arityOf o.concat = 2
-arityOf o.extract = 0
-arityOf o.bvnot = 1
-arityOf (o.op2 op) = 2
-arityOf (o.compare op) = 2
-arityOf o.declare = 0
-arityOf o.assert = 0
-arityOf o.check = 0
-arityOf o.unknown = 0
-
--- The name of an application's operation.
-abbrev pub operationText : Op → List ℕ
-operationText o.boolLit = []
-operationText o.boolIte = ascii "ite"
-operationText o.not = ascii "not"
-operationText o.and = ascii "and"
-operationText o.lit = []
-operationText o.equal = ascii "="
-operationText o.ite = ascii "ite"
-operationText o.concat = ascii "concat"
-operationText o.extract = []
-operationText o.bvnot = ascii "bvnot"
-operationText (o.op2 op) = binaryText op
-operationText (o.compare op) = compareText op
-operationText o.declare = []
-operationText o.assert = []
-operationText o.check = []
-operationText o.unknown = []
+-- A term is an operation applied to its arguments, but for literals, an and and an extract.
+abbrev pub bodyOf : Op → Body
+bodyOf o.boolLit = body.Bool
+bodyOf o.boolIte = body.Application
+bodyOf o.not = body.Application
+bodyOf o.and = body.And
+bodyOf o.lit = body.Literal
+bodyOf o.equal = body.Application
+bodyOf o.ite = body.Application
+bodyOf o.concat = body.Application
+bodyOf o.extract = body.Extract
+bodyOf o.bvnot = body.Application
+bodyOf (o.op2 op) = body.Application
+bodyOf (o.compare op) = body.Application
+bodyOf o.declare = body.Application
+bodyOf o.assert = body.Application
+bodyOf o.check = body.Application
+bodyOf o.unknown = body.Application
 
 -- The name that a declaration's arguments spell.
 abbrev pub nameOf : (ℕ → ℕ) → Name

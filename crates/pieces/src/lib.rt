@@ -1,89 +1,92 @@
-// The pieces of a script's lines: terms, sorts and applications as SMT-LIB text in a lent slice of bytes. Each function writes a piece from
-// a place on and gives the next place; past the slice's end it only counts.
+// The pieces of a script's lines: names, terms and applications as SMT-LIB text in a lent slice of bytes. Each function
+// writes a piece from a place on and gives the next place; past the slice's end it only counts.
+use call_list::Operation;
 use logic::Term;
 ghost use mathlib.Core.Path.{_≡_};
 ghost use mathlib.Core.List.{_∷_, [], _++_};
-ghost use Prim.Native.Nat.{_-_, _≤_};
-ghost use lib.Dec.{eqb};
-ghost use lib.ListN.{length, getD, take, drop};
-ghost use Rattle.bitvec.specs.Bits.{nat2bv};
+ghost use lib.ListN.{getD};
 ghost use Rattle.engine.specs.Call as c;
-ghost use Rattle.engine.specs.Encode.{opOf, letters, suffixes};
+ghost use Rattle.engine.specs.Emit.{Wrote};
+ghost use Rattle.engine.specs.Encode.{letters, suffixes};
 ghost use Rattle.text.specs.Bytes.{ascii};
 ghost use Rattle.text.specs.Names.{letterText, suffixText, nameText};
-ghost use Rattle.text.specs.Write.{Wrote};
 ghost use Rattle.call_list.specs.Literal.{payloads};
-ghost use Rattle.pieces.specs.Text.{numbered, sortText, boolText, bitsText, extractText, spaced, applied, conjunction};
-ghost use Rattle.pieces.specs.Shape.{shapeOf, arityOf, nameOf, operationText};
-ghost use Rattle.pieces.specs.Arguments.{referenceBy, argumentTexts, extractionText};
+ghost use Rattle.call_list.specs.Operations.{opFrom};
+ghost use Rattle.syntax.specs.Text.{operationText};
+ghost use Rattle.pieces.specs.Text.{numbered, spaced, applied, conjunction};
+ghost use Rattle.pieces.specs.Shape.{lineOf, bodyOf, nameOf};
+ghost use Rattle.pieces.specs.Arguments.{spelled, referenceBy, argumentTexts, extractionText};
 
-// The shape of each operation's line: an application (0), a Bool (1), an and (2), a literal (3), an extract (4), a declaration (5), an
-// assertion (6), check (7).
-const SHAPES: [u8; 24] = [
-    1,
-    0,
-    0,
-    2,
-    3,
-    0,
-    0,
-    0,
-    4,
-    0,
-    0,
-    0,
-    0,
-    0,
-    0,
-    0,
-    0,
-    0,
-    0,
-    0,
-    0,
-    5,
-    6,
-    7,
-];
-
-pub fn shape(op: u32) -> u8
-    ensures { λ r. ⌜ r ≡ shapeOf (opOf op) ⌝ }
-{
-    if op < 24 { SHAPES[op as usize] } else { 7 }
+// How a term is written: a letter, a number and a suffix, by its number.
+struct Spelling {
+    letter: u8,
+    index: usize,
+    suffix: u32,
 }
 
-// How many arguments each operation's application has.
-const ARITIES: [u8; 24] = [
-    0,
-    3,
-    1,
-    0,
-    0,
-    2,
-    3,
-    2,
-    0,
-    1,
-    2,
-    2,
-    2,
-    2,
-    2,
-    2,
-    2,
-    2,
-    2,
-    2,
-    2,
-    0,
-    0,
-    0,
-];
+// What the line of a record does.
+pub enum Line {
+    Define,
+    Declare,
+    Assert,
+    Check,
+}
 
-pub fn arity(op: u32) -> u8
-    ensures { λ r. ⌜ r ≡ arityOf (opOf op) ⌝ }
+// How the term that a record defines is written.
+pub enum Body {
+    Bool,
+    And,
+    Literal,
+    Extract,
+    Application,
+}
+
+// What the line of an operation's record does.
+pub fn line_of(operation: Operation) -> Line
+    ensures { λ r. ⌜ r ≡ lineOf (opFrom operation) ⌝ }
 {
-    if op < 24 { ARITIES[op as usize] } else { 0 }
+    match operation {
+        Operation::BoolLit => Line::Define,
+        Operation::BoolIte => Line::Define,
+        Operation::Not => Line::Define,
+        Operation::And => Line::Define,
+        Operation::Lit => Line::Define,
+        Operation::Equal => Line::Define,
+        Operation::Ite => Line::Define,
+        Operation::Concat => Line::Define,
+        Operation::Extract => Line::Define,
+        Operation::BvNot => Line::Define,
+        Operation::Binary(_) => Line::Define,
+        Operation::Compare(_) => Line::Define,
+        Operation::Declare => Line::Declare,
+        Operation::Assert => Line::Assert,
+        Operation::Check => Line::Check,
+        Operation::Unknown => Line::Check,
+    }
+}
+
+// How the term of an operation's record is written.
+pub fn body_of(operation: Operation) -> Body
+    ensures { λ r. ⌜ r ≡ bodyOf (opFrom operation) ⌝ }
+{
+    match operation {
+        Operation::BoolLit => Body::Bool,
+        Operation::BoolIte => Body::Application,
+        Operation::Not => Body::Application,
+        Operation::And => Body::And,
+        Operation::Lit => Body::Literal,
+        Operation::Equal => Body::Application,
+        Operation::Ite => Body::Application,
+        Operation::Concat => Body::Application,
+        Operation::Extract => Body::Extract,
+        Operation::BvNot => Body::Application,
+        Operation::Binary(_) => Body::Application,
+        Operation::Compare(_) => Body::Application,
+        Operation::Declare => Body::Application,
+        Operation::Assert => Body::Application,
+        Operation::Check => Body::Application,
+        Operation::Unknown => Body::Application,
+    }
 }
 
 // The byte of a letter's number.
@@ -101,7 +104,7 @@ fn letter_byte(letter: u32) -> u8
 
 // Writes a suffix, by its number.
 fn put_suffix(text: &mut [u8], at: usize, suffix: u32) -> usize
-    ensures { λ r. ⌜ Wrote (now (text .entry)) (now (text .exit)) at r (suffixText (getD suffixes suffix c.none)) ⌝ }
+    ensures { λ r. ⌜ Wrote (now (text .entry)) at (suffixText (getD suffixes suffix c.none)) (now (text .exit)) r ⌝ }
 {
     if suffix == 1 {
         return text::put_byte(text, at, b'x');
@@ -112,28 +115,68 @@ fn put_suffix(text: &mut [u8], at: usize, suffix: u32) -> usize
     at
 }
 
+// Writes a letter, a number and a suffix.
+fn put_spelling(text: &mut [u8], at: usize, word: Spelling) -> usize
+    ensures { λ r. ⌜ Wrote (now (text .entry)) at (spelled word) (now (text .exit)) r ⌝ }
+{
+    let index = text::put_byte(text, at, word.letter);
+    let suffix = text::put_number(text, index, word.index);
+    put_suffix(text, suffix, word.suffix)
+}
+
+// The name that the record at a place declares.
+fn declared_name(calls: &[u32], head: usize) -> Spelling
+    ensures { λ r. ⌜ spelled r ≡ nameText (nameOf (payloads (now (calls .entry)) head)) ⌝ }
+{
+    Spelling {
+        letter: letter_byte(call_list::argument_at(calls, head, 0)),
+        index: call_list::argument_at(calls, head, 1) as usize,
+        suffix: call_list::argument_at(calls, head, 2),
+    }
+}
+
+// k and a term's number.
+fn number_of(term: usize) -> Spelling
+    ensures { λ r. ⌜ spelled r ≡ numbered term ⌝ }
+{
+    Spelling {
+        letter: b'k',
+        index: term,
+        suffix: 0,
+    }
+}
+
 // Writes the name that the record at a place declares.
 pub fn put_declared(text: &mut [u8], at: usize, calls: &[u32], head: usize) -> usize
-    ensures { λ r. ⌜ Wrote (now (text .entry)) (now (text .exit)) at r (nameText (nameOf (payloads (now (calls .entry)) head))) ⌝ }
+    ensures { λ r. ⌜ Wrote (now (text .entry)) at (nameText (nameOf (payloads (now (calls .entry)) head)))
+        (now (text .exit)) r ⌝ }
 {
-    let index = text::put_byte(
-        text,
-        at,
-        letter_byte(call_list::argument_at(calls, head, 0)),
-    );
-    let suffix = text::put_number(text, index, call_list::argument_at(calls, head, 1) as usize);
-    put_suffix(text, suffix, call_list::argument_at(calls, head, 2))
+    put_spelling(text, at, declared_name(calls, head))
 }
 
 // Writes k and a term's number.
 pub fn put_numbered(text: &mut [u8], at: usize, term: usize) -> usize
-    ensures { λ r. ⌜ Wrote (now (text .entry)) (now (text .exit)) at r (numbered term) ⌝ }
+    ensures { λ r. ⌜ Wrote (now (text .entry)) at (numbered term) (now (text .exit)) r ⌝ }
 {
-    let number = text::put_byte(text, at, b'k');
-    text::put_number(text, number, term)
+    put_spelling(text, at, number_of(term))
 }
 
-// Writes a term, of so many so far: a declared one by its name, any other by its number.
+// How a term, of so many so far, is written: a declared one by its name, any other by its number.
+fn reference_of(calls: &[u32], places: &[u32], terms: usize, term: Term) -> Spelling
+    ensures { λ r. ⌜ spelled r ≡ referenceBy (now (places .entry)) (now (calls .entry)) terms (term .0) ⌝ }
+{
+    let k = term.0 as usize;
+    if terms <= k {
+        return number_of(k);
+    }
+    let head = term_table::term_place(calls, places, term);
+    if call_list::is_declare(call_list::operation_at(calls, head)) {
+        return declared_name(calls, head);
+    }
+    number_of(k)
+}
+
+// Writes a term, of so many so far.
 pub fn put_reference(
     text: &mut [u8],
     at: usize,
@@ -142,68 +185,10 @@ pub fn put_reference(
     terms: usize,
     term: Term,
 ) -> usize
-    ensures { λ r. ⌜ Wrote (now (text .entry)) (now (text .exit)) at r (referenceBy (now (places .entry)) (now (calls .entry)) terms (term .0)) ⌝ }
+    ensures { λ r. ⌜ Wrote (now (text .entry)) at
+        (referenceBy (now (places .entry)) (now (calls .entry)) terms (term .0)) (now (text .exit)) r ⌝ }
 {
-    let k = term.0 as usize;
-    if terms <= k {
-        return put_numbered(text, at, k);
-    }
-    let head = term_table::term_place(calls, places, term);
-    if shape(call_list::operation_number(calls, head)) == 5 {
-        return put_declared(text, at, calls, head);
-    }
-    put_numbered(text, at, k)
-}
-
-// Writes the part of a list of bytes between two places.
-fn put_part(text: &mut [u8], at: usize, bytes: &[u8], start: usize, end: usize) -> usize
-    requires { ⌜ (start ≤ end) × (end ≤ length (now bytes)) ⌝ }
-    ensures { λ r. ⌜ Wrote (now (text .entry)) (now (text .exit)) at r (take (end - start) (drop start (now (bytes .entry)))) ⌝ }
-{
-    text::put_bytes(text, at, &bytes[start..end])
-}
-
-// Where each operation's name starts among the names, and the next one's.
-const NAME_STARTS: [usize; 25] = [
-    0,
-    0,
-    3,
-    6,
-    9,
-    9,
-    10,
-    13,
-    19,
-    19,
-    24,
-    29,
-    33,
-    38,
-    43,
-    49,
-    54,
-    59,
-    64,
-    70,
-    76,
-    81,
-    81,
-    81,
-    81,
-];
-
-// Writes the name of an operation.
-fn put_operation(text: &mut [u8], at: usize, op: u32) -> usize
-    ensures { λ r. ⌜ Wrote (now (text .entry)) (now (text .exit)) at r (operationText (opOf op)) ⌝ }
-{
-    if op < 24 {
-        let start = NAME_STARTS[op as usize];
-        let end = NAME_STARTS[op as usize + 1];
-        let names =
-            b"itenotand=iteconcatbvnotbvandbvorbvxorbvaddbvcompbvultbvsltbvshlbvlshrbvashrbvmul";
-        return put_part(text, at, names, start, end);
-    }
-    at
+    put_spelling(text, at, reference_of(calls, places, terms, term))
 }
 
 // Writes a space and a term.
@@ -215,7 +200,8 @@ fn put_argument(
     terms: usize,
     term: Term,
 ) -> usize
-    ensures { λ r. ⌜ Wrote (now (text .entry)) (now (text .exit)) at r (ascii " " ++ referenceBy (now (places .entry)) (now (calls .entry)) terms (term .0)) ⌝ }
+    ensures { λ r. ⌜ Wrote (now (text .entry)) at
+        (ascii " " ++ referenceBy (now (places .entry)) (now (calls .entry)) terms (term .0)) (now (text .exit)) r ⌝ }
 {
     let next = text::put_byte(text, at, b' ');
     put_reference(text, next, calls, places, terms, term)
@@ -231,7 +217,8 @@ fn put_arguments(
     head: usize,
     n: u32,
 ) -> usize
-    ensures { λ r. ⌜ Wrote (now (text .entry)) (now (text .exit)) start r (spaced (argumentTexts (now (places .entry)) (now (calls .entry)) terms head n)) ⌝ }
+    ensures { λ r. ⌜ Wrote (now (text .entry)) start
+        (spaced (argumentTexts (now (places .entry)) (now (calls .entry)) terms head n)) (now (text .exit)) r ⌝ }
 {
     let mut at = start;
     let mut i = 0;
@@ -251,13 +238,15 @@ pub fn put_application(
     places: &[u32],
     terms: usize,
     head: usize,
-    op: u32,
+    operation: Operation,
     n: u32,
 ) -> usize
-    ensures { λ r. ⌜ Wrote (now (text .entry)) (now (text .exit)) at r (applied (operationText (opOf op)) (argumentTexts (now (places .entry)) (now (calls .entry)) terms head n)) ⌝ }
+    ensures { λ r. ⌜ Wrote (now (text .entry)) at
+        (applied (operationText (opFrom operation))
+        (argumentTexts (now (places .entry)) (now (calls .entry)) terms head n)) (now (text .exit)) r ⌝ }
 {
-    let operation = text::put_byte(text, at, b'(');
-    let arguments = put_operation(text, operation, op);
+    let name = text::put_byte(text, at, b'(');
+    let arguments = syntax::put_operation(text, name, operation);
     let closing = put_arguments(text, arguments, calls, places, terms, head, n);
     text::put_byte(text, closing, b')')
 }
@@ -272,45 +261,14 @@ pub fn put_conjunction(
     head: usize,
     n: u32,
 ) -> usize
-    ensures { λ r. ⌜ Wrote (now (text .entry)) (now (text .exit)) at r (conjunction (argumentTexts (now (places .entry)) (now (calls .entry)) terms head n)) ⌝ }
+    ensures { λ r. ⌜ Wrote (now (text .entry)) at
+        (conjunction (argumentTexts (now (places .entry)) (now (calls .entry)) terms head n)) (now (text .exit)) r ⌝ }
 {
     if n == 1 {
         let term = Term(call_list::argument_at(calls, head, 0));
         return put_reference(text, at, calls, places, terms, term);
     }
-    put_application(text, at, calls, places, terms, head, 3, n)
-}
-
-// Writes a Bool, by its number.
-pub fn put_bool(text: &mut [u8], at: usize, number: u32) -> usize
-    ensures { λ r. ⌜ Wrote (now (text .entry)) (now (text .exit)) at r (boolText (eqb number 1)) ⌝ }
-{
-    if number == 1 {
-        return text::put_bytes(text, at, b"true");
-    }
-    text::put_bytes(text, at, b"false")
-}
-
-// Writes the low bits of a number, the highest first.
-pub fn put_bits(text: &mut [u8], at: usize, n: u64, width: u32) -> usize
-    ensures { λ r. ⌜ Wrote (now (text .entry)) (now (text .exit)) at r (bitsText (nat2bv width n)) ⌝ }
-{
-    if width == 0 {
-        return at;
-    }
-    let last = put_bits(text, at, n / 2, width - 1);
-    text::put_byte(text, last, (48 + n % 2) as u8)
-}
-
-// Writes the operation of an extract with its two numbers.
-fn put_extract(text: &mut [u8], at: usize, high: usize, low: usize) -> usize
-    ensures { λ r. ⌜ Wrote (now (text .entry)) (now (text .exit)) at r (extractText high low) ⌝ }
-{
-    let first = text::put_bytes(text, at, b"(_ extract ");
-    let space = text::put_number(text, first, high);
-    let second = text::put_byte(text, space, b' ');
-    let closing = text::put_number(text, second, low);
-    text::put_byte(text, closing, b')')
+    put_application(text, at, calls, places, terms, head, Operation::And, n)
 }
 
 // Writes the part of a vector that a record takes out.
@@ -322,25 +280,14 @@ pub fn put_extraction(
     terms: usize,
     head: usize,
 ) -> usize
-    ensures { λ r. ⌜ Wrote (now (text .entry)) (now (text .exit)) at r (extractionText (now (places .entry)) (now (calls .entry)) terms head) ⌝ }
+    ensures { λ r. ⌜ Wrote (now (text .entry)) at
+        (extractionText (now (places .entry)) (now (calls .entry)) terms head) (now (text .exit)) r ⌝ }
 {
     let operation = text::put_byte(text, at, b'(');
     let high = call_list::argument_at(calls, head, 0) as usize;
     let low = call_list::argument_at(calls, head, 1) as usize;
-    let argument = put_extract(text, operation, high, low);
+    let argument = syntax::put_extract(text, operation, high, low);
     let term = Term(call_list::argument_at(calls, head, 2));
     let closing = put_argument(text, argument, calls, places, terms, term);
-    text::put_byte(text, closing, b')')
-}
-
-// Writes a sort.
-pub fn put_sort(text: &mut [u8], at: usize, sort: u32) -> usize
-    ensures { λ r. ⌜ Wrote (now (text .entry)) (now (text .exit)) at r (sortText sort) ⌝ }
-{
-    if sort == 0 {
-        return text::put_bytes(text, at, b"Bool");
-    }
-    let width = text::put_bytes(text, at, b"(_ BitVec ");
-    let closing = text::put_number(text, width, sort as usize);
     text::put_byte(text, closing, b')')
 }

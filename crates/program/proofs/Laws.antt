@@ -1,5 +1,5 @@
--- Laws of what the program writes: the words of the input one by one, the slots of an accepted list, a script that fits, and what is written for
--- each answer of `verify`.
+-- Laws of what the program writes: the words of the input one by one, the slots of an accepted list, a script that
+-- fits, and what is written for each answer of `verify`.
 use mathlib.Core.Path.{_≡_, refl, sym, ap, _∙_}
 use mathlib.Core.Bool.{Bool, true, false}
 use mathlib.Core.List.{List, [], _∷_, _++_}
@@ -16,7 +16,8 @@ use Rattle.fields.specs.Field.{fault}
 use Rattle.design_list.specs.declared.Extent.{Extent}
 use Rattle.design_list.specs.declared.DesignRead.the-variants as D
 use Rattle.design_list.specs.Read.{Read, refused, accepted, read, answer}
-use Rattle.text.specs.Write.{Wrote, capped, overwrite-fits}
+use Rattle.engine.specs.Emit.{Wrote, counted}
+use Rattle.text.specs.Write.{overwrite-fits}
 use Rattle.engine.specs.WellFormed.{malformedAt}
 use Rattle.engine.specs.Encode.{decode}
 use Rattle.asked.specs.Marks.{badMark}
@@ -85,19 +86,20 @@ script-fits w marks room {n} is =
 -- What the writer wrote is the script.
 pub wrote-script : (w marks before after : List ℕ) {n : ℕ} → length before < 2 ^ 64
     → Scripted w marks before after (Bytes n) (written w marks (length before))
-    → Wrote before after 0 n (scriptText w marks (length before))
+    → Wrote before 0 (scriptText w marks (length before)) after n
 wrote-script w marks before after short done =
     let fits = script-fits w marks (length before) (sym (done .answers)) in
     rw (← done .answers)
     (record {
-      stored = done .writes ∙ sym (overwrite-fits before (scriptOf w marks) (fits .1));
-      place = omega (arith, fits .0, fits .1);
+      words = done .writes ∙ sym (overwrite-fits before (scriptOf w marks) (fits .1));
+      count = omega (arith, fits .0, fits .1);
     })
 
 -- After the writer's refusal the text is as it was, and takes the refusal's line.
 pub wrote-refused : (w marks before middle after : List ℕ) {e : Fault} {r : ℕ}
-    → Scripted w marks before middle (Refused e) (written w marks (length before)) → Wrote middle after 0 r (refusalLine e)
-    → Wrote before after 0 r (scriptText w marks (length before))
+    → Scripted w marks before middle (Refused e) (written w marks (length before))
+    → Wrote middle 0 (refusalLine e) after r
+    → Wrote before 0 (scriptText w marks (length before)) after r
 wrote-refused w marks before middle after done wrote = rw (← done .answers) (rw (done .writes) at wrote)
 
 -- ---- what is written for each answer of `verify`

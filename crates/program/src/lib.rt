@@ -7,7 +7,7 @@ ghost use mathlib.Core.Path.{_≡_};
 ghost use Prim.Native.Nat.{_/_, _<_, _≤_};
 ghost use lib.ListN.{length, take};
 ghost use Rattle.design_list.specs.Read.{read};
-ghost use Rattle.text.specs.Write.{Wrote};
+ghost use Rattle.engine.specs.Emit.{Wrote};
 ghost use Rattle.program.specs.Output.{wordAt, wordsOf, refusalLine, scriptText, listOutput, outputIn, slotsIn};
 
 // The word that begins at byte 4 * i.
@@ -36,7 +36,7 @@ fn load(input: &[u8], words: &mut [u32])
 
 // Writes `refused N at P` and a line feed.
 fn put_refusal(text: &mut [u8], fault: Fault) -> usize
-    ensures { λ r. ⌜ Wrote (now (text .entry)) (now (text .exit)) 0 r (refusalLine fault) ⌝ }
+    ensures { λ r. ⌜ Wrote (now (text .entry)) 0 (refusalLine fault) (now (text .exit)) r ⌝ }
 {
     let number = text::put_bytes(text, 0, b"refused ");
     let between = text::put_number(text, number, fault.number as usize);
@@ -48,8 +48,9 @@ fn put_refusal(text: &mut [u8], fault: Fault) -> usize
 // Writes the script of the first call words and marks, or the writer's refusal.
 fn put_script(text: &mut [u8], calls: &[u32], words: usize, recorded: &[u8], slots: usize) -> usize
     requires { ⌜ (words ≤ length (now calls)) × (slots ≤ length (now recorded)) ⌝ }
-    ensures { λ r. ⌜ Wrote (now (text .entry)) (now (text .exit)) 0 r
-        (scriptText (take words (now (calls .entry))) (take slots (now (recorded .entry))) (length (now (text .entry)))) ⌝ }
+    ensures { λ r. ⌜ Wrote (now (text .entry)) 0
+        (scriptText (take words (now (calls .entry))) (take slots (now (recorded .entry)))
+        (length (now (text .entry)))) (now (text .exit)) r ⌝ }
 {
     match script::write_script(&calls[..words], &recorded[..slots], text) {
         Written::Bytes(n) => n,
@@ -69,8 +70,8 @@ fn slots_of(list: &[u32]) -> usize
 
 // Writes the script of a list of words, or its refusal, with 16,384 call words and 4,096 marks of its own.
 fn put_list(text: &mut [u8], list: &[u32]) -> usize
-    ensures { λ r. ⌜ Wrote (now (text .entry)) (now (text .exit)) 0 r
-        (listOutput (now (list .entry)) (length (now (text .entry)))) ⌝ }
+    ensures { λ r. ⌜ Wrote (now (text .entry)) 0 (listOutput (now (list .entry)) (length (now (text .entry))))
+        (now (text .exit)) r ⌝ }
 {
     let mut calls = [0u32; 16384];
     let mut recorded = [0u8; 4096];
@@ -82,11 +83,11 @@ fn put_list(text: &mut [u8], list: &[u32]) -> usize
     }
 }
 
-// What the program writes for the bytes of its input, from the start of a text on, and how many bytes it is; past the text's end it is
-// only counted.
+// What the program writes for the bytes of its input, from the start of a text on, and how many bytes it is; past the
+// text's end it is only counted.
 pub fn output(input: &[u8], text: &mut [u8]) -> usize
-    ensures { λ r. ⌜ Wrote (now (text .entry)) (now (text .exit)) 0 r
-        (outputIn (now (input .entry)) (length (now (text .entry)))) ⌝ }
+    ensures { λ r. ⌜ Wrote (now (text .entry)) 0 (outputIn (now (input .entry)) (length (now (text .entry))))
+        (now (text .exit)) r ⌝ }
 {
     if 65536 < input.len() {
         return put_refusal(

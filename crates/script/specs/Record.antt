@@ -1,35 +1,58 @@
 -- The line of a record: what the code writes at a place, after some records.
 use mathlib.Core.Path.{_≡_, ap, _∙_, sym}
+use mathlib.Core.Bool.{true, cond}
 use mathlib.Core.List.{List}
 use Prim.Native.Nat.{ℕ}
-use lib.ListN.{length}
-use borrow.Author.Tests.{ne-eqb}
-use Rattle.engine.specs.Encode.{operationAt, countAt, callAt}
+use lib.Dec.{ltb}
+use lib.ListN.{length, getD}
+use Rattle.engine.specs.Sorts.{Sort}
+use Rattle.engine.specs.Encode.{Op, operationAt, countAt, argumentAt, callAt}
+use Rattle.engine.specs.WellFormed.{countFits}
 use Rattle.call_list.specs.Made.{made, sortsOf, sortOfCall}
 use Rattle.call_list.specs.Records.{firstCalls}
 use Rattle.call_list.specs.Literal.{payloads, LiteralFits}
 use Rattle.term_table.specs.Tables.{recordSort}
 use Rattle.text.specs.Bytes.{ascii}
-use Rattle.pieces.specs.Text.{reference, applied}
-use Rattle.pieces.specs.Shape.{arityOf, operationText, nameOf, shapeAt}
-use Rattle.pieces.specs.Arguments.{referenceBy, argumentTexts}
+use Rattle.pieces.specs.Text.{reference}
+use Rattle.pieces.specs.Shape.{lineOf, bodyOf, nameOf}
+use Rattle.pieces.specs.Arguments.{referenceBy}
+use Rattle.pieces.specs.declared.Line.{Line}
+use Rattle.pieces.specs.declared.Line.the-variants.{Define, Declare, Assert, Check}
+use Rattle.pieces.specs.declared.Body.{Body}
+use Rattle.pieces.specs.declared.Body.the-variants.{Literal}
 use Rattle.script.specs.Text.{line}
 use Rattle.script.specs.Shape.{bodyBy, defineLine, declareLine, assertLine, lineBy, line-by}
 
+-- What the line of the record at a place does, and how its term is written.
+abbrev pub lineKind : List ℕ → ℕ → Line
+lineKind w head = lineOf (operationAt w head)
+
+abbrev pub bodyKind : List ℕ → ℕ → Body
+bodyKind w head = bodyOf (operationAt w head)
+
+-- The same as the code finds them.
+pub line-kind : (w : List ℕ) (head : ℕ) {op : Op} {found told : Line} → op ≡ operationAt w head → found ≡ lineOf op
+    → found ≡ told
+    → lineKind w head ≡ told
+line-kind w head is-op is-line is-told = ap lineOf (sym is-op) ∙ sym is-line ∙ is-told
+
+pub body-kind : (w : List ℕ) (head : ℕ) {op : Op} {found told : Body} → op ≡ operationAt w head → found ≡ bodyOf op
+    → found ≡ told
+    → bodyKind w head ≡ told
+body-kind w head is-op is-body is-told = ap bodyOf (sym is-op) ∙ sym is-body ∙ is-told
+
 -- The text of the term that the record at a place makes, after so many terms.
 abbrev pub bodyAt : List ℕ → List ℕ → ℕ → ℕ → List ℕ
-bodyAt places w terms head = bodyBy (shapeAt w head) (referenceBy places w terms) (operationAt w head) (countAt w head) (payloads w head)
+bodyAt places w terms head = bodyBy (bodyKind w head) (referenceBy places w terms) (operationAt w head)
+    (countAt w head) (payloads w head)
 
--- Any other term is an application.
-pub body-applied : (places w : List ℕ) (terms head : ℕ) → (shapeAt w head ≡ 1 → ⊥) → (shapeAt w head ≡ 2 → ⊥)
-    → (shapeAt w head ≡ 3 → ⊥) → (shapeAt w head ≡ 4 → ⊥)
-    → bodyAt places w terms head ≡ applied (operationText (operationAt w head)) (argumentTexts places w terms head (arityOf (operationAt w head)))
-body-applied places w terms head one two three four =
-    rw (ne-eqb (shapeAt w head) 1 one, ne-eqb (shapeAt w head) 2 two, ne-eqb (shapeAt w head) 3 three, ne-eqb (shapeAt w head) 4 four)
+-- The sort of the term that the record at a place makes: from the table, past it by the record.
+abbrev pub sortBy : List ℕ → List ℕ → ℕ → ℕ → Sort
+sortBy sorts w terms head = cond (ltb terms (length sorts)) (getD sorts terms 0) (recordSort sorts w head)
 
 -- What the writer needs of a record: a literal's numbers are of 16 bits.
 abbrev pub Ready : List ℕ → ℕ → Type 0
-Ready w head = shapeAt w head ≡ 3 → LiteralFits w head
+Ready w head = bodyKind w head ≡ Literal → LiteralFits w head
 
 -- The line of the record at a place, after so many terms.
 abbrev pub defineAt : List ℕ → List ℕ → ℕ → ℕ → ℕ → List ℕ
@@ -44,41 +67,45 @@ assertAt places w terms head = assertLine (referenceBy places w terms (payloads 
 abbrev pub lineAt : List ℕ → ℕ → ℕ → List ℕ
 lineAt w records head = line (firstCalls w records) (callAt w head)
 
--- What the writer needs at a place, after some records that make so many terms: the tables give their names and the record's sort.
+-- What the writer needs at a place, after some records that make so many terms: the record has its operation's
+-- arguments, and the tables give the names of the terms and the record's sort.
 pub record Writable (w places sorts : List ℕ) (records terms head : ℕ) : Type 0 where
   pub ready : Ready w head
+  pub counted : countFits (operationAt w head) (countAt w head) (argumentAt w head 0) ≡ true
   pub many : terms ≡ length (made (firstCalls w records))
-  pub sort : recordSort sorts w head ≡ sortOfCall (sortsOf (firstCalls w records)) (callAt w head)
+  pub sort : lineKind w head ≡ Define
+      → sortBy sorts w terms head ≡ sortOfCall (sortsOf (firstCalls w records)) (callAt w head)
   pub references : referenceBy places w terms ≡ reference (firstCalls w records)
 
-module _ (w : List ℕ) (records head : ℕ) where
-  by-shape : lineAt w records head ≡ lineBy (shapeAt w head) (firstCalls w records) (operationAt w head) (countAt w head) (payloads w head)
-  by-shape = line-by (operationAt w head) (countAt w head) (payloads w head) (firstCalls w records)
+module _ {w places sorts : List ℕ} {records terms head : ℕ} (can : Writable w places sorts records terms head) where
+  by-kind : lineAt w records head
+      ≡ lineBy (lineKind w head) (firstCalls w records) (operationAt w head) (countAt w head) (payloads w head)
+  by-kind = line-by (operationAt w head) (countAt w head) (payloads w head) (argumentAt w head 0)
+      (firstCalls w records) (can .counted)
 
-  pub line-declared : shapeAt w head ≡ 5 → lineAt w records head ≡ declareAt w head
-  line-declared e = by-shape ∙ rw e
+  pub line-declared : lineKind w head ≡ Declare → lineAt w records head ≡ declareAt w head
+  line-declared e = by-kind ∙ rw e
 
-  pub line-checked : shapeAt w head ≡ 7 → lineAt w records head ≡ ascii "(check-sat)\n"
-  line-checked e = by-shape ∙ rw e
+  pub line-checked : lineKind w head ≡ Check → lineAt w records head ≡ ascii "(check-sat)\n"
+  line-checked e = by-kind ∙ rw e
 
-  module _ {places sorts : List ℕ} {terms : ℕ} (can : Writable w places sorts records terms head) where
-    pub line-asserted : shapeAt w head ≡ 6 → lineAt w records head ≡ assertAt places w terms head
-    line-asserted e =
-        by-shape ∙ asserted ∙ ap (λ (r : ℕ → List ℕ). assertLine (r (payloads w head 0))) (sym (can .references))
-      where
-        asserted : lineBy (shapeAt w head) (firstCalls w records) (operationAt w head) (countAt w head) (payloads w head)
-            ≡ assertLine (reference (firstCalls w records) (payloads w head 0))
-        asserted = rw e
+  pub line-asserted : lineKind w head ≡ Assert → lineAt w records head ≡ assertAt places w terms head
+  line-asserted e =
+      by-kind ∙ asserted ∙ ap (λ (r : ℕ → List ℕ). assertLine (r (payloads w head 0))) (sym (can .references))
+    where
+      asserted : lineBy (lineKind w head) (firstCalls w records) (operationAt w head) (countAt w head) (payloads w head)
+          ≡ assertLine (reference (firstCalls w records) (payloads w head 0))
+      asserted = rw e
 
-    pub line-defined : (shapeAt w head ≡ 5 → ⊥) → (shapeAt w head ≡ 6 → ⊥) → (shapeAt w head ≡ 7 → ⊥)
-        → lineAt w records head ≡ defineAt places w terms head (recordSort sorts w head)
-    line-defined five six seven =
-        by-shape ∙ defined
-        ∙ ap (λ (r : ℕ → List ℕ). defineLine terms (recordSort sorts w head)
-        (bodyBy (shapeAt w head) r (operationAt w head) (countAt w head) (payloads w head))) (sym (can .references))
-      where
-        defined : lineBy (shapeAt w head) (firstCalls w records) (operationAt w head) (countAt w head) (payloads w head)
-            ≡ defineLine terms (recordSort sorts w head)
-            (bodyBy (shapeAt w head) (reference (firstCalls w records)) (operationAt w head) (countAt w head) (payloads w head))
-        defined =
-            rw (ne-eqb (shapeAt w head) 5 five, ne-eqb (shapeAt w head) 6 six, ne-eqb (shapeAt w head) 7 seven, can .many, can .sort)
+  pub line-defined : lineKind w head ≡ Define
+      → lineAt w records head ≡ defineAt places w terms head (sortBy sorts w terms head)
+  line-defined e =
+      by-kind ∙ defined
+      ∙ ap (λ (r : ℕ → List ℕ). defineLine terms (sortBy sorts w terms head)
+      (bodyBy (bodyKind w head) r (operationAt w head) (countAt w head) (payloads w head))) (sym (can .references))
+    where
+      defined : lineBy (lineKind w head) (firstCalls w records) (operationAt w head) (countAt w head) (payloads w head)
+          ≡ defineLine terms (sortBy sorts w terms head)
+          (bodyBy (bodyKind w head) (reference (firstCalls w records)) (operationAt w head) (countAt w head)
+          (payloads w head))
+      defined = rw (e, can .sort e, can .many)

@@ -6,38 +6,29 @@ use Prim.Native.Nat.{ℕ}
 use lib.ListN.{length}
 use Rattle.engine.specs.Call.{Name, Term, Call}
 use Rattle.engine.specs.Call as c
+use Rattle.engine.specs.Encode as o
 use Rattle.engine.specs.Sorts.{sortOf, start, leaves}
 use Rattle.call_list.specs.Made.{made, sortsOf}
 use Rattle.text.specs.Bytes.{ascii}
 use Rattle.text.specs.Names.{nameText}
-use Rattle.pieces.specs.Text.{
-  numbered,
-  reference,
-  sortText,
-  literalText,
-  boolText,
-  binaryText,
-  compareText,
-  extractText,
-  applied,
-  conjunction,
-}
+use Rattle.syntax.specs.Text.{operationText, sortText, literalText, boolText, extractText}
+use Rattle.pieces.specs.Text.{numbered, reference, applied, conjunction}
 use Rattle.asked.specs.Ending.{ending}
 
 -- A term, of the texts of its arguments.
 abbrev pub termText : (ℕ → List ℕ) → Term → List ℕ
 termText r (c.boolLit b) = boolText b
-termText r (c.boolIte i a b) = applied (ascii "ite") (r i ∷ r a ∷ r b ∷ [])
-termText r (c.not a) = applied (ascii "not") (r a ∷ [])
+termText r (c.boolIte i a b) = applied (operationText o.boolIte) (r i ∷ r a ∷ r b ∷ [])
+termText r (c.not a) = applied (operationText o.not) (r a ∷ [])
 termText r (c.and args) = conjunction (map r args)
 termText r (c.lit s) = literalText s
-termText r (c.equal a b) = applied (ascii "=") (r a ∷ r b ∷ [])
-termText r (c.ite i a b) = applied (ascii "ite") (r i ∷ r a ∷ r b ∷ [])
-termText r (c.concat a b) = applied (ascii "concat") (r a ∷ r b ∷ [])
+termText r (c.equal a b) = applied (operationText o.equal) (r a ∷ r b ∷ [])
+termText r (c.ite i a b) = applied (operationText o.ite) (r i ∷ r a ∷ r b ∷ [])
+termText r (c.concat a b) = applied (operationText o.concat) (r a ∷ r b ∷ [])
 termText r (c.extract m l a) = applied (extractText m l) (r a ∷ [])
-termText r (c.bvnot a) = applied (ascii "bvnot") (r a ∷ [])
-termText r (c.op2 o a b) = applied (binaryText o) (r a ∷ r b ∷ [])
-termText r (c.compare o a b) = applied (compareText o) (r a ∷ r b ∷ [])
+termText r (c.bvnot a) = applied (operationText o.bvnot) (r a ∷ [])
+termText r (c.op2 op a b) = applied (operationText (o.op2 op)) (r a ∷ r b ∷ [])
+termText r (c.compare op a b) = applied (operationText (o.compare op)) (r a ∷ r b ∷ [])
 
 -- The line of a call after others; it ends in a line feed.
 abbrev pub line : List Call → Call → List ℕ

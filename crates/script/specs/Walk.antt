@@ -12,25 +12,30 @@ use borrow.Author.Tests.{ltb-true, ltb-false}
 use Rattle.engine.specs.Call.{Call}
 use Rattle.engine.specs.Call as c
 use Rattle.engine.specs.Sorts.{sortAt, Context, start, after, Allowed, leaves}
-use Rattle.engine.specs.Encode.{Op, operationAt, nextAt, callAt, callsFrom, decode}
+use Rattle.engine.specs.Encode.{Op, makesTerm, operationAt, countAt, nextAt, callAt, callsFrom, decode}
 use Rattle.engine.specs.Encode as o
 use Rattle.engine.specs.WellFormed.{wellFormed, readFrom, outcome}
 use Rattle.engine.specs.Steps.{calls-end}
-use Rattle.engine.specs.ReadBack.{reads-at}
+use Rattle.engine.specs.ReadBack.{stands, reads-at}
 use Rattle.engine.specs.Structure.{originOf, sortFrom, placeOfTerm}
 use Rattle.engine.specs.StructureLaws.{Below}
 use Rattle.engine.specs.Reached.{Right, right-read, said, Tabled}
 use Rattle.term_table.specs.Tables.{recordSort, placeBy}
-use Rattle.term_table.specs.Sorted.{ReadTo, read-start, record-sort-said, read-next, terms-next, tabled-before, sorts-kept}
+use Rattle.term_table.specs.Sorted.{ReadTo, read-start, record-sort-said}
+use Rattle.term_table.specs.Sorted.{read-next, terms-next, tabled-before, sorts-kept}
 use Rattle.term_table.specs.Placed.{Placed, place-is}
 use Rattle.name_table.specs.Named.{NamesTo}
-use Rattle.call_list.specs.Made.{made, made-append, made-past, sortsOf, sortOfCall, leaves-append}
-use Rattle.call_list.specs.Records.{firstCalls, Reached, reached-start, reached-next, first-more, split, madeAt, made-at, made-place}
-use Rattle.pieces.specs.Shape.{shapeOf}
-use Rattle.call_list.specs.Literal.{literal-fits}
+use Rattle.call_list.specs.Made.{made, made-append, made-past, makes-operation}
+use Rattle.call_list.specs.Made.{sortsOf, sortOfCall, sort-here, leaves-append}
+use Rattle.call_list.specs.Records.{firstCalls, Reached, reached-start, reached-next}
+use Rattle.call_list.specs.Records.{first-more, split, madeAt, made-at, made-place}
+use Rattle.pieces.specs.Shape.{lineOf, bodyOf}
+use Rattle.pieces.specs.declared.Line.the-variants.{Define}
+use Rattle.pieces.specs.declared.Body.the-variants.{Literal}
+use Rattle.call_list.specs.Literal.{payloads, literal-fits}
 use Rattle.pieces.specs.Text.{numbered, spelledAs, reference}
 use Rattle.pieces.specs.Arguments.{referenceBy}
-use Rattle.script.specs.Record.{Ready, Writable, lineAt}
+use Rattle.script.specs.Record.{Ready, sortBy, Writable, lineAt}
 use Rattle.script.specs.Text.{line, lines, lines-more}
 
 -- What an allowed call says of the sort of its term is that sort.
@@ -41,28 +46,46 @@ said-sort x (c.declare name w) h = (let low = h .1 .1 in omega arith, tt)
 said-sort x (c.assert k) h = (refl, tt)
 said-sort x c.check h = (refl, tt)
 
--- Only a literal has the shape 3.
-lit-shape : (op : Op) → shapeOf op ≡ 3 → op ≡ o.lit
-lit-shape o.boolLit e = absurd (omega arith)
-lit-shape o.boolIte e = absurd (omega arith)
-lit-shape o.not e = absurd (omega arith)
-lit-shape o.and e = absurd (omega arith)
-lit-shape o.lit e = refl
-lit-shape o.equal e = absurd (omega arith)
-lit-shape o.ite e = absurd (omega arith)
-lit-shape o.concat e = absurd (omega arith)
-lit-shape o.extract e = absurd (omega arith)
-lit-shape o.bvnot e = absurd (omega arith)
-lit-shape (o.op2 op) e = absurd (omega arith)
-lit-shape (o.compare op) e = absurd (omega arith)
-lit-shape o.declare e = absurd (omega arith)
-lit-shape o.assert e = absurd (omega arith)
-lit-shape o.check e = absurd (omega arith)
-lit-shape o.unknown e = absurd (omega arith)
+-- Only a literal is written as one, and every line that defines a term makes it.
+lit-body : (op : Op) → bodyOf op ≡ Literal → op ≡ o.lit
+lit-body o.boolLit e = let z : _≡_ {A = ℕ} 0 1 = cc in absurd (omega arith)
+lit-body o.boolIte e = let z : _≡_ {A = ℕ} 0 1 = cc in absurd (omega arith)
+lit-body o.not e = let z : _≡_ {A = ℕ} 0 1 = cc in absurd (omega arith)
+lit-body o.and e = let z : _≡_ {A = ℕ} 0 1 = cc in absurd (omega arith)
+lit-body o.lit e = refl
+lit-body o.equal e = let z : _≡_ {A = ℕ} 0 1 = cc in absurd (omega arith)
+lit-body o.ite e = let z : _≡_ {A = ℕ} 0 1 = cc in absurd (omega arith)
+lit-body o.concat e = let z : _≡_ {A = ℕ} 0 1 = cc in absurd (omega arith)
+lit-body o.extract e = let z : _≡_ {A = ℕ} 0 1 = cc in absurd (omega arith)
+lit-body o.bvnot e = let z : _≡_ {A = ℕ} 0 1 = cc in absurd (omega arith)
+lit-body (o.op2 op) e = let z : _≡_ {A = ℕ} 0 1 = cc in absurd (omega arith)
+lit-body (o.compare op) e = let z : _≡_ {A = ℕ} 0 1 = cc in absurd (omega arith)
+lit-body o.declare e = let z : _≡_ {A = ℕ} 0 1 = cc in absurd (omega arith)
+lit-body o.assert e = let z : _≡_ {A = ℕ} 0 1 = cc in absurd (omega arith)
+lit-body o.check e = let z : _≡_ {A = ℕ} 0 1 = cc in absurd (omega arith)
+lit-body o.unknown e = let z : _≡_ {A = ℕ} 0 1 = cc in absurd (omega arith)
+
+defines-term : (op : Op) → lineOf op ≡ Define → makesTerm op ≡ true
+defines-term o.boolLit e = refl
+defines-term o.boolIte e = refl
+defines-term o.not e = refl
+defines-term o.and e = refl
+defines-term o.lit e = refl
+defines-term o.equal e = refl
+defines-term o.ite e = refl
+defines-term o.concat e = refl
+defines-term o.extract e = refl
+defines-term o.bvnot e = refl
+defines-term (o.op2 op) e = refl
+defines-term (o.compare op) e = refl
+defines-term o.declare e = refl
+defines-term o.assert e = let z : _≡_ {A = ℕ} 0 1 = cc in absurd (omega arith)
+defines-term o.check e = let z : _≡_ {A = ℕ} 0 1 = cc in absurd (omega arith)
+defines-term o.unknown e = let z : _≡_ {A = ℕ} 0 1 = cc in absurd (omega arith)
 
 -- A record that stands with all its arguments can be written.
 ready : (w : List ℕ) (at : ℕ) (x : Context) → Right w at x → Ready w at
-ready w at x right shape = literal-fits w at x right (lit-shape (operationAt w at) shape)
+ready w at x right is-literal = literal-fits w at x right (lit-body (operationAt w at) is-literal)
 
 -- Tables of a well-formed call list: the places and sorts of its first terms, and its names of low indexes.
 pub record HasTables (w places sorts : List ℕ) : Type 0 where
@@ -132,18 +155,47 @@ module _ {w table : List ℕ} {y : Context} {i at k : ℕ} (here : Walked w tabl
         let fuel : length w - i ≡ suc (length w - (i + 1)) = omega (arith, here .few) in
         right-read (length w - (i + 1)) w at (leaves start (firstCalls w i)) y inside (rw fuel at (here .left))
 
-    -- The sort of the record's term, by the table.
-    walked-sort : recordSort table w at ≡ sortOfCall (sortsOf (firstCalls w i)) (callAt w at)
-    walked-sort =
+    -- The sort of the record's term, by the sorts of its arguments and by its own in the table.
+    record-sort : recordSort table w at ≡ sortOfCall (sortsOf (firstCalls w i)) (callAt w at)
+    record-sort =
         let x = leaves start (firstCalls w i) in
         let sort = said-sort x (callAt w at) (reads-at x w at (next .0 .head) (next .0 .arguments) .allowed) in
         record-sort-said (here .read) (next .0) (sort .1) ∙ sort .0
 
-    pub walked-writable : (places : List ℕ) → Placed w places (length (y .sorts)) → Writable w places table i k at
-    walked-writable places placed = record {
+    last-sort : makesTerm (operationAt w at) ≡ true
+        → sortAt (after (leaves start (firstCalls w i)) (callAt w at) .sorts) k
+        ≡ sortOfCall (sortsOf (firstCalls w i)) (callAt w at)
+    unfolding leaves
+    last-sort makes =
+        ap (λ (x : Context). sortAt (x .sorts) k) (sym (leaves-append start (firstCalls w i) (callAt w at ∷ [])))
+        ∙ ap (λ (n : ℕ). sortAt (sortsOf (firstCalls w i ++ (callAt w at ∷ []))) n) (here .reached .many)
+        ∙ sort-here (firstCalls w i) (callAt w at) []
+        (makes-operation (operationAt w at) (countAt w at) (payloads w at) ∙ makes)
+
+    table-sort : Tabled table (y .sorts) → k < length table → makesTerm (operationAt w at) ≡ true
+        → getD table k 0 ≡ sortOfCall (sortsOf (firstCalls w i)) (callAt w at)
+    table-sort tabled entered makes =
+        let after-here = after (leaves start (firstCalls w i)) (callAt w at) in
+        let one : k + 1 ≡ length (after-here .sorts) = rw makes at (terms-next (here .read) (next .0)) in
+        let kept = sorts-kept (length w - (i + 1)) w (nextAt w at) after-here y (next .1) k (omega arith) in
+        tabled k entered (kept .0) ∙ kept .1 ∙ last-sort makes
+
+    walked-sort : Tabled table (y .sorts) → makesTerm (operationAt w at) ≡ true
+        → sortBy table w k at ≡ sortOfCall (sortsOf (firstCalls w i)) (callAt w at)
+    walked-sort tabled makes = go (ltb k (length table)) refl
+      where
+        go : (b : Bool) → ltb k (length table) ≡ b
+            → sortBy table w k at ≡ sortOfCall (sortsOf (firstCalls w i)) (callAt w at)
+        go true e = rw e (table-sort tabled (ltb-true k (length table) e) makes)
+        go false e = rw e record-sort
+
+    pub walked-writable : (places : List ℕ) → Placed w places (length (y .sorts)) → Tabled table (y .sorts)
+        → Writable w places table i k at
+    walked-writable places placed tabled = record {
       ready = ready w at (leaves start (firstCalls w i)) (next .0);
+      counted = stands (leaves start (firstCalls w i)) w at (next .0 .head) .counted;
       many = here .reached .many;
-      sort = walked-sort;
+      sort = λ defines. walked-sort tabled (defines-term (operationAt w at) defines);
       references = walked-references places placed;
     }
 

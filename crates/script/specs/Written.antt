@@ -14,7 +14,8 @@ use Rattle.engine.specs.WellFormed.{Outcome, malformedAt, placeOf, outcome, wel
 use Rattle.checker.specs.Tables.{checkedAs}
 use Rattle.checker.specs.declared.CallList.the-variants.{WellFormed, Malformed}
 use Rattle.text.specs.Names.{asked}
-use Rattle.text.specs.Write.{capped, overwrite-fits, Wrote}
+use Rattle.engine.specs.Emit.{counted, Wrote}
+use Rattle.text.specs.Write.{overwrite-fits}
 use Rattle.asked.specs.declared.Mark.{Mark}
 use Rattle.asked.specs.declared.Mark.the-variants.{Fine, Bad}
 use Rattle.script.specs.declared.Written.{Written}
@@ -35,7 +36,7 @@ refuse number place = Refused (record { number = number; place = place })
 
 -- A text of some length into some room; the room needed is told as a machine word.
 abbrev pub roomFor : ℕ → ℕ → Written
-roomFor needed room = cond (ltb room needed) (refuse 15 (capped needed)) (Bytes needed)
+roomFor needed room = cond (ltb room needed) (refuse 15 (counted needed)) (Bytes needed)
 
 abbrev pub onFine : Mark → Written → Written
 onFine Fine r = r
@@ -72,22 +73,23 @@ module _ (w marks : List ℕ) (room : ℕ) where
   marked-fine e = rw e
 
 -- The room that a dry run counts.
-module _ (text : List ℕ) (room needed : ℕ) (short : room < 2 ^ 63) (counted : needed ≡ capped (0 + length text)) where
-  pub room-short : room < needed → roomFor (length text) room ≡ refuse 15 needed
-  room-short h =
-      let long : room < length text = omega arith in
-      let same : capped (length text) ≡ needed = omega arith in
-      rw (lt-ltb room (length text) long, same)
+module _ (text : List ℕ) (room needed : ℕ) (short : room < 2 ^ 63) (is-length : needed ≡ counted (0 + length text))
+  where
+    pub room-short : room < needed → roomFor (length text) room ≡ refuse 15 needed
+    room-short h =
+        let long : room < length text = omega arith in
+        let same : counted (length text) ≡ needed = omega arith in
+        rw (lt-ltb room (length text) long, same)
 
-  pub room-enough : needed ≤ room → roomFor (length text) room ≡ Bytes needed
-  room-enough h =
-      let fits : length text ≤ room = omega arith in
-      let same : length text ≡ needed = omega arith in
-      rw (le-ltb room (length text) fits, same)
+    pub room-enough : needed ≤ room → roomFor (length text) room ≡ Bytes needed
+    room-enough h =
+        let fits : length text ≤ room = omega arith in
+        let same : length text ≡ needed = omega arith in
+        rw (le-ltb room (length text) fits, same)
 
-pub whole-text : {text before after : List ℕ} {r : ℕ} → Wrote before after 0 r text → length text ≤ length before
+pub whole-text : {text before after : List ℕ} {r : ℕ} → Wrote before 0 text after r → length text ≤ length before
     → after ≡ text ++ drop (length text) before
-whole-text {text} {before} wrote fits = wrote .stored ∙ overwrite-fits before text fits
+whole-text {text} {before} wrote fits = wrote .words ∙ overwrite-fits before text fits
 
 -- What the checker answers.
 checked-formed : (o : Outcome) {terms declared : ℕ} → checkedAs o ≡ WellFormed terms declared → (y : Context) × (o ≡ wellFormed y)

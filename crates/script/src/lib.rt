@@ -1,9 +1,11 @@
-// The script writer: a call list and the names that its recorded marks ask for, as SMT-LIB text in a lent slice of bytes. Each function
-// writes a part from a place on and gives the next place; past the slice's end it only counts.
+// The script writer: a call list and the names that its recorded marks ask for, as SMT-LIB text in a lent slice of
+// bytes. Each function writes a part from a place on and gives the next place; past the slice's end it only counts.
 use asked::Mark;
 use checker::CallList;
 use logic::Fault;
 use logic::Term;
+use pieces::Body;
+use pieces::Line;
 ghost use mathlib.Core.Path.{_≡_};
 ghost use mathlib.Core.List.{[]};
 ghost use Prim.Native.Nat.{_+_};
@@ -11,11 +13,11 @@ ghost use lib.ListN.{length};
 ghost use Rattle.bitvec.specs.Bits.{nat2bv};
 ghost use Rattle.engine.specs.Encode.{decode};
 ghost use Rattle.text.specs.Names.{asked};
-ghost use Rattle.text.specs.Write.{Wrote, capped};
+ghost use Rattle.engine.specs.Emit.{Wrote, counted};
 ghost use Rattle.call_list.specs.Literal.{LiteralFits, literalNumber, payloads};
-ghost use Rattle.pieces.specs.Text.{literalText};
+ghost use Rattle.syntax.specs.Text.{literalText};
 ghost use Rattle.script.specs.Text.{lines, script};
-ghost use Rattle.script.specs.Record.{bodyAt, defineAt, declareAt, assertAt, lineAt, Ready, Writable};
+ghost use Rattle.script.specs.Record.{bodyAt, sortBy, defineAt, declareAt, assertAt, lineAt, Ready, Writable};
 ghost use Rattle.script.specs.Walk.{HasTables, HasNames};
 ghost use Rattle.script.specs.Written.{scriptOf, roomFor, marked, written, Scripted};
 
@@ -25,21 +27,18 @@ pub enum Written {
     Refused(Fault),
 }
 
-// Writes a literal, #b and every digit.
+// Writes the literal of a record.
 fn put_literal(text: &mut [u8], at: usize, calls: &[u32], head: usize) -> usize
     requires { ⌜ LiteralFits (now calls) head ⌝ }
-    ensures { λ r. ⌜ Wrote (now (text .entry)) (now (text .exit)) at r (literalText (nat2bv (payloads (now (calls .entry)) head 0) (literalNumber (now (calls .entry)) head))) ⌝ }
+    ensures { λ r. ⌜ Wrote (now (text .entry)) at
+        (literalText (nat2bv (payloads (now (calls .entry)) head 0) (literalNumber (now (calls .entry)) head)))
+        (now (text .exit)) r ⌝ }
 {
-    let digits = text::put_bytes(text, at, b"#b");
-    pieces::put_bits(
-        text,
-        digits,
-        call_list::literal_number(calls, head),
-        call_list::argument_at(calls, head, 0),
-    )
+    let number = call_list::literal_number(calls, head);
+    syntax::put_literal(text, at, number, call_list::argument_at(calls, head, 0))
 }
 
-// Writes the term that a record makes, by its shape, after so many terms.
+// Writes the term that a record makes, after so many terms.
 fn put_body(
     text: &mut [u8],
     at: usize,
@@ -49,21 +48,26 @@ fn put_body(
     head: usize,
 ) -> usize
     requires { ⌜ Ready (now calls) head ⌝ }
-    ensures { λ r. ⌜ Wrote (now (text .entry)) (now (text .exit)) at r (bodyAt (now (places .entry)) (now (calls .entry)) terms head) ⌝ }
+    ensures { λ r. ⌜ Wrote (now (text .entry)) at (bodyAt (now (places .entry)) (now (calls .entry)) terms head)
+        (now (text .exit)) r ⌝ }
 {
-    let op = call_list::operation_number(calls, head);
-    match pieces::shape(op) {
-        1 => pieces::put_bool(text, at, call_list::argument_at(calls, head, 0)),
-        2 => {
-            let n = call_list::count_at(calls, head);
-            pieces::put_conjunction(text, at, calls, places, terms, head, n)
-        }
-        3 => put_literal(text, at, calls, head),
-        4 => pieces::put_extraction(text, at, calls, places, terms, head),
-        _ => {
-            let n = pieces::arity(op) as u32;
-            pieces::put_application(text, at, calls, places, terms, head, op, n)
-        }
+    let operation = call_list::operation_at(calls, head);
+    let n = call_list::count_at(calls, head);
+    match pieces::body_of(operation) {
+        Body::Bool => syntax::put_bool(text, at, call_list::argument_at(calls, head, 0)),
+        Body::And => pieces::put_conjunction(text, at, calls, places, terms, head, n),
+        Body::Literal => put_literal(text, at, calls, head),
+        Body::Extract => pieces::put_extraction(text, at, calls, places, terms, head),
+        Body::Application => pieces::put_application(
+            text,
+            at,
+            calls,
+            places,
+            terms,
+            head,
+            operation,
+            n,
+        ),
     }
 }
 
@@ -78,12 +82,13 @@ fn put_define(
     sort: u32,
 ) -> usize
     requires { ⌜ Ready (now calls) head ⌝ }
-    ensures { λ r. ⌜ Wrote (now (text .entry)) (now (text .exit)) at r (defineAt (now (places .entry)) (now (calls .entry)) terms head sort) ⌝ }
+    ensures { λ r. ⌜ Wrote (now (text .entry)) at
+        (defineAt (now (places .entry)) (now (calls .entry)) terms head sort) (now (text .exit)) r ⌝ }
 {
     let name = text::put_bytes(text, at, b"(define-fun ");
     let parameters = pieces::put_numbered(text, name, terms);
     let width = text::put_bytes(text, parameters, b" () ");
-    let space = pieces::put_sort(text, width, sort);
+    let space = syntax::put_sort(text, width, sort);
     let body = text::put_byte(text, space, b' ');
     let closing = put_body(text, body, calls, places, terms, head);
     text::put_bytes(text, closing, b")\n")
@@ -91,12 +96,12 @@ fn put_define(
 
 // Writes the line of a declaration.
 fn put_declare(text: &mut [u8], at: usize, calls: &[u32], head: usize) -> usize
-    ensures { λ r. ⌜ Wrote (now (text .entry)) (now (text .exit)) at r (declareAt (now (calls .entry)) head) ⌝ }
+    ensures { λ r. ⌜ Wrote (now (text .entry)) at (declareAt (now (calls .entry)) head) (now (text .exit)) r ⌝ }
 {
     let name = text::put_bytes(text, at, b"(declare-const ");
     let space = pieces::put_declared(text, name, calls, head);
     let sort = text::put_byte(text, space, b' ');
-    let closing = pieces::put_sort(text, sort, call_list::argument_at(calls, head, 3));
+    let closing = syntax::put_sort(text, sort, call_list::argument_at(calls, head, 3));
     text::put_bytes(text, closing, b")\n")
 }
 
@@ -109,12 +114,23 @@ fn put_assert(
     terms: usize,
     head: usize,
 ) -> usize
-    ensures { λ r. ⌜ Wrote (now (text .entry)) (now (text .exit)) at r (assertAt (now (places .entry)) (now (calls .entry)) terms head) ⌝ }
+    ensures { λ r. ⌜ Wrote (now (text .entry)) at (assertAt (now (places .entry)) (now (calls .entry)) terms head)
+        (now (text .exit)) r ⌝ }
 {
     let place = text::put_bytes(text, at, b"(assert ");
     let term = Term(call_list::argument_at(calls, head, 0));
     let closing = pieces::put_reference(text, place, calls, places, terms, term);
     text::put_bytes(text, closing, b")\n")
+}
+
+// The sort of the term that the record at a place makes, after so many terms: from the table, past it by the record.
+fn sort_here(calls: &[u32], sorts: &[u8], terms: usize, head: usize) -> u32
+    ensures { λ r. ⌜ r ≡ sortBy (now (sorts .entry)) (now (calls .entry)) terms head ⌝ }
+{
+    if terms < sorts.len() {
+        return sorts[terms] as u32;
+    }
+    term_table::record_sort(calls, sorts, head)
 }
 
 // Writes the line of the record at a place, after some records that make so many terms.
@@ -129,23 +145,23 @@ fn put_record(
     head: usize,
 ) -> usize
     requires { ⌜ Writable (now calls) (now places) (now sorts) records terms head ⌝ }
-    ensures { λ r. ⌜ Wrote (now (text .entry)) (now (text .exit)) at r (lineAt (now (calls .entry)) records head) ⌝ }
+    ensures { λ r. ⌜ Wrote (now (text .entry)) at (lineAt (now (calls .entry)) records head) (now (text .exit)) r ⌝ }
 {
-    match pieces::shape(call_list::operation_number(calls, head)) {
-        5 => put_declare(text, at, calls, head),
-        6 => put_assert(text, at, calls, places, terms, head),
-        7 => text::put_bytes(text, at, b"(check-sat)\n"),
-        _ => {
-            let sort = term_table::record_sort(calls, sorts, head);
+    match pieces::line_of(call_list::operation_at(calls, head)) {
+        Line::Define => {
+            let sort = sort_here(calls, sorts, terms, head);
             put_define(text, at, calls, places, terms, head, sort)
         }
+        Line::Declare => put_declare(text, at, calls, head),
+        Line::Assert => put_assert(text, at, calls, places, terms, head),
+        Line::Check => text::put_bytes(text, at, b"(check-sat)\n"),
     }
 }
 
 // Writes the lines of a well-formed call list, with tables of the places and sorts of its first terms.
 fn put_records(text: &mut [u8], start: usize, calls: &[u32], places: &[u32], sorts: &[u8]) -> usize
     requires { ⌜ HasTables (now calls) (now places) (now sorts) ⌝ }
-    ensures { λ r. ⌜ Wrote (now (text .entry)) (now (text .exit)) start r (lines [] (decode (now (calls .entry)))) ⌝ }
+    ensures { λ r. ⌜ Wrote (now (text .entry)) start (lines [] (decode (now (calls .entry)))) (now (text .exit)) r ⌝ }
 {
     let mut at = start;
     let mut head = 0;
@@ -169,7 +185,8 @@ fn put_script(
     recorded: &[u8],
 ) -> usize
     requires { ⌜ HasTables (now calls) (now places) (now sorts) ⌝ }
-    ensures { λ r. ⌜ Wrote (now (text .entry)) (now (text .exit)) 0 r (script (decode (now (calls .entry))) (asked (now (recorded .entry)))) ⌝ }
+    ensures { λ r. ⌜ Wrote (now (text .entry)) 0
+        (script (decode (now (calls .entry))) (asked (now (recorded .entry)))) (now (text .exit)) r ⌝ }
 {
     let lines = text::put_bytes(
         text,
@@ -183,7 +200,7 @@ fn put_script(
 // How many bytes a script has: it is written into a text of one byte, past which writing only counts.
 fn script_length(calls: &[u32], places: &[u32], sorts: &[u8], recorded: &[u8]) -> usize
     requires { ⌜ HasTables (now calls) (now places) (now sorts) ⌝ }
-    ensures { λ r. ⌜ r ≡ capped (0 + length (scriptOf (now (calls .entry)) (now (recorded .entry)))) ⌝ }
+    ensures { λ r. ⌜ r ≡ counted (0 + length (scriptOf (now (calls .entry)) (now (recorded .entry)))) ⌝ }
 {
     let mut trial = [0u8; 1];
     put_script(&mut trial, calls, places, sorts, recorded)
@@ -231,8 +248,9 @@ fn write_marked(
     }
 }
 
-// Writes the script of a call list and its recorded marks into a lent text: 19 for a malformed list, then 2, then 15 at the room needed.
-// The caller lends tables for the places and sorts of the first terms and the names of low indexes; what they hold afterwards is free.
+// Writes the script of a call list and its recorded marks into a lent text: 19 for a malformed list, then 2, then 15 at
+// the room needed. The caller lends tables for the places and sorts of the first terms and the names of low indexes;
+// what they hold afterwards is free.
 pub fn write_script_with(
     calls: &[u32],
     recorded: &[u8],

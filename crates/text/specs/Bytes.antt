@@ -48,6 +48,35 @@ unfolding decimal digits
 decimal-more n large =
     rw (le-ltb n 10 large) (ap (λ (l : List ℕ). l ++ ((48 + n % 10) ∷ [])) (enough n (suc (n / 10)) (n / 10) (omega arith) (omega arith)))
 
+-- One digit more than the tenth has.
+pub length-more : (n : ℕ) → 10 ≤ n → length (decimal n) ≡ length (decimal (n / 10)) + 1
+length-more n large = rw (decimal-more n large, length-append)
+
+-- How many digits a number has: by its bounds, and by its ten-thousandth.
+pub length-one : (n : ℕ) → n < 10 → length (decimal n) ≡ 1
+length-one n small = rw (decimal-digit n small)
+
+pub length-two : (n : ℕ) → 10 ≤ n → n < 100 → length (decimal n) ≡ 2
+length-two n large small = rw (length-more n large, length-one (n / 10) (omega arith))
+
+pub length-three : (n : ℕ) → 100 ≤ n → n < 1000 → length (decimal n) ≡ 3
+length-three n large small = rw (length-more n (omega arith), length-two (n / 10) (omega arith) (omega arith))
+
+pub length-four : (n : ℕ) → 1000 ≤ n → n < 10000 → length (decimal n) ≡ 4
+length-four n large small = rw (length-more n (omega arith), length-three (n / 10) (omega arith) (omega arith))
+
+pub length-above : (n : ℕ) → 10000 ≤ n → length (decimal n) ≡ 4 + length (decimal (n / 10000))
+length-above n large =
+    let fourth : n / 10 / 10 / 10 / 10 ≡ n / 10000 = omega arith in
+    rw (
+      length-more n (omega arith),
+      length-more (n / 10) (omega arith),
+      length-more (n / 10 / 10) (omega arith),
+      length-more (n / 10 / 10 / 10) (omega arith),
+      fourth,
+    )
+    (omega arith)
+
 -- A number below 10 ^ k has at most k digits.
 pub decimal-length : (k n : ℕ) → n < 10 ^ suc k → length (decimal n) ≤ suc k
 decimal-length zero n low = rw (decimal-digit n low) (omega arith)

@@ -3,7 +3,7 @@
 use borrow.Author.Needs.{needs}
 use mathlib.Core.Path.{refl, sym, ap, _∙_}
 use Rattle.answer.specs.Model.{reply-marks, reply-room, reply-text, read-as, table-written}
-use Rattle.answer.specs.Reply.{satisfied}
+use Rattle.reply.specs.Reply.{satisfied}
 use Rattle.text.specs.Names.{asked}
 use Rattle.answer.proofs.read_answer.Statement.{statement}
 use Rattle.answer.proofs.read_answer.Tie as tie

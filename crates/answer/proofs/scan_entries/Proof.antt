@@ -5,8 +5,7 @@ use Prim.Native.Nat.{_-_}
 use mathlib.Core.Path.{_≡_, refl, ap, _∙_}
 use lib.ListN.{length, drop}
 use Rattle.tokens.specs.Place.{tokensFrom}
-use Rattle.answer.specs.Step.{entries}
-use Rattle.answer.specs.Entries.{forget, entries-turn, entries-fault, entries-done}
+use Rattle.answer.specs.Entries.{entries, forget, entries-turn, entries-fault, entries-done}
 use Rattle.answer.proofs.scan_entries.Statement.{statement}
 use Rattle.answer.proofs.scan_entries.Tie as tie
 

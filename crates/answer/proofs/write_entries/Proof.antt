@@ -4,10 +4,9 @@ use borrow.Author.Needs.{needs}
 use Prim.Native.Nat.{_-_}
 use mathlib.Core.Path.{_≡_, refl, sym, _∙_}
 use lib.ListN.{length, drop}
-use Rattle.text.specs.Write.{overwrite}
+use Rattle.engine.specs.Emit.{overwrite}
 use Rattle.tokens.specs.Place.{tokensFrom}
-use Rattle.answer.specs.Step.{written}
-use Rattle.answer.specs.Entries.{put-turn, put-fault, put-done}
+use Rattle.answer.specs.Entries.{written, put-turn, put-fault, put-done}
 use Rattle.answer.proofs.write_entries.Statement.{statement}
 use Rattle.answer.proofs.write_entries.Tie as tie
 

@@ -1,26 +1,27 @@
--- `asked::declares_here` meets its contract: shape, letter, index and suffix are tested in this order. Assumes nothing.
+-- `asked::declares_here` meets its contract: operation, letter, index and suffix are tested in this order. Assumes
+-- nothing.
 use borrow.Author.Needs.{needs}
-use borrow.Author.Tests.{eq-eqb, ne-eqb}
-use mathlib.Core.Path.{sym, _∙_}
-use Rattle.pieces.proofs.Laws.{shape-at}
+use borrow.Author.Tests.{eq-eqb, ne-eqb, not-true, not-false}
+use mathlib.Core.Path.{sym, ap, _∙_}
+use Rattle.call_list.specs.Operations.{isDeclare}
 use Rattle.asked.proofs.Marks.{declares-at, letter-low, suffix-low}
 use Rattle.asked.proofs.declares_here.Statement.{statement}
 use Rattle.asked.proofs.declares_here.Tie as tie
 
-operation-number-requires : tie.Need-operation-number-requires
-operation-number-requires c κs = search needs
+operation-at-requires : tie.Need-operation-at-requires
+operation-at-requires c κs = search needs
 
-shape-requires : tie.Need-shape-requires
-shape-requires c κs = search needs
+is-declare-requires : tie.Need-is-declare-requires
+is-declare-requires c κs = search needs
 
 returns : tie.Need-returns
 returns c =
-    let shaped = c .before in
-    let start = shaped .before .before .before in
-    let shape = shape-at (start .args .calls .now) (start .args .head) (shaped .before .operation-number .ensures) (shaped .shape .ensures) in
+    let told = c .before in
+    let start = told .before .before .before in
+    let declares = sym (told .is-declare .ensures ∙ ap isDeclare (told .before .operation-at .ensures)) in
     rw (
       declares-at (start .args .calls .now) (start .args .head),
-      ne-eqb _ 5 (λ e. c .if1 .taken (sym shape ∙ e)),
+      declares ∙ not-true _ (c .if1 .taken),
     )
 
 argument-at-requires : tie.Need-argument-at-requires
@@ -33,12 +34,12 @@ returns-2 : tie.Need-returns-2
 returns-2 c =
     let lettered = c .before in
     let declared = lettered .before .before in
-    let shaped = declared .before in
-    let start = shaped .before .before .before in
-    let shape = shape-at (start .args .calls .now) (start .args .head) (shaped .before .operation-number .ensures) (shaped .shape .ensures) in
+    let told = declared .before in
+    let start = told .before .before .before in
+    let declares = sym (told .is-declare .ensures ∙ ap isDeclare (told .before .operation-at .ensures)) in
     rw (
       declares-at (start .args .calls .now) (start .args .head),
-      eq-eqb _ 5 (shape ∙ declared .if1 .left),
+      declares ∙ not-false _ (declared .if1 .left),
       letter-low,
       ← lettered .before .argument-at .ensures,
       ← lettered .low-number .ensures,
@@ -57,12 +58,12 @@ returns-3 c =
     let same-letter = indexed .before in
     let lettered = same-letter .before in
     let declared = lettered .before .before in
-    let shaped = declared .before in
-    let start = shaped .before .before .before in
-    let shape = shape-at (start .args .calls .now) (start .args .head) (shaped .before .operation-number .ensures) (shaped .shape .ensures) in
+    let told = declared .before in
+    let start = told .before .before .before in
+    let declares = sym (told .is-declare .ensures ∙ ap isDeclare (told .before .operation-at .ensures)) in
     rw (
       declares-at (start .args .calls .now) (start .args .head),
-      eq-eqb _ 5 (shape ∙ declared .if1 .left),
+      declares ∙ not-false _ (declared .if1 .left),
       letter-low,
       ← lettered .before .argument-at .ensures,
       ← lettered .low-number .ensures,
@@ -84,12 +85,12 @@ returns-4 c =
     let same-letter = indexed .before in
     let lettered = same-letter .before in
     let declared = lettered .before .before in
-    let shaped = declared .before in
-    let start = shaped .before .before .before in
-    let shape = shape-at (start .args .calls .now) (start .args .head) (shaped .before .operation-number .ensures) (shaped .shape .ensures) in
+    let told = declared .before in
+    let start = told .before .before .before in
+    let declares = sym (told .is-declare .ensures ∙ ap isDeclare (told .before .operation-at .ensures)) in
     rw (
       declares-at (start .args .calls .now) (start .args .head),
-      eq-eqb _ 5 (shape ∙ declared .if1 .left),
+      declares ∙ not-false _ (declared .if1 .left),
       letter-low,
       ← lettered .before .argument-at .ensures,
       ← lettered .low-number .ensures,
@@ -105,8 +106,8 @@ pub declares-here-spec : {M : Type 1} → statement M
 declares-here-spec =
     tie.close
     (tie.spec
-    operation-number-requires
-    shape-requires
+    operation-at-requires
+    is-declare-requires
     returns
     argument-at-requires
     low-number-requires

@@ -5,11 +5,10 @@ use Prim.Native.Nat.{_-_}
 use Prim.Native.Nat.{ℕ}
 use mathlib.Core.Path.{_≡_, sym, _∙_}
 use native.Mathlib.Omega.{arith}
-use borrow.Author.Tests.{eq-eqb, ne-eqb}
 use lib.ListN.{length}
 use Rattle.engine.specs.Encode.{nextAt}
-use Rattle.pieces.proofs.Laws.{shape-at}
-use Rattle.asked.proofs.Ending.{checks, checks-at, checked-any, NoneOf, none-start, none-next, none-end, some-here}
+use Rattle.asked.specs.Ending.{checks}
+use Rattle.asked.proofs.Ending.{checked-any, NoneOf, none-start, none-next, none-end, some-here}
 use Rattle.asked.proofs.has_check.Statement.{statement}
 use Rattle.asked.proofs.has_check.Tie as tie
 
@@ -22,44 +21,37 @@ abbrev μ-loop : tie.MeasureT-loop
 loop-holds : tie.Need-loop-holds Inv-loop μ-loop
 loop-holds c = (0, 0, none-start _ _)
 
-operation-number-requires : tie.Need-operation-number-requires Inv-loop μ-loop
-operation-number-requires c κs = search needs
-
-shape-requires : tie.Need-shape-requires Inv-loop μ-loop
-shape-requires c κs = search needs
+checks-here-requires : tie.Need-checks-here-requires Inv-loop μ-loop
+checks-here-requires c κs = search needs
 
 returns : tie.Need-returns Inv-loop μ-loop
 returns c =
-    let shaped = c .before in
-    let turn = shaped .before .before in
-    let looped = turn .before in
-    let start = looped .before .before in
-    let shape = shape-at (start .args .calls .now) (looped .loop .head) (shaped .before .operation-number .ensures) (shaped .shape .ensures) in
-    let check = checks-at (start .args .calls .now) (looped .loop .head) ∙ eq-eqb _ 7 (shape ∙ c .if1 .taken) in
-    sym (checked-any _ ∙ some-here (looped .loop .inv .2) (turn .loop-test .taken) check)
+    let asked = c .before in
+    let turn = asked .before in
+    let check = sym (asked .checks-here .ensures) ∙ c .if1 .taken in
+    sym (checked-any _ ∙ some-here (turn .before .loop .inv .2) (turn .loop-test .taken) check)
 
 next-record-requires : tie.Need-next-record-requires Inv-loop μ-loop
 next-record-requires c κs = search needs
 
 loop-less : tie.Need-loop-less Inv-loop μ-loop
 loop-less c =
-    let turn = c .before .before .before .before in
+    let turn = c .before .before .before in
     let start = turn .before .before .before in
     omega (arith, c .next-record .ensures, turn .loop-test .taken, start .good .0)
 
 loop-again : tie.Need-loop-again Inv-loop μ-loop
 loop-again c =
     let other = c .before in
-    let shaped = other .before in
-    let turn = shaped .before .before in
+    let asked = other .before in
+    let turn = asked .before in
     let looped = turn .before in
     let start = looped .before .before in
-    let shape = shape-at (start .args .calls .now) (looped .loop .head) (shaped .before .operation-number .ensures) (shaped .shape .ensures) in
     let inside = turn .loop-test .taken in
     let short = start .good .0 in
     let next : nextAt (start .args .calls .now) (looped .loop .head) ≡ c .next-record .result =
     omega (arith, inside, c .next-record .ensures) in
-    let none = checks-at (start .args .calls .now) (looped .loop .head) ∙ ne-eqb _ 7 (λ e. other .if1 .left (sym shape ∙ e)) in
+    let none = sym (asked .checks-here .ensures) ∙ other .if1 .left in
     let step = none-next (looped .loop .inv .2) inside none in
     (_, _, rw next at step)
 
@@ -73,8 +65,7 @@ has-check-spec =
     Inv-loop
     μ-loop
     loop-holds
-    operation-number-requires
-    shape-requires
+    checks-here-requires
     returns
     next-record-requires
     loop-less

@@ -3,7 +3,7 @@ use borrow.Author.Needs.{needs}
 use borrow.Author.Tests.{eq-eqb, ne-eqb}
 use native.Mathlib.Omega.{arith}
 use Rattle.engine.specs.Call as call
-use Rattle.text.specs.Write.{wrote-none}
+use Rattle.engine.specs.Emit.{wrote-none}
 use Rattle.asked.proofs.Ending.{value-none, value-some}
 use Rattle.asked.proofs.put_get_value.Statement.{statement}
 use Rattle.asked.proofs.put_get_value.Tie as tie

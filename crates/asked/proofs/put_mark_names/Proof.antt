@@ -4,7 +4,7 @@ use borrow.Author.Tests.{eq-eqb, ne-eqb}
 use native.Mathlib.Omega.{arith}
 use Rattle.engine.specs.Call as call
 use Rattle.pieces.specs.Text.{spaced}
-use Rattle.text.specs.Write.{wrote-none}
+use Rattle.engine.specs.Emit.{wrote-none}
 use Rattle.asked.proofs.Ending.{spaced-both}
 use Rattle.asked.proofs.put_mark_names.Statement.{statement}
 use Rattle.asked.proofs.put_mark_names.Tie as tie

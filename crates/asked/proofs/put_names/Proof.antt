@@ -1,5 +1,5 @@
--- `asked::put_names` meets its contract. The loop's invariant: what is written and what the marks from `slot` on ask for are all names.
--- The measure is the number of marks left. Assumes nothing.
+-- `asked::put_names` meets its contract. The loop's invariant: what is written and what the marks from `slot` on ask
+-- for are all names. The measure is the number of marks left. Assumes nothing.
 use borrow.Author.Needs.{needs}
 use Prim.Native.Nat.{_-_}
 use mathlib.Core.Path.{_≡_, refl, _∙_}
@@ -7,13 +7,14 @@ use mathlib.Core.List.{List, []}
 use Prim.Native.Nat.{ℕ}
 use native.Mathlib.Omega.{arith}
 use lib.ListN.{length}
-use Rattle.text.specs.Write.{Wrote, wrote-none, wrote-then}
+use Rattle.engine.specs.Emit.{Wrote, wrote-none, wrote-then}
 use Rattle.asked.proofs.Ending.{NamesLeft, names-start, names-next, names-end}
 use Rattle.asked.proofs.put_names.Statement.{statement}
 use Rattle.asked.proofs.put_names.Tie as tie
 
 abbrev Inv-loop : tie.InvT-loop
-Inv-loop text₀ start recorded first at₀ slot₀ text at slot = (done : List ℕ) × (length text ≡ length text₀) × NamesLeft recorded first slot done × Wrote text₀ text start at done
+Inv-loop text₀ start recorded first at₀ slot₀ text at slot = (done : List ℕ) × (length text ≡ length text₀)
+    × NamesLeft recorded first slot done × Wrote text₀ start done text at
 
 abbrev μ-loop : tie.MeasureT-loop
 μ-loop text₀ start recorded first at₀ slot₀ text at slot = length recorded - slot
@@ -43,7 +44,7 @@ loop-again c =
       _,
       written .put-mark-names .kept .0 ∙ inv .1,
       names-next (inv .2) (turn .loop-test .taken),
-      wrote-then (start .good .0 .0) (inv .3) (written .put-mark-names .ensures),
+      wrote-then (inv .3) (written .put-mark-names .ensures) (start .good .0 .0),
     )
 
 same-length : tie.Need-same-length Inv-loop μ-loop

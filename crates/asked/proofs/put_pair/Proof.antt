@@ -1,6 +1,6 @@
 -- `asked::put_pair` meets its contract: the x name, then the y name. Assumes nothing.
 use borrow.Author.Needs.{needs}
-use Rattle.text.specs.Write.{wrote-then}
+use Rattle.engine.specs.Emit.{wrote-then}
 use Rattle.asked.proofs.put_pair.Statement.{statement}
 use Rattle.asked.proofs.put_pair.Tie as tie
 
@@ -19,7 +19,7 @@ returns c =
     let first = second .before .before .before .before in
     let start = first .before .before .before in
     let short = start .good .0 .0 in
-    wrote-then short (first .put-name .ensures) (second .put-second .ensures)
+    wrote-then (first .put-name .ensures) (second .put-second .ensures) short
 
 pub put-pair-spec : {M : Type 1} → statement M
 put-pair-spec = tie.close (tie.spec put-name-requires put-second-requires same-length returns)

@@ -1,6 +1,6 @@
 -- `asked::put_second` meets its contract: a space, then the name. Assumes nothing.
 use borrow.Author.Needs.{needs}
-use Rattle.text.specs.Write.{wrote-then}
+use Rattle.engine.specs.Emit.{wrote-then}
 use Rattle.asked.proofs.put_second.Statement.{statement}
 use Rattle.asked.proofs.put_second.Tie as tie
 
@@ -19,7 +19,7 @@ returns c =
     let spaced = named .before .before .before .before in
     let start = spaced .before .before .before in
     let short = start .good .0 .0 in
-    wrote-then short (spaced .put-byte .ensures) (named .put-name .ensures)
+    wrote-then (spaced .put-byte .ensures) (named .put-name .ensures) short
 
 pub put-second-spec : {M : Type 1} → statement M
 put-second-spec = tie.close (tie.spec put-byte-requires put-name-requires same-length returns)

@@ -1,6 +1,6 @@
 -- `asked::put_spaced_pair` meets its contract: a space, then the names. Assumes nothing.
 use borrow.Author.Needs.{needs}
-use Rattle.text.specs.Write.{wrote-then}
+use Rattle.engine.specs.Emit.{wrote-then}
 use Rattle.asked.proofs.put_spaced_pair.Statement.{statement}
 use Rattle.asked.proofs.put_spaced_pair.Tie as tie
 
@@ -19,7 +19,7 @@ returns c =
     let spaced = named .before .before .before .before in
     let start = spaced .before .before .before in
     let short = start .good .0 .0 in
-    wrote-then short (spaced .put-byte .ensures) (named .put-pair .ensures)
+    wrote-then (spaced .put-byte .ensures) (named .put-pair .ensures) short
 
 pub put-spaced-pair-spec : {M : Type 1} → statement M
 put-spaced-pair-spec = tie.close (tie.spec put-byte-requires put-pair-requires same-length returns)

@@ -1,6 +1,6 @@
 -- `asked::put_values` meets its contract: the pieces in their order. Assumes nothing.
 use borrow.Author.Needs.{needs}
-use Rattle.text.specs.Write.{wrote-then}
+use Rattle.engine.specs.Emit.{wrote-then}
 use Rattle.asked.proofs.put_values.Statement.{statement}
 use Rattle.asked.proofs.put_values.Tie as tie
 
@@ -36,7 +36,8 @@ returns c =
     let opened = pair .before .before .before .before in
     let start = opened .before .before .before .before .before in
     let short = start .good .0 .0 in
-    wrote-then short (wrote-then short (wrote-then short (opened .put-bytes .ensures) (pair .put-pair .ensures)) (names .put-names .ensures)) (closed .put-bytes2 .ensures)
+    wrote-then (wrote-then (wrote-then (opened .put-bytes .ensures) (pair .put-pair .ensures) short)
+    (names .put-names .ensures) short) (closed .put-bytes2 .ensures) short
 
 pub put-values-spec : {M : Type 1} → statement M
 put-values-spec =

@@ -1,6 +1,6 @@
 -- `pieces::put_application` meets its contract: the pieces in their order. Assumes nothing.
 use borrow.Author.Needs.{needs}
-use Rattle.text.specs.Write.{wrote-then}
+use Rattle.engine.specs.Emit.{wrote-then}
 use Rattle.pieces.proofs.put_application.Statement.{statement}
 use Rattle.pieces.proofs.put_application.Tie as tie
 
@@ -28,7 +28,8 @@ returns c =
     let known = opened .before .before .before in
     let start = known .before .before in
     let short = start .good .0 .0 in
-    wrote-then short (wrote-then short (wrote-then short (opened .put-byte .ensures) (named .put-operation .ensures)) (argued .put-arguments .ensures)) (closed .put-byte2 .ensures)
+    wrote-then (wrote-then (wrote-then (opened .put-byte .ensures) (named .put-operation .ensures) short)
+    (argued .put-arguments .ensures) short) (closed .put-byte2 .ensures) short
 
 pub put-application-spec : {M : Type 1} → statement M
 put-application-spec =

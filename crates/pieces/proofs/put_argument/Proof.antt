@@ -1,6 +1,6 @@
 -- `pieces::put_argument` meets its contract: a space, then the term. Assumes nothing.
 use borrow.Author.Needs.{needs}
-use Rattle.text.specs.Write.{wrote-then}
+use Rattle.engine.specs.Emit.{wrote-then}
 use Rattle.pieces.proofs.put_argument.Statement.{statement}
 use Rattle.pieces.proofs.put_argument.Tie as tie
 
@@ -20,7 +20,7 @@ returns c =
     let opened = spaced .before .before .before in
     let start = opened .before .before in
     let short = start .good .0 .0 in
-    wrote-then short (spaced .put-byte .ensures) (written .put-reference .ensures)
+    wrote-then (spaced .put-byte .ensures) (written .put-reference .ensures) short
 
 pub put-argument-spec : {M : Type 1} → statement M
 put-argument-spec =

@@ -1,11 +1,11 @@
--- `pieces::put_arguments` meets its contract. The loop's invariant: the arguments before `i` are written, and the place is the one after them.
--- The measure is the number of arguments left. Assumes nothing.
+-- `pieces::put_arguments` meets its contract. The loop's invariant: the arguments before `i` are written, and the place
+-- is the one after them. The measure is the number of arguments left. Assumes nothing.
 use borrow.Author.Needs.{needs}
 use Prim.Native.Nat.{_-_, _≤_}
 use mathlib.Core.Path.{_≡_, refl, _∙_}
 use native.Mathlib.Omega.{arith}
 use lib.ListN.{length}
-use Rattle.text.specs.Write.{Wrote, wrote-none, wrote-then}
+use Rattle.engine.specs.Emit.{Wrote, wrote-none, wrote-then}
 use Rattle.pieces.specs.Text.{spaced}
 use Rattle.pieces.specs.Arguments.{argumentTexts}
 use Rattle.pieces.proofs.Laws.{spaced-none, spaced-more}
@@ -14,7 +14,8 @@ use Rattle.pieces.proofs.put_arguments.Tie as tie
 
 abbrev Inv-loop : tie.InvT-loop
 Inv-loop text₀ start calls places terms head n at₀ i₀ text at i =
-    (i ≤ n) × (length text ≡ length text₀) × Wrote text₀ text start at (spaced (argumentTexts places calls terms head i))
+    (i ≤ n) × (length text ≡ length text₀)
+    × Wrote text₀ start (spaced (argumentTexts places calls terms head i)) text at
 
 abbrev μ-loop : tie.MeasureT-loop
 μ-loop text₀ start calls places terms head n at₀ i₀ text at i = n - i
@@ -43,8 +44,11 @@ loop-again c =
     let looped = written .before .before .before .before in
     let start = looped .before .before .before .before in
     let inv = looped .loop .inv in
-    let argument = rw (written .before .before .argument-at .ensures) at (written .put-argument .ensures) in
-    (omega arith, written .put-argument .kept .0 ∙ inv .1, rw spaced-more (wrote-then (start .good .0 .0) (inv .2) argument))
+    let argument = rw (written .before .before .argument-at .ensures) at (written .put-argument .ensures) in (
+      omega arith,
+      written .put-argument .kept .0 ∙ inv .1,
+      rw spaced-more (wrote-then (inv .2) argument (start .good .0 .0)),
+    )
 
 same-length : tie.Need-same-length Inv-loop μ-loop
 same-length c = c .before .loop .inv .1

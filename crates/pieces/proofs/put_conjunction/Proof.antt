@@ -1,18 +1,8 @@
 -- `pieces::put_conjunction` meets its contract: an and of one argument is written as that argument. Assumes nothing.
 use borrow.Author.Needs.{needs}
 use Rattle.pieces.proofs.Laws.{conjunction-one, conjunction-more}
-use Rattle.engine.specs.Encode.{opOf}
 use Rattle.pieces.proofs.put_conjunction.Statement.{statement}
 use Rattle.pieces.proofs.put_conjunction.Tie as tie
-
-argument-at-requires : tie.Need-argument-at-requires
-argument-at-requires c κs = search needs
-
-put-reference-requires : tie.Need-put-reference-requires
-put-reference-requires c κs = search needs
-
-same-length : tie.Need-same-length
-same-length c = search needs
 
 returns : tie.Need-returns
 returns c =
@@ -20,14 +10,7 @@ returns c =
     let single = written .before .before .before in
     rw (conjunction-one _ _ (single .if1 .taken)) (rw (written .before .before .argument-at .ensures) at (written .put-reference .ensures))
 
-put-application-requires : tie.Need-put-application-requires
-put-application-requires c κs = search needs
-
-same-length-2 : tie.Need-same-length-2
-same-length-2 c = search needs
-
 returns-2 : tie.Need-returns-2
-unfolding opOf
 returns-2 c =
     let written = c .before .before in
     let single = written .before .before in
@@ -37,10 +20,10 @@ pub put-conjunction-spec : {M : Type 1} → statement M
 put-conjunction-spec =
     tie.close
     (tie.spec
-    argument-at-requires
-    put-reference-requires
-    same-length
+    (λ c κs. search needs)
+    (λ c κs. search needs)
+    (λ c. search needs)
     returns
-    put-application-requires
-    same-length-2
+    (λ c κs. search needs)
+    (λ c. search needs)
     returns-2)

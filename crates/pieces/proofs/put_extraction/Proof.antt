@@ -1,6 +1,6 @@
 -- `pieces::put_extraction` meets its contract: the pieces in their order. Assumes nothing.
 use borrow.Author.Needs.{needs}
-use Rattle.text.specs.Write.{wrote-then}
+use Rattle.engine.specs.Emit.{wrote-then}
 use Rattle.pieces.proofs.Laws.{spaced-one}
 use Rattle.pieces.proofs.put_extraction.Statement.{statement}
 use Rattle.pieces.proofs.put_extraction.Tie as tie
@@ -50,7 +50,8 @@ returns c =
     let operation = rw (low .argument-at2 .ensures, high .argument-at .ensures) at (named .put-extract .ensures) in
     let argument = rw (third .argument-at3 .ensures) at (argued .put-argument .ensures) in
     rw spaced-one
-    (wrote-then short (wrote-then short (wrote-then short (opened .put-byte .ensures) operation) argument) (closed .put-byte2 .ensures))
+    (wrote-then (wrote-then (wrote-then (opened .put-byte .ensures) operation short) argument short)
+    (closed .put-byte2 .ensures) short)
 
 pub put-extraction-spec : {M : Type 1} → statement M
 put-extraction-spec =

@@ -1,6 +1,6 @@
 -- `program::put_refusal` meets its contract: the pieces of the line in their order. Assumes nothing.
 use borrow.Author.Needs.{needs}
-use Rattle.text.specs.Write.{wrote-then}
+use Rattle.engine.specs.Emit.{wrote-then}
 use Rattle.program.proofs.put_refusal.Statement.{statement}
 use Rattle.program.proofs.put_refusal.Tie as tie
 
@@ -13,11 +13,9 @@ returns c =
     let opened = numbered .before .before .before .before .before in
     let start = opened .before .before .before .before in
     let short = start .good .0 .0 in
-    wrote-then short
-    (wrote-then short
-    (wrote-then short (wrote-then short (opened .put-bytes .ensures) (numbered .put-number .ensures)) (parted .put-bytes2 .ensures))
-    (placed .put-number2 .ensures))
-    (ended .put-byte .ensures)
+    wrote-then (wrote-then
+    (wrote-then (wrote-then (opened .put-bytes .ensures) (numbered .put-number .ensures) short)
+    (parted .put-bytes2 .ensures) short) (placed .put-number2 .ensures) short) (ended .put-byte .ensures) short
 
 pub put-refusal-spec : {M : Type 1} → statement M
 put-refusal-spec =

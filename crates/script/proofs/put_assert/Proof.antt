@@ -1,6 +1,6 @@
 -- `script::put_assert` meets its contract: the pieces in their order. Assumes nothing.
 use borrow.Author.Needs.{needs}
-use Rattle.text.specs.Write.{wrote-then}
+use Rattle.engine.specs.Emit.{wrote-then}
 use Rattle.script.proofs.put_assert.Statement.{statement}
 use Rattle.script.proofs.put_assert.Tie as tie
 
@@ -33,7 +33,9 @@ returns c =
     let known = opened .before .before .before in
     let start = known .before .before .before in
     let short = start .good .0 .0 in
-    wrote-then short (wrote-then short (opened .put-bytes .ensures) (rw (term .before .before .argument-at .ensures) at (term .put-reference .ensures))) (closed .put-bytes2 .ensures)
+    wrote-then (wrote-then (opened .put-bytes .ensures)
+    (rw (term .before .before .argument-at .ensures) at (term .put-reference .ensures)) short)
+    (closed .put-bytes2 .ensures) short
 
 pub put-assert-spec : {M : Type 1} → statement M
 put-assert-spec =

@@ -1,6 +1,6 @@
 -- `script::put_declare` meets its contract: the pieces in their order. Assumes nothing.
 use borrow.Author.Needs.{needs}
-use Rattle.text.specs.Write.{wrote-then}
+use Rattle.engine.specs.Emit.{wrote-then}
 use Rattle.script.proofs.put_declare.Statement.{statement}
 use Rattle.script.proofs.put_declare.Tie as tie
 
@@ -40,7 +40,10 @@ returns c =
     let opened = named .before .before .before .before in
     let start = opened .before .before .before .before .before in
     let short = start .good .0 .0 in
-    wrote-then short (wrote-then short (wrote-then short (wrote-then short (opened .put-bytes .ensures) (named .put-declared .ensures)) (spaced .put-byte .ensures)) (rw (sorted .before .argument-at .ensures) at (sorted .put-sort .ensures))) (closed .put-bytes2 .ensures)
+    wrote-then (wrote-then
+    (wrote-then (wrote-then (opened .put-bytes .ensures) (named .put-declared .ensures) short)
+    (spaced .put-byte .ensures) short) (rw (sorted .before .argument-at .ensures) at (sorted .put-sort .ensures))
+    short) (closed .put-bytes2 .ensures) short
 
 pub put-declare-spec : {M : Type 1} → statement M
 put-declare-spec =

@@ -1,6 +1,6 @@
 -- `script::put_define` meets its contract: the pieces in their order. Assumes nothing.
 use borrow.Author.Needs.{needs}
-use Rattle.text.specs.Write.{wrote-then}
+use Rattle.engine.specs.Emit.{wrote-then}
 use Rattle.script.proofs.put_define.Statement.{statement}
 use Rattle.script.proofs.put_define.Tie as tie
 
@@ -49,7 +49,11 @@ returns c =
     let known = opened .before .before .before in
     let start = known .before .before .before in
     let short = start .good .0 .0 in
-    wrote-then short (wrote-then short (wrote-then short (wrote-then short (wrote-then short (wrote-then short (opened .put-bytes .ensures) (numbered .put-numbered .ensures)) (empty .put-bytes2 .ensures)) (sorted .put-sort .ensures)) (spaced .put-byte .ensures)) (body .put-body .ensures)) (closed .put-bytes3 .ensures)
+    wrote-then (wrote-then
+    (wrote-then (wrote-then
+    (wrote-then (wrote-then (opened .put-bytes .ensures) (numbered .put-numbered .ensures) short)
+    (empty .put-bytes2 .ensures) short) (sorted .put-sort .ensures) short) (spaced .put-byte .ensures) short)
+    (body .put-body .ensures) short) (closed .put-bytes3 .ensures) short
 
 pub put-define-spec : {M : Type 1} → statement M
 put-define-spec =

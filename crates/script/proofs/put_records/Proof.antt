@@ -1,5 +1,5 @@
--- `script::put_records` meets its contract. The loop's invariant: the walk has come to `head`, past `records` records that make `terms` terms,
--- and their lines are written. The measure is what is left of the list. Assumes nothing.
+-- `script::put_records` meets its contract. The loop's invariant: the walk has come to `head`, past `records` records
+-- that make `terms` terms, and their lines are written. The measure is what is left of the list. Assumes nothing.
 use borrow.Author.Needs.{needs}
 use Prim.Native.Nat.{_-_, _+_, _≤_}
 use mathlib.Core.Path.{_≡_, refl, ap, _∙_}
@@ -9,7 +9,7 @@ use lib.ListN.{length}
 use Rattle.engine.specs.Encode.{nextAt}
 use Rattle.engine.specs.Emit.{counted}
 use Rattle.call_list.specs.Records.{firstCalls, madeAt, made-low}
-use Rattle.text.specs.Write.{Wrote, wrote-none, wrote-then}
+use Rattle.engine.specs.Emit.{Wrote, wrote-none, wrote-then}
 use Rattle.script.specs.Text.{lines}
 use Rattle.script.specs.Walk.{HasTables, Walked, walked-start, walked-next, walked-writable, walked-line, walked-end, lines-start}
 use Rattle.script.proofs.put_records.Statement.{statement}
@@ -18,7 +18,8 @@ use Rattle.script.proofs.put_records.Tie as tie
 abbrev Inv-loop : tie.InvT-loop
 Inv-loop text₀ start calls places sorts at₀ head₀ records₀ terms₀ text at head records terms =
     (has : HasTables calls places sorts) × (length text ≡ length text₀) × (terms ≤ records)
-    × Walked calls sorts (has .leaving) records head terms × Wrote text₀ text start at (lines [] (firstCalls calls records))
+    × Walked calls sorts (has .leaving) records head terms
+    × Wrote text₀ start (lines [] (firstCalls calls records)) text at
 
 abbrev μ-loop : tie.MeasureT-loop
 μ-loop text₀ start calls places sorts at₀ head₀ records₀ terms₀ text at head records terms = length calls - head
@@ -33,7 +34,7 @@ put-record-requires : tie.Need-put-record-requires Inv-loop μ-loop
 put-record-requires c κs =
     let turn = c .before in
     let inv = turn .before .loop .inv in
-    walked-writable (inv .3) (turn .loop-test .taken) _ (inv .0 .placed)
+    walked-writable (inv .3) (turn .loop-test .taken) _ (inv .0 .placed) (inv .0 .tabled)
 
 terms-after-requires : tie.Need-terms-after-requires Inv-loop μ-loop
 terms-after-requires c κs = search needs
@@ -72,7 +73,7 @@ loop-again c =
       written .put-record .kept .0 ∙ inv .1,
       omega (arith, after .terms-after .ensures, inv .2),
       rw (c .next-record .ensures, after .terms-after .ensures, many, next) (walked-next (inv .3) inside (inv .0 .tabled)),
-      rw (walked-line (inv .3) inside) (wrote-then (start .good .0 .0) (inv .4) (written .put-record .ensures)),
+      rw (walked-line (inv .3) inside) (wrote-then (inv .4) (written .put-record .ensures) (start .good .0 .0)),
     )
 
 same-length : tie.Need-same-length Inv-loop μ-loop

@@ -1,6 +1,6 @@
 -- `script::put_script` meets its contract: the header, the lines and the ending. Assumes nothing.
 use mathlib.Core.Path.{_∙_}
-use Rattle.text.specs.Write.{wrote-then}
+use Rattle.engine.specs.Emit.{wrote-then}
 use Rattle.script.specs.Text.{script}
 use borrow.Author.Needs.{needs}
 use Rattle.script.proofs.put_script.Statement.{statement}
@@ -35,7 +35,8 @@ returns c =
     let known = lent .before .before .before in
     let start = known .before .before .before in
     let short = start .good .0 .0 in
-    wrote-then short (wrote-then short (headed .put-bytes .ensures) (lined .put-records .ensures)) (ended .put-ending .ensures)
+    wrote-then (wrote-then (headed .put-bytes .ensures) (lined .put-records .ensures) short)
+    (ended .put-ending .ensures) short
 
 pub put-script-spec : {M : Type 1} → statement M
 put-script-spec =

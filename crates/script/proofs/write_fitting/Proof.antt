@@ -42,7 +42,8 @@ returns-2 c =
     let wrote = written .put-script .ensures in
     let fits : length text ≤ room = omega (arith, counted, tested .if1 .left) in
     record {
-      answers = sym (room-enough text room _ (omega arith) (wrote .place) (omega (arith, counted, wrote .place, tested .if1 .left)));
+      answers = sym (room-enough text room _ (omega arith) (wrote .count)
+          (omega (arith, counted, wrote .count, tested .if1 .left)));
       writes = whole-text wrote fits;
     }
 

@@ -1,6 +1,6 @@
 -- `text::put_name` meets its contract: the letter, the index and the suffix, one after the other. Assumes nothing.
 use borrow.Author.Needs.{needs}
-use Rattle.text.specs.Write.{wrote-then}
+use Rattle.engine.specs.Emit.{wrote-then}
 use Rattle.text.proofs.put_name.Statement.{statement}
 use Rattle.text.proofs.put_name.Tie as tie
 
@@ -23,7 +23,8 @@ returns c =
     let lettered = numbered .before .before .before .before in
     let start = lettered .before .before .before in
     let short = start .good .0 .0 in
-    wrote-then short (wrote-then short (lettered .put-byte .ensures) (numbered .put-number .ensures)) (suffixed .put-byte2 .ensures)
+    wrote-then (wrote-then (lettered .put-byte .ensures) (numbered .put-number .ensures) short)
+    (suffixed .put-byte2 .ensures) short
 
 pub put-name-spec : {M : Type 1} → statement M
 put-name-spec =

@@ -1,0 +1,86 @@
+-- `reply::trit_at` meets its contract: x and then y, and the trit that they show. Assumes nothing.
+use borrow.Author.Needs.{needs}
+use Rattle.reply.specs.Step.{trit}
+use Rattle.reply.proofs.trit_at.Statement.{statement}
+use Rattle.reply.proofs.trit_at.Tie as tie
+
+slot-pair-at-requires : tie.Need-slot-pair-at-requires
+slot-pair-at-requires c κs = search needs
+
+enum-known-e : tie.Need-enum-known-e
+enum-known-e c = search needs
+
+enum-known-x : tie.Need-enum-known-x
+enum-known-x c = search needs
+
+slot-pair-at-requires-2 : tie.Need-slot-pair-at-requires-2
+slot-pair-at-requires-2 c κs = search needs
+
+enum-known-e-2 : tie.Need-enum-known-e-2
+enum-known-e-2 c = search needs
+
+enum-known-y : tie.Need-enum-known-y
+enum-known-y c = search needs
+
+trit-of-bits-requires : tie.Need-trit-of-bits-requires
+trit-of-bits-requires c κs = search needs
+
+readback-number-requires : tie.Need-readback-number-requires
+readback-number-requires c κs = search needs
+
+returns : tie.Need-returns
+unfolding trit
+returns c =
+    let first-read = c .before in
+    let first = first-read .before .before in
+    rw (
+      first .slot-pair-at .ensures,
+      first-read .e .given .1,
+    )
+
+returns-2 : tie.Need-returns-2
+unfolding trit
+returns-2 c =
+    let second-read = c .before in
+    let second = second-read .before .before in
+    let first-read = second .before .before in
+    let first = first-read .before .before in
+    rw (
+      first .slot-pair-at .ensures,
+      first-read .x .given .1,
+      second .slot-pair-at2 .ensures,
+      second-read .e2 .given .1,
+    )
+
+returns-3 : tie.Need-returns-3
+unfolding trit
+returns-3 c =
+    let shown = c .before in
+    let y-read = shown .before .before in
+    let second = y-read .before .before in
+    let x-read = second .before .before in
+    let first = x-read .before .before in
+    rw (
+      first .slot-pair-at .ensures,
+      x-read .x .given .1,
+      second .slot-pair-at2 .ensures,
+      y-read .y .given .1,
+      c .readback-number .ensures,
+      shown .trit-of-bits .ensures,
+    )
+
+pub trit-at-spec : {M : Type 1} → statement M
+trit-at-spec =
+    tie.close
+    (tie.spec
+    slot-pair-at-requires
+    enum-known-e
+    enum-known-x
+    slot-pair-at-requires-2
+    enum-known-e-2
+    enum-known-y
+    trit-of-bits-requires
+    readback-number-requires
+    returns
+    returns-2
+    returns-3)

@@ -1,0 +1,81 @@
+-- `syntax::put_binary` meets its contract: each operation has its name. Assumes nothing.
+use borrow.Author.Needs.{needs}
+use Rattle.syntax.proofs.put_binary.Statement.{statement}
+use Rattle.syntax.proofs.put_binary.Tie as tie
+
+returns : tie.Need-returns
+returns c = let w = c .before .before in rw (w .before .before .before .enum-told .given .1) (w .put-bytes .ensures)
+
+returns-2 : tie.Need-returns-2
+returns-2 c = let w = c .before .before in rw (w .before .before .before .enum-told2 .given .1) (w .put-bytes2 .ensures)
+
+returns-3 : tie.Need-returns-3
+returns-3 c = let w = c .before .before in rw (w .before .before .before .enum-told3 .given .1) (w .put-bytes3 .ensures)
+
+returns-4 : tie.Need-returns-4
+returns-4 c = let w = c .before .before in rw (w .before .before .before .enum-told4 .given .1) (w .put-bytes4 .ensures)
+
+returns-5 : tie.Need-returns-5
+returns-5 c = let w = c .before .before in rw (w .before .before .before .enum-told5 .given .1) (w .put-bytes5 .ensures)
+
+returns-6 : tie.Need-returns-6
+returns-6 c = let w = c .before .before in rw (w .before .before .before .enum-told6 .given .1) (w .put-bytes6 .ensures)
+
+returns-7 : tie.Need-returns-7
+returns-7 c = let w = c .before .before in rw (w .before .before .before .enum-told7 .given .1) (w .put-bytes7 .ensures)
+
+returns-8 : tie.Need-returns-8
+returns-8 c = let w = c .before .before in rw (w .before .before .before .enum-told8 .given .1) (w .put-bytes8 .ensures)
+
+returns-9 : tie.Need-returns-9
+returns-9 c = let w = c .before .before in rw (w .before .before .before .enum-told9 .given .1) (w .put-bytes9 .ensures)
+
+pub put-binary-spec : {M : Type 1} → statement M
+put-binary-spec =
+    tie.close
+    (tie.spec
+    (λ c. search needs)
+    (λ c. search needs)
+    (λ c κs. search needs)
+    (λ c. search needs)
+    (λ c. search needs)
+    (λ c κs. search needs)
+    (λ c. search needs)
+    (λ c. search needs)
+    (λ c κs. search needs)
+    (λ c. search needs)
+    (λ c. search needs)
+    (λ c κs. search needs)
+    (λ c. search needs)
+    (λ c. search needs)
+    (λ c κs. search needs)
+    (λ c. search needs)
+    (λ c. search needs)
+    (λ c κs. search needs)
+    (λ c. search needs)
+    (λ c. search needs)
+    (λ c κs. search needs)
+    (λ c. search needs)
+    (λ c. search needs)
+    (λ c κs. search needs)
+    (λ c. search needs)
+    (λ c. search needs)
+    (λ c κs. search needs)
+    (λ c. search needs)
+    returns
+    (λ c. search needs)
+    returns-2
+    (λ c. search needs)
+    returns-3
+    (λ c. search needs)
+    returns-4
+    (λ c. search needs)
+    returns-5
+    (λ c. search needs)
+    returns-6
+    (λ c. search needs)
+    returns-7
+    (λ c. search needs)
+    returns-8
+    (λ c. search needs)
+    returns-9)

@@ -1,0 +1,52 @@
+-- `syntax::put_extract` meets its contract: the pieces in their order. Assumes nothing.
+use borrow.Author.Needs.{needs}
+use Rattle.engine.specs.Emit.{wrote-then}
+use Rattle.syntax.proofs.put_extract.Statement.{statement}
+use Rattle.syntax.proofs.put_extract.Tie as tie
+
+slice-aggregate-put-bytes : tie.Need-slice-aggregate-put-bytes
+slice-aggregate-put-bytes c = search needs
+
+put-bytes-requires : tie.Need-put-bytes-requires
+put-bytes-requires c κs = search needs
+
+put-number-requires : tie.Need-put-number-requires
+put-number-requires c κs = search needs
+
+put-byte-requires : tie.Need-put-byte-requires
+put-byte-requires c κs = search needs
+
+put-number-requires-2 : tie.Need-put-number-requires-2
+put-number-requires-2 c κs = search needs
+
+put-byte-requires-2 : tie.Need-put-byte-requires-2
+put-byte-requires-2 c κs = search needs
+
+same-length : tie.Need-same-length
+same-length c = search needs
+
+returns : tie.Need-returns
+returns c =
+    let closed = c .before .before in
+    let low = closed .before .before .before .before in
+    let spaced = low .before .before .before .before in
+    let high = spaced .before .before .before .before in
+    let opened = high .before .before .before .before in
+    let start = opened .before .before .before .before in
+    let short = start .good .0 .0 in
+    wrote-then (wrote-then
+    (wrote-then (wrote-then (opened .put-bytes .ensures) (high .put-number .ensures) short)
+    (spaced .put-byte .ensures) short) (low .put-number2 .ensures) short) (closed .put-byte2 .ensures) short
+
+pub put-extract-spec : {M : Type 1} → statement M
+put-extract-spec =
+    tie.close
+    (tie.spec
+    slice-aggregate-put-bytes
+    put-bytes-requires
+    put-number-requires
+    put-byte-requires
+    put-number-requires-2
+    put-byte-requires-2
+    same-length
+    returns)
