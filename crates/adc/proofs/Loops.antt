@@ -1,5 +1,5 @@
--- The loop over the positions, whose model runs forward. Kept in a turn: if the rest is run from here, the whole was run from the start.
--- Assumes nothing.
+-- The loop over the positions, whose model runs forward. Kept in a turn: if the rest is run from here, the whole was
+-- run from the start. Assumes nothing.
 use mathlib.Core.Path.{_≡_}
 use mathlib.Core.List.{List, [], _∷_, _++_, append-assoc}
 use Prim.Native.Nat.{ℕ, suc, _+_, _-_, _<_}
@@ -25,7 +25,8 @@ module _ {a b : TritVec} {n : ℕ} {carry₀ : BitVec} {calls₀ : List ℕ} {c�
   pub carry-start : CarryLeft a b n carry₀ calls₀ c₀ names marks 0 carry₀ [] calls₀ c₀
   carry-start = record { rest = λ p. let all : n - 0 ≡ n = omega arith in rw all at p }
 
-  pub carry-turn : {index : ℕ} {carry carry₁ : BitVec} {done : List BitVec} {calls calls₁ : List ℕ} {c c₁ : Counts} → index < n
+  pub carry-turn : {index : ℕ} {carry carry₁ : BitVec} {done : List BitVec} {calls calls₁ : List ℕ} {c c₁ : Counts} →
+      index < n
       → CarryLeft a b n carry₀ calls₀ c₀ names marks index carry done calls c
       → Ran (carryOne a b index carry) calls names marks c calls₁ names marks c₁ carry₁
       → CarryLeft a b n carry₀ calls₀ c₀ names marks (index + 1) carry₁ (done ++ (carry₁ ∷ [])) calls₁ c₁

@@ -81,7 +81,8 @@ fn adc_sum(
     carry: TritVec,
     n: u32,
 ) -> BuiltTrits
-    ensures { λ r. ⌜ (n ≤ 63 → MakesTrits (adcSum (trits n a) (trits n b) (trits 1 carry) n (bv (x .term .0) (1 + n))) (1 + n)
+    ensures { λ r.
+        ⌜ (n ≤ 63 → MakesTrits (adcSum (trits n a) (trits n b) (trits 1 carry) n (bv (x .term .0) (1 + n))) (1 + n)
         (now (calls .entry)) (x .counts) (now (calls .exit)) r) ⌝ }
 {
     let zero = bits::bv_lit(calls, x.counts, 1, 0);

@@ -1,5 +1,5 @@
--- The model of the order of work makes the Rust's calls, call for call, and its marks, on every list of the stored sample: computed by
--- the prover, from the words of the list to the words of the calls.
+-- The model of the order of work makes the Rust's calls, call for call, and its marks, on every list of the stored
+-- sample: computed by the prover, from the words of the list to the words of the calls.
 use mathlib.Core.Path.{_≡_, refl}
 use mathlib.Core.List.{map}
 use lib.Ieee as digits
@@ -21,14 +21,15 @@ use Rattle.smt.specs.Emit as emit
 use Rattle.smt.specs.Prog.{_>>=_}
 use Rattle.working_out.specs.Reading as reading
 use Rattle.order.specs.Verify as order
-use Rattle.design.specs.Verified as answer
+use Rattle.requirement.specs.Verified as answer
 use Rattle.against_rust.specs.Rows.{Row, rows}
 
 abbrev pub answered : Row → Row
 answered r = record { list = r .list; calls = answer.callWords (r .list); marks = answer.marks (r .list) }
 
 pub equal : map answered rows ≡ rows
-unfolding digits.span digits.climb digits.size table.tab bits.bv2nat bits.nat2bv field.numberAt field.netAt field.bitAt field.constantAt field.scanMany
+unfolding digits.span digits.climb digits.size table.tab bits.bv2nat bits.nat2bv field.numberAt field.netAt field.bitAt
+    field.constantAt field.scanMany
     field.endsAt head.recordOf head.headAt pattern.alternateAt pattern.patternAt pattern.patternsAt parse.patternsIn
     parse.cellAt body.thirdAt body.secondAt body.firstAt body.leadingAt body.tailAt body.bodyAt body.contentsAt
     body.recordAt items.countsAt items.headerAt cells.placedAt cells.cellsFrom cells.cellsOf items.listedNumberAt

@@ -1,5 +1,5 @@
--- Match's loops over the positions of an alternate and over the alternates of a pattern: what the model does from here on completes its whole run.
--- Assumes nothing.
+-- Match's loops over the positions of an alternate and over the alternates of a pattern: what the model does from here
+-- on completes its whole run. Assumes nothing.
 use mathlib.Core.Path.{_≡_, refl}
 use mathlib.Core.Bool.{Bool}
 use mathlib.Core.List.{List, [], _∷_}
@@ -27,7 +27,8 @@ product-cons readsPast v nets One pattern prd = refl
 
 -- Positions below i are done, with this product.
 pub record ProductLeft (readsPast : ℕ → Bool) (nets : List Net) (pattern : List Trit) (prd₀ : TritVec)
-    (calls₀ names₀ marks₀ : List ℕ) (c₀ : Counts) (i : ℕ) (prd : TritVec) (calls names marks : List ℕ) (c : Counts) : Type 0 where
+    (calls₀ names₀ marks₀ : List ℕ) (c₀ : Counts) (i : ℕ) (prd : TritVec) (calls names marks : List ℕ) (c : Counts)
+    : Type 0 where
   pub rest : {calls′ names′ marks′ : List ℕ} {c′ : Counts} {r : TritVec}
       → Ran (product readsPast (drop i nets) (drop i pattern) prd) calls names marks c calls′ names′ marks′ c′ r
       → Ran (product readsPast nets pattern prd₀) calls₀ names₀ marks₀ c₀ calls′ names′ marks′ c′ r
@@ -37,7 +38,8 @@ module _ {readsPast : ℕ → Bool} {nets : List Net} {pattern : List Trit} {prd
   pub product-start : ProductLeft readsPast nets pattern prd₀ calls₀ names₀ marks₀ c₀ 0 prd₀ calls₀ names₀ marks₀ c₀
   product-start = record { rest = λ p. p }
 
-  pub product-turn : (i : ℕ) (v : Net) (t : Trit) {prd prd₁ : TritVec} {calls names marks calls₁ names₁ marks₁ : List ℕ} {c c₁ : Counts}
+  pub product-turn : (i : ℕ) (v : Net) (t : Trit) {prd prd₁ : TritVec} {calls names marks calls₁ names₁ marks₁ : List ℕ}
+      {c c₁ : Counts}
       → drop i nets ≡ v ∷ drop (suc i) nets → drop i pattern ≡ t ∷ drop (suc i) pattern
       → ProductLeft readsPast nets pattern prd₀ calls₀ names₀ marks₀ c₀ i prd calls names marks c
       → Ran (position readsPast v t prd) calls names marks c calls₁ names₁ marks₁ c₁ prd₁
@@ -46,7 +48,8 @@ module _ {readsPast : ℕ → Bool} {nets : List Net} {pattern : List Trit} {prd
       rw (add-one i)
       (record {
         rest = λ q. left .rest
-            (rw (net-is, trit-is, product-cons readsPast v (drop (suc i) nets) t (drop (suc i) pattern) prd) (ran-bind _ p q));
+            (rw (net-is, trit-is, product-cons readsPast v (drop (suc i) nets) t (drop (suc i) pattern) prd)
+            (ran-bind _ p q));
       })
 
   pub product-end : (i : ℕ) {prd : TritVec} {calls names marks : List ℕ} {c : Counts} → drop i nets ≡ []
@@ -59,12 +62,14 @@ module _ {readsPast : ℕ → Bool} {nets : List Net} {pattern : List Trit} {prd
 
 -- Alternates below i are done, with this sum.
 pub record SumLeft (readsPast : ℕ → Bool) (nets : List Net) (alternates : List (List Trit)) (total₀ : TritVec)
-    (calls₀ names₀ marks₀ : List ℕ) (c₀ : Counts) (i : ℕ) (total : TritVec) (calls names marks : List ℕ) (c : Counts) : Type 0 where
+    (calls₀ names₀ marks₀ : List ℕ) (c₀ : Counts) (i : ℕ) (total : TritVec) (calls names marks : List ℕ) (c : Counts)
+    : Type 0 where
   pub rest : {calls′ names′ marks′ : List ℕ} {c′ : Counts} {r : TritVec}
       → Ran (sum readsPast nets (drop i alternates) total) calls names marks c calls′ names′ marks′ c′ r
       → Ran (sum readsPast nets alternates total₀) calls₀ names₀ marks₀ c₀ calls′ names′ marks′ c′ r
 
-module _ {readsPast : ℕ → Bool} {nets : List Net} {alternates : List (List Trit)} {total₀ : TritVec} {calls₀ names₀ marks₀ : List ℕ}
+module _ {readsPast : ℕ → Bool} {nets : List Net} {alternates : List (List Trit)} {total₀ : TritVec}
+    {calls₀ names₀ marks₀ : List ℕ}
     {c₀ : Counts} where
   pub sum-start : SumLeft readsPast nets alternates total₀ calls₀ names₀ marks₀ c₀ 0 total₀ calls₀ names₀ marks₀ c₀
   sum-start = record { rest = λ p. p }

@@ -1,6 +1,6 @@
-// SmtBuilder of smt.rs, `cell` for a Match: the match of one pattern, the sum over its alternates of the products over their positions. `fields` is
-// the part of the list from the record's first field on: #n #k enable, n nets, and for each of k patterns #alternates and its constants, n for each
-// alternate.
+// SmtBuilder of smt.rs, `cell` for a Match: the match of one pattern, the sum over its alternates of the products over
+// their positions. `fields` is the part of the list from the record's first field on: #n #k enable, n nets, and for
+// each of k patterns #alternates and its constants, n for each alternate.
 use builder::BuiltTrits;
 use builder::Counts;
 use logic::Net;
@@ -24,7 +24,9 @@ fn compared(
     marks: &mut [u8],
     prd: BuiltTrits,
 ) -> BuiltTrits
-    ensures { λ r. ⌜ RanTrits (compared (pastIn (now (table .entry))) (netIn (now (fields .entry)) (3 + index)) mask (trits 1 (prd .value))) 1
+    ensures { λ r.
+        ⌜ RanTrits
+        (compared (pastIn (now (table .entry))) (netIn (now (fields .entry)) (3 + index)) mask (trits 1 (prd .value))) 1
         (now (calls .entry)) (now (names .entry)) (now (marks .entry)) (prd .counts)
         (now (calls .exit)) (now (names .exit)) (now (marks .exit)) r ⌝ }
 {
@@ -47,7 +49,9 @@ fn position(
     marks: &mut [u8],
     prd: BuiltTrits,
 ) -> BuiltTrits
-    ensures { λ r. ⌜ RanTrits (position (pastIn (now (table .entry))) (netIn (now (fields .entry)) (3 + index)) mask (trits 1 (prd .value))) 1
+    ensures { λ r.
+        ⌜ RanTrits
+        (position (pastIn (now (table .entry))) (netIn (now (fields .entry)) (3 + index)) mask (trits 1 (prd .value))) 1
         (now (calls .entry)) (now (names .entry)) (now (marks .entry)) (prd .counts)
         (now (calls .exit)) (now (names .exit)) (now (marks .exit)) r ⌝ }
 {
@@ -69,7 +73,10 @@ fn product(
     marks: &mut [u8],
     prd: BuiltTrits,
 ) -> BuiltTrits
-    ensures { λ r. ⌜ RanTrits (product (pastIn (now (table .entry))) (netsIn (now (fields .entry)) n 3) (tritsIn (now (fields .entry)) n at) (trits 1 (prd .value))) 1
+    ensures { λ r.
+        ⌜ RanTrits
+        (product (pastIn (now (table .entry))) (netsIn (now (fields .entry)) n 3) (tritsIn (now (fields .entry)) n at)
+        (trits 1 (prd .value))) 1
         (now (calls .entry)) (now (names .entry)) (now (marks .entry)) (prd .counts)
         (now (calls .exit)) (now (names .exit)) (now (marks .exit)) r ⌝ }
 {
@@ -83,7 +90,8 @@ fn product(
     result
 }
 
-// The place of alternate i of the pattern at a place, at most 2^32 - 1; that of the next pattern if i is the number of alternates.
+// The place of alternate i of the pattern at a place, at most 2^32 - 1; that of the next pattern if i is the number of
+// alternates.
 pub fn alternate_at(at: u32, i: u32, n: u32) -> u32
     ensures { λ r. ⌜ r ≡ min (at + 1 + i * n) 4294967295 ⌝ }
 {
@@ -106,7 +114,9 @@ pub fn sum(
     c: Counts,
 ) -> BuiltTrits
     ensures { λ r. ⌜ (at + 1 + numberIn (now (fields .entry)) at * n < 2 ^ 32
-        → RanTrits (matchOf (pastIn (now (table .entry))) (netsIn (now (fields .entry)) n 3) (alternatesIn (now (fields .entry)) n at)) 1
+        → RanTrits
+        (matchOf (pastIn (now (table .entry))) (netsIn (now (fields .entry)) n 3)
+        (alternatesIn (now (fields .entry)) n at)) 1
         (now (calls .entry)) (now (names .entry)) (now (marks .entry)) c
         (now (calls .exit)) (now (names .exit)) (now (marks .exit)) r) ⌝ }
 {

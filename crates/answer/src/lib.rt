@@ -13,7 +13,8 @@ ghost use Rattle.answer.specs.Reply.{badMark, Read};
 ghost use Rattle.answer.specs.Model.{listed, Tabled};
 ghost use Rattle.answer.specs.Entries.{entries, written, forget, nothing};
 
-// What a solver said. After sat the table is written; a refusal has document 01's number and the place of the byte or mark at fault.
+// What a solver said. After sat the table is written; a refusal has document 01's number and the place of the byte or
+// mark at fault.
 pub enum Answer {
     Unsat,
     Sat,
@@ -28,7 +29,9 @@ enum Mark {
 
 // Reads the entries of all slots and gives the place after them.
 fn scan_entries(text: &[u8], start: usize, recorded: &[u8]) -> Step
-    ensures { λ r. ⌜ forget (entries 0 (now (recorded .entry)) (tokensFrom (now (text .entry)) start)) ≡ stepResult (now (text .entry)) r ⌝ }
+    ensures { λ r.
+        ⌜ forget (entries 0 (now (recorded .entry)) (tokensFrom (now (text .entry)) start))
+        ≡ stepResult (now (text .entry)) r ⌝ }
 {
     let mut at = start;
     let mut slot = 0;
@@ -46,7 +49,9 @@ fn scan_entries(text: &[u8], start: usize, recorded: &[u8]) -> Step
 
 // Writes the entries of all slots; a fault, of which the scan would have told, ends it.
 fn write_entries(text: &[u8], start: usize, recorded: &[u8], trits: &mut [u8])
-    ensures { λ _. ⌜ now (trits .exit) ≡ overwrite (now (trits .entry)) 0 (written 0 (now (recorded .entry)) (tokensFrom (now (text .entry)) start)) ⌝ }
+    ensures { λ _.
+        ⌜ now (trits .exit)
+        ≡ overwrite (now (trits .entry)) 0 (written 0 (now (recorded .entry)) (tokensFrom (now (text .entry)) start)) ⌝ }
 {
     let mut at = start;
     let mut slot = 0;
@@ -96,7 +101,9 @@ fn bad_mark(recorded: &[u8]) -> Mark
 
 // Reads the pairs and the list's end, from the place of the first pair, which it gives back.
 fn pairs_at(text: &[u8], first: usize, recorded: &[u8]) -> Step
-    ensures { λ r. ⌜ Tabled (now (text .entry)) (now (recorded .entry)) (listed (asked (now (recorded .entry))) (tokensFrom (now (text .entry)) first)) r ⌝ }
+    ensures { λ r.
+        ⌜ Tabled (now (text .entry)) (now (recorded .entry))
+        (listed (asked (now (recorded .entry))) (tokensFrom (now (text .entry)) first)) r ⌝ }
 {
     match scan_entries(text, first, recorded) {
         Step::Refused(e) => Step::Refused(e),
@@ -112,7 +119,9 @@ fn pairs_at(text: &[u8], first: usize, recorded: &[u8]) -> Step
 
 // Reads what follows sat, and gives the place of the first pair.
 fn model_at(text: &[u8], at: usize, recorded: &[u8]) -> Step
-    ensures { λ r. ⌜ Tabled (now (text .entry)) (now (recorded .entry)) (model (asked (now (recorded .entry))) (tokensFrom (now (text .entry)) at)) r ⌝ }
+    ensures { λ r.
+        ⌜ Tabled (now (text .entry)) (now (recorded .entry))
+        (model (asked (now (recorded .entry))) (tokensFrom (now (text .entry)) at)) r ⌝ }
 {
     if nothing_asked(recorded) {
         return match reply::end_at(text, at) {
@@ -126,7 +135,8 @@ fn model_at(text: &[u8], at: usize, recorded: &[u8]) -> Step
     }
 }
 
-// Reads a solver's answer against the recorded marks. After sat the table has an entry for each mark; otherwise it stays as it was.
+// Reads a solver's answer against the recorded marks. After sat the table has an entry for each mark; otherwise it
+// stays as it was.
 pub fn read_answer(text: &[u8], recorded: &[u8], trits: &mut [u8]) -> Answer
     ensures { λ r. ⌜ Read (now (text .entry)) (now (recorded .entry)) (now (trits .entry)) (now (trits .exit)) r ⌝ }
 {

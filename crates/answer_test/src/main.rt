@@ -1,6 +1,6 @@
-// Reads answers from standard input and prints what `answer` makes of each. A case is a line of marks, one digit each, and the solver's
-// text, and ends at a percent sign. After sat the line has the table and the two entries after it, which were 9 before; a case of more
-// marks than the table has entries meets fault 15.
+// Reads answers from standard input and prints what `answer` makes of each. A case is a line of marks, one digit each,
+// and the solver's text, and ends at a percent sign. After sat the line has the table and the two entries after it,
+// which were 9 before; a case of more marks than the table has entries meets fault 15.
 use answer::Answer;
 ghost use Prim.Native.Nat.{_≤_};
 ghost use lib.ListN.{length};

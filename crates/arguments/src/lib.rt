@@ -6,7 +6,8 @@ ghost use mathlib.Core.Bool.{_&&_};
 ghost use lib.Dec.{eqb, leb, ltb};
 ghost use Prim.Native.Nat.{_+_, _-_, _*_, _^_, min};
 ghost use Rattle.logic.specs.Word.{payloadOf};
-ghost use Rattle.engine.specs.WellFormed.{isNumber, isVector, isWidth, literalCount, countFits, pick, declaration, extraction, argumentOf, admits};
+ghost use Rattle.engine.specs.WellFormed.{isNumber, isVector, isWidth, literalCount, countFits, pick, declaration};
+ghost use Rattle.engine.specs.WellFormed.{extraction, argumentOf, admits};
 ghost use Rattle.call_list.specs.Operations.{opFrom};
 
 // A number of at most a bound, and a width.
@@ -192,8 +193,8 @@ fn holds_index(high: u32, sort: u32) -> bool
     if high < sort { sort <= 64 } else { false }
 }
 
-// Whether a word may stand as an argument after the record's first argument and the word before, with the sorts of the terms
-// that the word before and the word itself refer to.
+// Whether a word may stand as an argument after the record's first argument and the word before, with the sorts of the
+// terms that the word before and the word itself refer to.
 pub fn admitted(
     argument: Argument,
     first: u32,

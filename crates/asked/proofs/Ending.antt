@@ -13,10 +13,11 @@ use Rattle.engine.specs.Call as c
 use Rattle.engine.specs.Sorts.{Context, start, after, leaves}
 use Rattle.engine.specs.Encode.{Op, operationAt, countAt, callOf, callAt, nextAt, callsFrom, decode}
 use Rattle.engine.specs.Encode as o
-use Rattle.engine.specs.Steps.{calls-end, calls-step}
+use Rattle.engine.proofs.Steps.{calls-end, calls-step}
 use Rattle.text.specs.Bytes.{ascii}
 use Rattle.text.specs.Names.{nameText, spelling, namesOfMark, bothNames, askedFrom, asked}
-use Rattle.call_list.specs.Records.{firstCalls, Reached, reached-start, reached-next, first-more, split, madeAt}
+use Rattle.call_list.specs.Records.{firstCalls, madeAt}
+use Rattle.call_list.proofs.RecordsLaws.{Reached, reached-start, reached-next, first-more, split}
 use Rattle.call_list.specs.Literal.{payloads}
 use Rattle.pieces.specs.Text.{spaced}
 use Rattle.pieces.specs.Shape.{lineOf}
@@ -76,7 +77,8 @@ leaves-checks : (x : Context) (calls : List Call) → leaves x calls .checked �
 unfolding leaves any
 leaves-checks x [] = sym (or-false (x .checked))
 leaves-checks x (call ∷ calls) =
-    leaves-checks (after x call) calls ∙ rw (after-checks x call) (or-assoc (x .checked) (checks call) (any checks calls))
+    leaves-checks (after x call) calls
+    ∙ rw (after-checks x call) (or-assoc (x .checked) (checks call) (any checks calls))
 
 pub checked-any : (calls : List Call) → leaves start calls .checked ≡ any checks calls
 checked-any calls = leaves-checks start calls
@@ -145,13 +147,15 @@ pub names-start : (marks : List ℕ) (first : ℕ) → NamesLeft marks first fir
 names-start marks first = record { rest = refl }
 
 asked-here : (marks : List ℕ) (slot : ℕ) → slot < length marks
-    → askedFrom slot (drop slot marks) ≡ namesOfMark slot (getD marks slot 0) ++ askedFrom (slot + 1) (drop (slot + 1) marks)
+    → askedFrom slot (drop slot marks)
+    ≡ namesOfMark slot (getD marks slot 0) ++ askedFrom (slot + 1) (drop (slot + 1) marks)
 unfolding askedFrom
 asked-here marks slot inside = rw (drop-cons marks slot 0 inside, add-one slot)
 
 module _ (marks : List ℕ) (slot : ℕ) where
   pub names-here : slot < length marks
-      → namesFrom marks slot ≡ spaced (map nameText (namesOfMark slot (getD marks slot 0))) ++ namesFrom marks (slot + 1)
+      → namesFrom marks slot
+      ≡ spaced (map nameText (namesOfMark slot (getD marks slot 0))) ++ namesFrom marks (slot + 1)
   names-here inside = rw (asked-here marks slot inside, map-append, spaced-append)
 
   pub names-done : length marks ≤ slot → namesFrom marks slot ≡ []
@@ -161,24 +165,32 @@ module _ (marks : List ℕ) (slot : ℕ) where
 pub names-next : {marks done : List ℕ} {first slot : ℕ} → NamesLeft marks first slot done → slot < length marks
     → NamesLeft marks first (slot + 1) (done ++ spaced (map nameText (namesOfMark slot (getD marks slot 0))))
 names-next {marks} {done} {first} {slot} here inside =
-    record { rest = append-assoc done _ _ ∙ ap (λ (l : List ℕ). done ++ l) (sym (names-here marks slot inside)) ∙ here .rest }
+    record {
+      rest = append-assoc done _ _ ∙ ap (λ (l : List ℕ). done ++ l) (sym (names-here marks slot inside))
+          ∙ here .rest;
+    }
 
-pub names-end : {marks done : List ℕ} {first slot : ℕ} → NamesLeft marks first slot done → length marks ≤ slot → done ≡ namesFrom marks first
-names-end {marks} {done} {first} {slot} here past = sym (append-nil done) ∙ rw (← names-done marks slot past) (here .rest)
+pub names-end : {marks done : List ℕ} {first slot : ℕ} → NamesLeft marks first slot done → length marks ≤ slot → done
+    ≡ namesFrom marks first
+names-end {marks} {done} {first} {slot} here past = sym (append-nil done)
+    ∙ rw (← names-done marks slot past) (here .rest)
 
 pub asked-start : (marks : List ℕ) → askedFrom 0 marks ≡ askedFrom 0 (drop 0 marks)
 asked-start marks = refl
 
-pub asked-next : (marks : List ℕ) (slot : ℕ) → slot < length marks → (getD marks slot 0 ≡ 1 → ⊥) → (getD marks slot 0 ≡ 2 → ⊥)
+pub asked-next : (marks : List ℕ) (slot : ℕ) → slot < length marks → (getD marks slot 0 ≡ 1 → ⊥) →
+    (getD marks slot 0 ≡ 2 → ⊥)
     → askedFrom slot (drop slot marks) ≡ askedFrom (slot + 1) (drop (slot + 1) marks)
 asked-next marks slot inside one two = asked-here marks slot inside ∙ rw (ne-eqb _ 1 one, ne-eqb _ 2 two)
 
 -- The two names of a slot, with a space between them.
 abbrev pub pairNames : c.Letter → ℕ → List ℕ
 pairNames letter slot =
-    nameText (record { letter = letter; index = slot; suffix = c.x }) ++ (ascii " " ++ nameText (record { letter = letter; index = slot; suffix = c.y }))
+    nameText (record { letter = letter; index = slot; suffix = c.x })
+    ++ (ascii " " ++ nameText (record { letter = letter; index = slot; suffix = c.y }))
 
-pub spaced-both : (letter : c.Letter) (slot : ℕ) → spaced (map nameText (bothNames letter slot)) ≡ ascii " " ++ pairNames letter slot
+pub spaced-both : (letter : c.Letter) (slot : ℕ) → spaced (map nameText (bothNames letter slot))
+    ≡ ascii " " ++ pairNames letter slot
 unfolding spaced
 spaced-both letter slot = simp (append-nil, append-assoc)
 
@@ -191,14 +203,21 @@ regroup : (p a b r q : List ℕ) → p ++ a ++ (ascii " " ++ b ++ r) ++ q ≡ p 
 regroup p a b r q = simp append-assoc
 
 value-pair : (x y : Name) (rest : List Name)
-    → getValue (x ∷ y ∷ rest) ≡ ascii "(get-value (" ++ (nameText x ++ (ascii " " ++ nameText y)) ++ spaced (map nameText rest) ++ ascii "))\n"
+    → getValue (x ∷ y ∷ rest)
+    ≡ ascii "(get-value (" ++ (nameText x ++ (ascii " " ++ nameText y)) ++ spaced (map nameText rest) ++ ascii
+    "))\n"
 unfolding spaced
-value-pair x y rest = regroup (ascii "(get-value (") (nameText x) (nameText y) (spaced (map nameText rest)) (ascii "))\n")
+value-pair x y rest =
+    regroup (ascii "(get-value (") (nameText x) (nameText y) (spaced (map nameText rest)) (ascii "))\n")
 
 pub value-some : {marks : List ℕ} {slot : ℕ} (letter : c.Letter) → FirstAsked marks slot → slot < length marks
     → namesOfMark slot (getD marks slot 0) ≡ bothNames letter slot
-    → getValue (asked marks) ≡ ascii "(get-value (" ++ pairNames letter slot ++ namesFrom marks (slot + 1) ++ ascii "))\n"
+    → getValue (asked marks)
+    ≡ ascii "(get-value (" ++ pairNames letter slot ++ namesFrom marks (slot + 1) ++ ascii "))\n"
 value-some {marks} {slot} letter here inside e =
-    ap getValue (here .same ∙ asked-here marks slot inside ∙ ap (λ (names : List Name). names ++ askedFrom (slot + 1) (drop (slot + 1) marks)) e)
-    ∙ value-pair (record { letter = letter; index = slot; suffix = c.x }) (record { letter = letter; index = slot; suffix = c.y })
+    ap getValue
+    (here .same ∙ asked-here marks slot inside
+    ∙ ap (λ (names : List Name). names ++ askedFrom (slot + 1) (drop (slot + 1) marks)) e)
+    ∙ value-pair (record { letter = letter; index = slot; suffix = c.x })
+    (record { letter = letter; index = slot; suffix = c.y })
     (askedFrom (slot + 1) (drop (slot + 1) marks))

@@ -22,7 +22,8 @@ use Rattle.name_table.specs.Named.{isName, named, NamesTo}
 use Rattle.call_list.specs.Operations.{isDeclare}
 use Rattle.pieces.specs.Shape.{nameOf}
 use Rattle.asked.specs.declared.Mark.the-variants.{Fine, Bad}
-use Rattle.asked.specs.Marks.{any, declaresName, allDeclared, markStands, badMark, lowNumber, declaredBy, pairBy, standsBy, badBy}
+use Rattle.asked.specs.Marks.{any, declaresName, allDeclared, markStands, badMark, lowNumber, declaredBy, pairBy}
+use Rattle.asked.specs.Marks.{standsBy, badBy}
 
 -- A record declares a name if it is a declaration, by the name that its arguments spell.
 declares-by : (op : Op) (n : ℕ) (a : ℕ → ℕ) (letter index suffix : ℕ)
@@ -55,13 +56,15 @@ pub letter-low : (n : ℕ) → letterNumber (getD letters n c.n) ≡ lowNumber n
 letter-low zero = refl
 letter-low (suc zero) = refl
 letter-low (suc (suc zero)) = refl
-letter-low (suc (suc (suc n))) = rw (ne-eqb (suc (suc (suc n))) 1 (λ e. omega arith), ne-eqb (suc (suc (suc n))) 2 (λ e. omega arith))
+letter-low (suc (suc (suc n))) =
+    rw (ne-eqb (suc (suc (suc n))) 1 (λ e. omega arith), ne-eqb (suc (suc (suc n))) 2 (λ e. omega arith))
 
 pub suffix-low : (n : ℕ) → suffixNumber (getD suffixes n c.none) ≡ lowNumber n
 suffix-low zero = refl
 suffix-low (suc zero) = refl
 suffix-low (suc (suc zero)) = refl
-suffix-low (suc (suc (suc n))) = rw (ne-eqb (suc (suc (suc n))) 1 (λ e. omega arith), ne-eqb (suc (suc (suc n))) 2 (λ e. omega arith))
+suffix-low (suc (suc (suc n))) =
+    rw (ne-eqb (suc (suc (suc n))) 1 (λ e. omega arith), ne-eqb (suc (suc (suc n))) 2 (λ e. omega arith))
 
 and-true : (b : Bool) → (b && true) ≡ b
 and-true true = refl
@@ -160,19 +163,24 @@ module _ (names : List ℕ) (calls : List Call) (named-to : NamesTo names (leave
           (named-to l i s hl hs q ∙ names-left start calls l i s ∙ or-false (any (declaresName l i s) calls))
 
   pair-is : (letter : ℕ) → letter ≤ 2 → (slot : ℕ)
-      → pairBy (declaredBy names calls) letter slot ≡ (any (declaresName letter slot 1) calls && any (declaresName letter slot 2) calls)
-  pair-is letter low slot = ap₂ _&&_ (declared-is letter slot 1 low (omega arith)) (declared-is letter slot 2 low (omega arith))
+      → pairBy (declaredBy names calls) letter slot
+      ≡ (any (declaresName letter slot 1) calls && any (declaresName letter slot 2) calls)
+  pair-is letter low slot =
+      ap₂ _&&_ (declared-is letter slot 1 low (omega arith)) (declared-is letter slot 2 low (omega arith))
 
   stands-is : (slot mark : ℕ) → standsBy (declaredBy names calls) slot mark ≡ markStands calls slot mark
   stands-is slot mark = go (ℕ-discrete mark 1) (ℕ-discrete mark 2)
     where
       go : Dec (mark ≡ 1) → Dec (mark ≡ 2) → standsBy (declaredBy names calls) slot mark ≡ markStands calls slot mark
-      go (yes e) d = by-one (declaredBy names calls) slot mark e ∙ pair-is 0 (omega arith) slot ∙ sym (stands-current calls slot mark e)
-      go (no e) (yes f) = by-two (declaredBy names calls) slot mark f ∙ pair-is 1 (omega arith) slot ∙ sym (stands-past calls slot mark f)
+      go (yes e) d = by-one (declaredBy names calls) slot mark e ∙ pair-is 0 (omega arith) slot
+          ∙ sym (stands-current calls slot mark e)
+      go (no e) (yes f) = by-two (declaredBy names calls) slot mark f ∙ pair-is 1 (omega arith) slot
+          ∙ sym (stands-past calls slot mark f)
       go (no e) (no f) = by-none (declaredBy names calls) slot mark e f ∙ sym (stands-none calls slot mark e f)
 
   -- The first mark that does not stand, by the table, is the first by the calls.
-  pub bad-is : (slot : ℕ) (marks : List ℕ) → badBy (standsBy (declaredBy names calls)) slot marks ≡ badMark calls slot marks
+  pub bad-is : (slot : ℕ) (marks : List ℕ) → badBy (standsBy (declaredBy names calls)) slot marks
+      ≡ badMark calls slot marks
   unfolding badBy badMark
   bad-is slot [] = refl
   bad-is slot (mark ∷ marks) = rw (stands-is slot mark, bad-is (suc slot) marks)

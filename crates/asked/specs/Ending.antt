@@ -41,4 +41,5 @@ pub record FirstAsked (marks : List ℕ) (slot : ℕ) : Type 0 where
 -- The line that asks for the pair of a slot and for further names.
 abbrev pub valuesText : ℕ → ℕ → List ℕ → List ℕ
 valuesText letter slot names =
-    ascii "(get-value (" ++ (spelling letter slot 120 ++ (ascii " " ++ spelling letter slot 121)) ++ names ++ ascii "))\n"
+    ascii "(get-value (" ++ (spelling letter slot 120 ++ (ascii " " ++ spelling letter slot 121)) ++ names ++ ascii
+    "))\n"

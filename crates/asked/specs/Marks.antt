@@ -56,7 +56,8 @@ abbrev pub pairBy : (ℕ → ℕ → ℕ → Bool) → ℕ → ℕ → Bool
 pairBy declares letter slot = declares letter slot 1 && declares letter slot 2
 
 abbrev pub standsBy : (ℕ → ℕ → ℕ → Bool) → ℕ → ℕ → Bool
-standsBy declares slot mark = cond (eqb mark 1) (pairBy declares 0 slot) (cond (eqb mark 2) (pairBy declares 1 slot) (eqb mark 0))
+standsBy declares slot mark =
+    cond (eqb mark 1) (pairBy declares 0 slot) (cond (eqb mark 2) (pairBy declares 1 slot) (eqb mark 0))
 
 -- The first mark of which a test fails.
 unfoldable pub badBy : (ℕ → ℕ → Bool) → ℕ → List ℕ → Mark

@@ -1,4 +1,5 @@
-// What the recorded marks ask of a solver: whether the calls declare the names, and the text that asks for their values.
+// What the recorded marks ask of a solver: whether the calls declare the names, and the text that asks for their
+// values.
 use pieces::Line;
 ghost use mathlib.Core.Path.{_≡_};
 ghost use mathlib.Core.List.{_++_, map};
@@ -234,7 +235,9 @@ fn mark_stands(calls: &[u32], names: &[u8], slot: usize, mark: u8) -> bool
 
 // The first mark that does not stand, with a table of the names that the calls declare.
 pub fn bad_mark(calls: &[u32], names: &[u8], recorded: &[u8]) -> Mark
-    ensures { λ r. ⌜ r ≡ badBy (standsBy (declaredBy (now (names .entry)) (decode (now (calls .entry))))) 0 (now (recorded .entry)) ⌝ }
+    ensures { λ r.
+        ⌜ r ≡ badBy (standsBy (declaredBy (now (names .entry)) (decode (now (calls .entry))))) 0 (now (recorded .entry))
+        ⌝ }
 {
     let mut slot = 0;
     while slot < recorded.len() {

@@ -8,7 +8,7 @@ use native.Mathlib.Nat.{suc-add, pow-suc}
 use lib.Dec.{eqb}
 use lib.ListN.{replicate}
 use Rattle.bitvec.specs.Bits.{bit, nat2bv}
-use Rattle.bitvec.specs.Laws.{nat2bv-cons}
+use Rattle.bitvec.proofs.Laws.{nat2bv-cons}
 
 -- A width of at most 64 is that of its literal.
 pub narrow : (w : ℕ) → w ≤ 64 → min w 64 ≡ w
@@ -25,8 +25,10 @@ unfolding nat2bv
 ones-low zero more n e = refl
 ones-low (suc w) more n e =
     let double : suc n ≡ 2 ^ (w + more) * 2 = e ∙ ap (λ k. 2 ^ k) (suc-add w more) ∙ pow-suc 2 (w + more) in
-    ap₂ _∷_ (ap (λ k. eqb k 1) (let h : n % 2 ≡ 1 = omega arith in h)) (ones-low w more (n / 2) (let h : suc (n / 2) ≡ 2 ^ (w + more) = omega arith in h))
+    ap₂ _∷_ (ap (λ k. eqb k 1) (let h : n % 2 ≡ 1 = omega arith in h))
+    (ones-low w more (n / 2) (let h : suc (n / 2) ≡ 2 ^ (w + more) = omega arith in h))
 
 -- All 64 ones: a literal takes as many as its width.
 pub ones-lit : (w : ℕ) → w ≤ 64 → nat2bv w 18446744073709551615 ≡ replicate w true
-ones-lit w low = ones-low w (64 - w) 18446744073709551615 (ap (λ k. 2 ^ k) (let h : 64 ≡ w + (64 - w) = omega arith in h))
+ones-lit w low =
+    ones-low w (64 - w) 18446744073709551615 (ap (λ k. 2 ^ k) (let h : 64 ≡ w + (64 - w) = omega arith in h))

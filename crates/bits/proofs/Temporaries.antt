@@ -7,7 +7,8 @@ use lib.ListN.{length}
 use Rattle.engine.specs.Call.{Call}
 use Rattle.engine.specs.Call as k
 use Rattle.engine.specs.Encode.{encode, recordOf}
-use Rattle.engine.specs.Emit.{Wrote, length-overwrite}
+use Rattle.engine.specs.Emit.{Wrote}
+use Rattle.engine.proofs.EmitLaws.{length-overwrite}
 use Rattle.smt.specs.Prog.{ret, bind, bind2}
 use Rattle.smt.specs.Emit.{St, emit, tempName}
 use Rattle.builder.specs.declared.Counts.{Counts}
@@ -24,8 +25,10 @@ pub called-one : (a : Call) {calls calls′ : List ℕ} {c : Counts} {words : �
 called-one a wrote made =
     rw made (record { wrote = wrote-call a wrote; made = refl; terms = refl; temporaries = refl })
 
-pub called-two : (a b : Call) {calls calls₁ calls₂ : List ℕ} {c : Counts} {words₁ words₂ : ℕ} {r : Built} → length calls < 2 ^ 64
-    → Wrote calls (c .words) (recordOf a) calls₁ words₁ → Wrote calls₁ words₁ (recordOf b) calls₂ words₂ → r ≡ builtAt c words₂
+pub called-two : (a b : Call) {calls calls₁ calls₂ : List ℕ} {c : Counts} {words₁ words₂ : ℕ} {r : Built} →
+    length calls < 2 ^ 64
+    → Wrote calls (c .words) (recordOf a) calls₁ words₁ → Wrote calls₁ words₁ (recordOf b) calls₂ words₂ → r
+    ≡ builtAt c words₂
     → Called (a ∷ b ∷ []) (r .term .0) calls c calls₂ (r .counts)
 called-two a b short first then made =
     let both = wrote-calls (a ∷ []) (b ∷ []) (wrote-call a first) (wrote-call b then) short in
@@ -56,7 +59,8 @@ ran-bv-bind {A} w t g {calls} {calls₁} {calls₂} {c} {c₁} {c₂} {c₃} {x}
     n = c .terms
 
     equal′ : Called (k.term (k.equal x t) ∷ k.assert (c₁ .terms) ∷ []) e calls₁ (nextTemporary c₁) calls₂ c₃
-    equal′ = subst (λ (d : Counts). Called (k.term (k.equal x t) ∷ k.assert (d .terms) ∷ []) e calls₁ d calls₂ c₃) next equal
+    equal′ = subst (λ (d : Counts). Called (k.term (k.equal x t) ∷ k.assert (d .terms) ∷ []) e calls₁ d calls₂ c₃) next
+        equal
 
     go : length calls < 2 ^ 64 → suc (suc n) < 2 ^ 32 → suc (c .temporaries) < 2 ^ 32
         → Ends (emit (bind w t (λ j. ret (g j))) (stateOf c names marks)) calls (c .words) calls₂ (c₃ .words)
@@ -75,7 +79,8 @@ ran-bv-bind {A} w t g {calls} {calls₁} {calls₂} {c} {c₁} {c₂} {c₃} {x}
 
 -- ---- tv_bind
 
-pub ran-tv-bind : {A : Type 0} (w t u : ℕ) (g : ℕ → ℕ → A) {calls calls₁ calls₂ calls₃ calls₄ : List ℕ} {c c₁ c₂ c₃ c₄ c₅ : Counts} {x y e f : ℕ}
+pub ran-tv-bind : {A : Type 0} (w t u : ℕ) (g : ℕ → ℕ → A) {calls calls₁ calls₂ calls₃ calls₄ : List ℕ}
+    {c c₁ c₂ c₃ c₄ c₅ : Counts} {x y e f : ℕ}
     → Called (k.declare (tempName (c .temporaries) k.x) w ∷ []) x calls c calls₁ c₁
     → Called (k.declare (tempName (c₁ .temporaries) k.y) w ∷ []) y calls₁ c₁ calls₂ c₂
     → c₃ ≡ nextTemporary c₂
@@ -83,18 +88,21 @@ pub ran-tv-bind : {A : Type 0} (w t u : ℕ) (g : ℕ → ℕ → A) {calls call
     → Called (k.term (k.equal y u) ∷ k.assert (c₄ .terms) ∷ []) f calls₃ c₄ calls₄ c₅
     → Writes (bind2 w t u (λ i j. ret (g i j))) calls c calls₄ c₅ (g x y)
 unfolding emit
-ran-tv-bind {A} w t u g {calls} {calls₁} {calls₂} {calls₃} {calls₄} {c} {c₁} {c₂} {c₃} {c₄} {c₅} {x} {y} {e} {f} named named₂ next equal equal₂ names marks =
+ran-tv-bind {A} w t u g {calls} {calls₁} {calls₂} {calls₃} {calls₄} {c} {c₁} {c₂} {c₃} {c₄} {c₅} {x} {y} {e} {f} named
+    named₂ next equal equal₂ names marks =
     record { ends = λ lent fits. go (lent .short) (fits .next) (fits .temp) }
   where
     n : ℕ
     n = c .terms
 
     equal′ : Called (k.term (k.equal x t) ∷ k.assert (c₂ .terms) ∷ []) e calls₂ (nextTemporary c₂) calls₃ c₄
-    equal′ = subst (λ (d : Counts). Called (k.term (k.equal x t) ∷ k.assert (d .terms) ∷ []) e calls₂ d calls₃ c₄) next equal
+    equal′ = subst (λ (d : Counts). Called (k.term (k.equal x t) ∷ k.assert (d .terms) ∷ []) e calls₂ d calls₃ c₄) next
+        equal
 
     same-length : {calls calls′ : List ℕ} {cs : List Call} {j : ℕ} {c c′ : Counts} → Called cs j calls c calls′ c′
         → length calls′ ≡ length calls
-    same-length {calls} {calls′} {cs} {j} {c} called = ap length (called .wrote .words) ∙ length-overwrite calls (c .words) (encode cs)
+    same-length {calls} {calls′} {cs} {j} {c} called = ap length (called .wrote .words)
+        ∙ length-overwrite calls (c .words) (encode cs)
 
     go : length calls < 2 ^ 64 → suc (suc (suc (suc n))) < 2 ^ 32 → suc (c .temporaries) < 2 ^ 32
         → Ends (emit (bind2 w t u (λ i j. ret (g i j))) (stateOf c names marks)) calls (c .words) calls₄ (c₅ .words)
@@ -102,7 +110,8 @@ ran-tv-bind {A} w t u g {calls} {calls₁} {calls₂} {calls₃} {calls₄} {c} 
     go short low low′ =
         let n₁ : c₁ .terms ≡ suc n = named .terms ∙ fits-next n (omega arith) in
         let n₂ : c₂ .terms ≡ suc (suc n) = named₂ .terms ∙ ap following n₁ ∙ fits-next (suc n) (omega arith) in
-        let n₃ : c₄ .terms ≡ suc (suc (suc n)) = equal′ .terms ∙ ap following n₂ ∙ fits-next (suc (suc n)) (omega arith) in
+        let n₃ : c₄ .terms ≡ suc (suc (suc n)) = equal′ .terms ∙ ap following n₂
+        ∙ fits-next (suc (suc n)) (omega arith) in
         let n₄ : c₅ .terms ≡ suc (suc (suc (suc n))) =
         equal₂ .terms ∙ ap following n₃ ∙ fits-next (suc (suc (suc n))) (omega arith) in
         let m : c₅ .temporaries ≡ suc (c .temporaries) =

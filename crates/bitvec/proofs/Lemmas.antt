@@ -11,11 +11,11 @@ use lib.Pow.{pow-pos, pow-add, mod-mod-pow, shl-exact}
 use Rattle.bitvec.specs.Bits.{Bits, bv2nat, nat2bv, odd, bit}
 use Rattle.bitvec.specs.Ops as bv
 use Rattle.bitvec.specs.Words.{atWidth, holdsAt}
-use Rattle.bitvec.specs.Laws.{length-nat2bv, bv2nat-nat2bv, length-bvnot, length-bvlshr}
-use Rattle.bitvec.specs.Numbers.{bv2nat-bvand, bv2nat-bvor, bv2nat-bvxor, bv2nat-bvnot, bv2nat-bvadd}
-use Rattle.bitvec.specs.Numbers.{bv2nat-bvmul, equal-eqb, bit-at, bv2nat-concat, bv2nat-extract, bvslt-signs}
-use Rattle.bitvec.specs.Shifts.{bv2nat-bvshl, bv2nat-bvlshr, bvshl-out, bvlshr-out}
-use Rattle.bitvec.specs.WordLaws.{by-width, at-width, at-same, holds-width, holds-same, nat2bv-at, reduced}
+use Rattle.bitvec.proofs.Laws.{length-nat2bv, bv2nat-nat2bv, length-bvnot, length-bvlshr}
+use Rattle.bitvec.proofs.Numbers.{bv2nat-bvand, bv2nat-bvor, bv2nat-bvxor, bv2nat-bvnot, bv2nat-bvadd}
+use Rattle.bitvec.proofs.Numbers.{bv2nat-bvmul, equal-eqb, bit-at, bv2nat-concat, bv2nat-extract, bvslt-signs}
+use Rattle.bitvec.proofs.Shifts.{bv2nat-bvshl, bv2nat-bvlshr, bvshl-out, bvlshr-out}
+use Rattle.bitvec.proofs.WordLaws.{by-width, at-width, at-same, holds-width, holds-same, nat2bv-at, reduced}
 use Rattle.bitvec.proofs.Arithmetic.{mul-mod-first, mul-mod, complement-mod, within}
 
 -- ---- reduction
@@ -122,12 +122,14 @@ module _ (w s t : ℕ) where
   pub word-bvcomp : bit (holdsAt w (bv.equal S T)) ≡ atWidth w (bv.bvcomp S T)
   unfolding atWidth holdsAt bv2nat
   word-bvcomp =
-      by-width (λ (b : Bool). bit (b && bv.equal S T) ≡ cond b (bit (bv.equal S T) + 2 * 0) 0) w (λ _ _. omega arith) refl
+      by-width (λ (b : Bool). bit (b && bv.equal S T) ≡ cond b (bit (bv.equal S T) + 2 * 0) 0) w (λ _ _. omega arith)
+      refl
 
   pub word-bvult : ltb (atWidth w S) (atWidth w T) ≡ holdsAt w (bv.bvult S T)
   unfolding atWidth holdsAt
   word-bvult =
-      by-width (λ (b : Bool). ltb (cond b (bv2nat S) 0) (cond b (bv2nat T) 0) ≡ (b && bv.bvult S T)) w (λ _ _. refl) refl
+      by-width (λ (b : Bool). ltb (cond b (bv2nat S) 0) (cond b (bv2nat T) 0) ≡ (b && bv.bvult S T)) w (λ _ _. refl)
+      refl
 
   -- m and n are the signs, o whether they agree.
   pub word-bvslt : (m n o : Bool) → m ≡ holdsAt w (bv.msb S) → n ≡ holdsAt w (bv.msb T) → Bool·beq m n ≡ o

@@ -1,2 +1,6 @@
 mod Arithmetic
 mod Lemmas
+pub mod Laws
+pub mod Numbers
+pub mod Shifts
+pub mod WordLaws

@@ -1,7 +1,3 @@
 pub mod Bits
 pub mod Ops
-pub mod Laws
-pub mod Numbers
-pub mod Shifts
 pub mod Words
-pub mod WordLaws

@@ -1,4 +1,5 @@
--- Document 01, "Words": the bounds of an accepted list, and how many words a cell, a replacement and a design take in it.
+-- Document 01, "Words": the bounds of an accepted list, and how many words a cell, a replacement and a design take in
+-- it.
 use mathlib.Core.List.{List}
 use Prim.Native.Nat.{ℕ, _+_, _*_, _^_, _≤_, _<_}
 use lib.ListN.{length}
@@ -22,7 +23,8 @@ Bounded (c.adc a b carry) = length a ≤ 63
 Bounded (c.aig a b) = Unit {0}
 Bounded (c.shift op value amount stride) = (length value ≤ 63) × (length amount ≤ 32) × (stride < 2 ^ 29)
 Bounded (c.match value enable patterns) =
-    (length value ≤ 63) × (length patterns ≤ 63) × Each (λ (alternates : List (List Trit)). length alternates ≤ 64) patterns
+    (length value ≤ 63) × (length patterns ≤ 63)
+    × Each (λ (alternates : List (List Trit)). length alternates ≤ 64) patterns
 Bounded (c.assign value enable update offset) = (length value ≤ 63) × (length update ≤ 63)
 Bounded (c.dff f) = length (f .dat) ≤ 63
 

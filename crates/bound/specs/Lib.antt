@@ -1,5 +1,2 @@
 pub mod Costs
-pub mod Builder
-pub mod Cells
 pub mod Bounded
-pub mod CellCosts

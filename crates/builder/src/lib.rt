@@ -1,5 +1,6 @@
-// What every function of SmtBuilder (smt.rs) stands on: the running counts, a term or a trit vector with the counts after it, and the calls of
-// the trait `SmtEngine` with their counts. Calls go into a lent slice of words; past its end nothing is written, and the counts go on.
+// What every function of SmtBuilder (smt.rs) stands on: the running counts, a term or a trit vector with the counts
+// after it, and the calls of the trait `SmtEngine` with their counts. Calls go into a lent slice of words; past its end
+// nothing is written, and the counts go on.
 use engine::BinaryOp;
 use engine::Compare;
 use logic::Term;
@@ -9,10 +10,13 @@ ghost use Prim.Native.Nat.{ℕ, _+_, _-_, suc, min};
 ghost use lib.ListN.{length};
 ghost use Rattle.bitvec.specs.Bits.{Bits, nat2bv};
 ghost use Rattle.engine.specs.Emit.{binaryOf, compareOf};
-ghost use Rattle.smt.specs.Prog.{bv, buildBoolLit, buildBoolIte, buildNot, buildAnd, buildBitvecEq, buildCompare, buildBitvecLit, buildBitvecIte, buildConcat, buildExtract, buildBvnot, buildOp2, resultWidth};
+ghost use Rattle.smt.specs.Prog.{bv, buildBoolLit, buildBoolIte, buildNot, buildAnd, buildBitvecEq, buildCompare};
+ghost use Rattle.smt.specs.Prog.{buildBitvecLit, buildBitvecIte, buildConcat, buildExtract, buildBvnot, buildOp2};
+ghost use Rattle.smt.specs.Prog.{resultWidth};
 ghost use Rattle.builder.specs.Ran.{following, builtAt, MakesBool, MakesVector};
 
-// How many terms and temporaries are made and how many words the calls take: the next term and the next temporary have these numbers.
+// How many terms and temporaries are made and how many words the calls take: the next term and the next temporary have
+// these numbers.
 pub struct Counts {
     pub terms: u32,
     pub temporaries: u32,

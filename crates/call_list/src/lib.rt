@@ -1,5 +1,5 @@
-// The reader of call records: the operation of the record at a place, its arguments, and where the next record begins. Each function
-// is total and reads the words as they stand.
+// The reader of call records: the operation of the record at a place, its arguments, and where the next record begins.
+// Each function is total and reads the words as they stand.
 use engine::BinaryOp;
 use engine::Compare;
 use logic::Term;
@@ -244,7 +244,8 @@ pub fn place_of_term(calls: &[u32], term: Term) -> usize
 // The 16-bit number j of a literal, or 0 past the last.
 fn digit(calls: &[u32], head: usize, j: u32) -> u64
     requires { ⌜ j < 4 ⌝ }
-    ensures { λ r. ⌜ (r ≡ digitOr (payloads (now (calls .entry)) head) (countAt (now (calls .entry)) head) j) × (r < 65536) ⌝ }
+    ensures { λ r.
+        ⌜ (r ≡ digitOr (payloads (now (calls .entry)) head) (countAt (now (calls .entry)) head) j) × (r < 65536) ⌝ }
 {
     if j + 1 < count_at(calls, head) {
         return (argument_at(calls, head, j as usize + 1) % 65536) as u64;

@@ -1,4 +1,5 @@
--- Document 01, "Words": a cell, its output width and the slots it takes. The abstract syntax that every other layer uses.
+-- Document 01, "Words": a cell, its output width and the slots it takes. The abstract syntax that every other layer
+-- uses.
 use mathlib.Core.Bool.{Bool, cond}
 use mathlib.Core.List.{List}
 use Prim.Native.Nat.{ℕ, _+_, max}

@@ -1,4 +1,5 @@
--- Document 01, "Words": a design list is #base #added #cellreps #netreps, then cells, cell replacements and net replacements.
+-- Document 01, "Words": a design list is #base #added #cellreps #netreps, then cells, cell replacements and net
+-- replacements.
 use mathlib.Core.List.{List}
 use Prim.Native.Nat.{ℕ, _+_}
 use Rattle.logic.specs.Net.{Net}

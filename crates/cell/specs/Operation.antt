@@ -1,7 +1,7 @@
--- Document 01, "Words", "Operations and bodies": which operations there are, how the body of each is laid out, and its output width.
--- Every body is a few numbers, then controls, then nets, then constants, then patterns, as its layout says. Operations of one
--- layout are told apart by their operator (`operators`): a new one of them is a row of `operations` and `numberOf` here, and
--- of the tables there.
+-- Document 01, "Words", "Operations and bodies": which operations there are, how the body of each is laid out, and its
+-- output width. Every body is a few numbers, then controls, then nets, then constants, then patterns, as its layout
+-- says. Operations of one layout are told apart by their operator (`operators`): a new one of them is a row of
+-- `operations` and `numberOf` here, and of the tables there.
 use Prim.Native.Nat.{ℕ, _+_}
 use mathlib.Core.Bool.{Bool, true, false}
 use mathlib.Core.List.{List, [], _∷_, map}
@@ -70,12 +70,13 @@ layoutOf O.Match = L.Match
 layoutOf O.Assign = L.Assign
 layoutOf O.Dff = L.Dff
 
--- The numbers that lead a body: how many (n, then m, k, u or a flag, then a stride or an offset), the least n, the bound of the second, and whether
--- offset + u must be within n.
+-- The numbers that lead a body: how many (n, then m, k, u or a flag, then a stride or an offset), the least n, the
+-- bound of the second, and whether offset + u must be within n.
 abbrev pub lead : ℕ → ℕ → ℕ → Bool → Numbers
 lead count least second within = record { count = count; least = least; second = second; within = within }
 
--- The numbers of each layout: k, u ≤ 63, m ≤ 32, flag ≤ 1 (n ≤ 63 in all); in Assign offset + u must be within n (fault 9).
+-- The numbers of each layout: k, u ≤ 63, m ≤ 32, flag ≤ 1 (n ≤ 63 in all); in Assign offset + u must be within n (fault
+-- 9).
 abbrev pub numbersIn : Layout → Numbers
 numbersIn L.Empty = lead 0 0 0 false
 -- #n

@@ -1,10 +1,12 @@
-// Cells: their operations, and how the body of each is laid out in the words of a design list (cell.rs of the original).
+// Cells: their operations, and how the body of each is laid out in the words of a design list (cell.rs of the
+// original).
 use operators::Binary;
 use operators::Shift;
 use operators::Unary;
 ghost use mathlib.Core.Path.{_≡_};
 ghost use Rattle.cell.specs.Cell.{binaryWidth};
-ghost use Rattle.cell.specs.Operation.{operationOf, lead, body, layoutOf, numbersIn, fieldsIn, numbersOf, fieldsOf, standingOf, mayReplace};
+ghost use Rattle.cell.specs.Operation.{operationOf, lead, body, layoutOf, numbersIn, fieldsIn, numbersOf};
+ghost use Rattle.cell.specs.Operation.{fieldsOf, standingOf, mayReplace};
 
 // The operations; those on one vector, those on two and the shifts are told apart by their operator.
 pub enum Operation {
@@ -44,8 +46,8 @@ pub enum Decoded {
     Unknown,
 }
 
-// The numbers that lead a body: how many, the least that the first may be, the bound of the second, and whether the third is an offset at which
-// as many nets as the second says must fit within as many as the first says.
+// The numbers that lead a body: how many, the least that the first may be, the bound of the second, and whether the
+// third is an offset at which as many nets as the second says must fit within as many as the first says.
 pub struct Numbers {
     pub count: u32,
     pub least: u32,

@@ -77,7 +77,8 @@ cellIn w O.Match at =
     (patternsIn w (numberIn w at) (numberIn w (at + 1)) (at + 3 + numberIn w at))
 -- #n #u #offset enable n* u*
 cellIn w O.Assign at =
-    C.assign (netsIn w (numberIn w at) (at + 4)) (netIn w (at + 3)) (netsIn w (numberIn w (at + 1)) (at + 4 + numberIn w at))
+    C.assign (netsIn w (numberIn w at) (at + 4)) (netIn w (at + 3))
+    (netsIn w (numberIn w (at + 1)) (at + 4 + numberIn w at))
     (numberIn w (at + 2))
 -- #n #reset-over-enable clock clear reset enable, n* data, n* clear value, n* reset value
 cellIn w O.Dff at =

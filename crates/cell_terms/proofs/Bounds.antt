@@ -2,7 +2,7 @@
 use mathlib.Core.List.{List}
 use Prim.Native.Nat.{ℕ, _+_, _≤_}
 use lib.ListN.{length}
-use Rattle.logic.specs.Table.{length-tab}
+use Rattle.logic.proofs.TableLaws.{length-tab}
 use Rattle.rules.specs.Shape.{Shaped}
 use Rattle.cell.specs.declared.Operation.the-variants as O
 use Rattle.cell_reader.specs.Parse.{numberIn, netsIn, cellIn}

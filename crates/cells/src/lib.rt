@@ -1,5 +1,5 @@
-// SmtBuilder of smt.rs: the arms of `cell` on one or two operands, and IoBuf, each from the fields of the cell's record. A promise speaks of every
-// slot and width that an arm does not look at.
+// SmtBuilder of smt.rs: the arms of `cell` on one or two operands, and IoBuf, each from the fields of the cell's
+// record. A promise speaks of every slot and width that an arm does not look at.
 use builder::BuiltTrits;
 use builder::Counts;
 use logic::Net;

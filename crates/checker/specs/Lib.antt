@@ -1,3 +1,2 @@
 pub mod Tables
-pub mod TableLaws
 pub mod Checking

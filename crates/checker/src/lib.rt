@@ -7,7 +7,8 @@ ghost use lib.ListN.{length, getD};
 ghost use Rattle.engine.specs.Encode.{operationAt, countAt};
 ghost use Rattle.engine.specs.WellFormed.{firstFailing, outcome};
 ghost use Rattle.call_list.specs.Operations.{opFrom};
-ghost use Rattle.checker.specs.Tables.{wordSort, standsBy, wrongAs, againBy, headBy, onWrong, faultBy, isCheck, checkedAs};
+ghost use Rattle.checker.specs.Tables.{wordSort, standsBy, wrongAs, againBy, headBy, onWrong, faultBy, isCheck};
+ghost use Rattle.checker.specs.Tables.{checkedAs};
 ghost use Rattle.term_table.specs.Near.{sortNear};
 ghost use Rattle.checker.specs.Checking.{Checked, CheckedBy};
 ghost use Rattle.bitvec.specs.Bits.{bit};
@@ -112,7 +113,8 @@ fn declares_again(
     false
 }
 
-// Whether the head of the record at a place stands: a head, whole, of an operation with its count, no name declared again.
+// Whether the head of the record at a place stands: a head, whole, of an operation with its count, no name declared
+// again.
 fn head_stands(
     calls: &[u32],
     names: &[u8],
@@ -261,9 +263,9 @@ fn check_records(
     }
 }
 
-// Whether a call list is well formed, and where it is not (fault 19), with tables that the caller lends: for a well-formed list they have
-// the places of every `gap + 1`th term, the sorts of its first terms and its names of low indexes, as far as they
-// reach; what else they and the ring of the latest terms hold afterwards is free.
+// Whether a call list is well formed, and where it is not (fault 19), with tables that the caller lends: for a
+// well-formed list they have the places of every `gap + 1`th term, the sorts of its first terms and its names of low
+// indexes, as far as they reach; what else they and the ring of the latest terms hold afterwards is free.
 pub fn check_by(
     calls: &[u32],
     places: &mut [u32],

@@ -1,4 +1,5 @@
-// SmtBuilder of smt.rs: its functions that read a control, a net that may be inverted, under their own names and in its order.
+// SmtBuilder of smt.rs: its functions that read a control, a net that may be inverted, under their own names and in its
+// order.
 use builder::BuiltTrits;
 use builder::Counts;
 use builder::TritVec;

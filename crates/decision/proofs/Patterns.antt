@@ -7,7 +7,7 @@ use native.Mathlib.Numerals.{add-one}
 use native.Mathlib.Omega.{arith}
 use lib.ListN.{length, drop}
 use lib.Seq.{drop-drop}
-use Rattle.logic.specs.Table.{length-tab}
+use Rattle.logic.proofs.TableLaws.{length-tab}
 use Rattle.logic.specs.declared.Trit.{Trit}
 use Rattle.cell.specs.declared.Operation.the-variants as O
 use Rattle.cell_reader.specs.Parse.{numberIn, netIn, tritsIn, patternsIn, cellIn}
@@ -68,7 +68,8 @@ module _ {w : List ℕ} {n k start : ℕ} where
   reached-words {i} {place} low small here =
       let few : Few (alternatesIn w n place ∷ patternsIn w n (k - (i + 1)) (place + 1 + numberIn w place * n)) =
       rw (patterns-left w n k i place low) at (here .few) in
-      let count : numberIn w place ≤ 64 = omega (arith, few .0, length-tab (numberIn w place) (λ j. tritsIn w n (place + 1 + j * n))) in
+      let count : numberIn w place ≤ 64 =
+      omega (arith, few .0, length-tab (numberIn w place) (λ j. tritsIn w n (place + 1 + j * n))) in
       mul-le-mul count small
 
   pub reached-room : {i place : ℕ} → i < k → n ≤ 63 → k ≤ 63 → Reached w n k start i place

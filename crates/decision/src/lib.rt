@@ -1,5 +1,5 @@
-// SmtBuilder of smt.rs: the arm of `cell` for a Match. `fields` is the part of the list from the record's first field on: #n #k enable, n nets,
-// and for each of k patterns #alternates and its constants, n for each alternate.
+// SmtBuilder of smt.rs: the arm of `cell` for a Match. `fields` is the part of the list from the record's first field
+// on: #n #k enable, n nets, and for each of k patterns #alternates and its constants, n for each alternate.
 use builder::BuiltTrits;
 use builder::Counts;
 use builder::TritVec;
@@ -33,7 +33,8 @@ fn matches(
 ) -> Counts
     ensures { λ r. ⌜ (2 * k ≤ length (now (terms .entry)) → at ≤ 66 → n ≤ 63 → k ≤ 63
         → Each (λ (alternates : List (List Trit)). length alternates ≤ 64) (patternsIn (now (fields .entry)) n k at)
-        → Ran (collect (matchOf (pastIn (now (table .entry))) (netsIn (now (fields .entry)) n 3)) (patternsIn (now (fields .entry)) n k at))
+        → Ran (collect (matchOf (pastIn (now (table .entry))) (netsIn (now (fields .entry)) n 3))
+        (patternsIn (now (fields .entry)) n k at))
         (now (calls .entry)) (now (names .entry)) (now (marks .entry)) c
         (now (calls .exit)) (now (names .exit)) (now (marks .exit)) r (elements (now (terms .exit)) k)) ⌝ }
 {

@@ -1,5 +1,5 @@
--- A pass: the steps of an accepted list, then check, leave its calls, its marks and its counts. That the counts fit is met here, once, from the
--- bound of the whole list. Assumes nothing.
+-- A pass: the steps of an accepted list, then check, leave its calls, its marks and its counts. That the counts fit is
+-- met here, once, from the bound of the whole list. Assumes nothing.
 use mathlib.Core.Path.{_≡_, refl, sym, ap, ap₂, subst, _∙_}
 use mathlib.Core.List.{List, [], _∷_, _++_}
 use Prim.Native.Nat.{ℕ, suc, _+_, _*_, _≤_, _<_, _^_}
@@ -9,7 +9,8 @@ use Rattle.cell.specs.Design.{Design, total}
 use Rattle.engine.specs.Call.{Call}
 use Rattle.engine.specs.Meaning.{terms}
 use Rattle.engine.specs.Encode.{encode}
-use Rattle.engine.specs.Emit.{Wrote, length-overwrite}
+use Rattle.engine.specs.Emit.{Wrote}
+use Rattle.engine.proofs.EmitLaws.{length-overwrite}
 use Rattle.smt.specs.Prog.{_>>=_}
 use Rattle.smt.specs.Emit.{St, Out, emit}
 use Rattle.design_list.specs.Read.{accepted, read}
@@ -19,10 +20,10 @@ use Rattle.builder.specs.declared.Counts.{Counts}
 use Rattle.builder.specs.Ran.{stateOf}
 use Rattle.builder.proofs.Laws.{wrote-calls}
 use Rattle.net_steps.specs.Did.{Did, Asks, queryTerms}
-use Rattle.design.specs.Verified.{temporaries, counted}
-use Rattle.design.specs.Answered.{few-counts, temporaries-are}
+use Rattle.requirement.specs.Verified.{temporaries, counted}
+use Rattle.requirement.proofs.AnsweredLaws.{few-counts, temporaries-are}
 use Rattle.running.specs.Passes.{nothing}
-use Rattle.design.specs.Passes.{Passed}
+use Rattle.requirement.proofs.Passes.{Passed}
 
 -- The query makes two terms.
 asked-terms : (l : List ℕ) (s : St) → terms (asked l s) ≡ queryTerms l
@@ -52,14 +53,19 @@ module _ (w : List ℕ) {d : Design} {reps pairs : ℕ} (is : read w ≡ accepte
       let few = few-counts w is 0 0 in
       let many = verify-terms d in
       let temps = temporaries-are d in
-      let ran = did .ends record { short = short; low = omega arith } record { next = omega arith; temp = omega arith } in
+      let ran =
+      did .ends record { short = short; low = omega arith } record { next = omega arith; temp = omega arith } in
       let next : (built d) .st .next ≡ c₁ .terms = ap (λ (s : St). s .next) (ran .state) in
       let temp : (built d) .st .temp ≡ c₁ .temporaries = ap (λ (s : St). s .temp) (ran .state) in
-      let long : length calls₁ ≡ length calls = ap length (ran .wrote .words) ∙ length-overwrite calls 0 (encode ((built d) .calls)) in
-      let ask = asks names₁ marks₁ record { short = omega arith; low = let e = ran .wrote .count in omega arith } (omega arith) (omega arith) in
+      let long : length calls₁ ≡ length calls = ap length (ran .wrote .words)
+      ∙ length-overwrite calls 0 (encode ((built d) .calls)) in
+      let ask =
+      asks names₁ marks₁ record { short = omega arith; low = let e = ran .wrote .count in omega arith }
+      (omega arith) (omega arith) in
       let same : asked eqs (stateOf c₁ names₁ marks₁) ≡ asked ((built d) .res) ((built d) .st) =
       ap₂ asked (sym (ran .res)) (sym (ran .state)) in
-      let query = subst (λ (cs : List Call). Wrote calls₁ (c₁ .words) (encode cs) calls₂ (c₂ .words)) same (ask .wrote) in
+      let query =
+      subst (λ (cs : List Call). Wrote calls₁ (c₁ .words) (encode cs) calls₂ (c₂ .words)) same (ask .wrote) in
       let all = wrote-calls ((built d) .calls) (asked ((built d) .res) ((built d) .st)) (ran .wrote) query short in
       let queried : queryTerms eqs ≡ queryTerms ((built d) .res) = ap queryTerms (sym (ran .res)) in
       let made = ask .terms in

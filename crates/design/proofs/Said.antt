@@ -1,5 +1,6 @@
--- What `verify` says of the slices that it leaves, requirement 3 among it: for every list, from its contract alone. An answer other than a refusal
--- means that the list is accepted and both slices have room; the rest is what `Answered`, `Required` and `Marks` have of such a list. Assumes nothing.
+-- What `verify` says of the slices that it leaves, requirement 3 among it: for every list, from its contract alone. An
+-- answer other than a refusal means that the list is accepted and both slices have room; the rest is what `Answered`,
+-- `Required` and `Marks` have of such a list. Assumes nothing.
 use mathlib.Core.Path.{_≡_, refl, sym, ap, subst, _∙_}
 use mathlib.Core.Logic.{_↔_}
 use mathlib.Core.List.{List, [], _∷_}
@@ -16,14 +17,15 @@ use Rattle.builder.specs.declared.Counts.{Counts}
 use Rattle.design_list.specs.Read.{Read, refused, accepted, read}
 use Rattle.working_out.specs.Obligations.{obligations}
 use Rattle.order.specs.Verify.{built, verify}
-use Rattle.design.specs.declared.Verified.{Verified}
-use Rattle.design.specs.declared.Verified.the-variants.{NothingAsked}
-use Rattle.design.specs.Verified.{counted, told, verified, over, callWords}
-use Rattle.design.specs.Verified as v
-use Rattle.design.specs.Answered.{refused-as-read, answered, short-of-words, short-of-marks, nothing-asked, slices-after}
-use Rattle.design.specs.Required.{words-are, never-malformed, required}
-use Rattle.design.specs.Marks.{list-marked}
-use Rattle.design.specs.Requirement3.{Requirement3}
+use Rattle.requirement.specs.declared.Verified.{Verified}
+use Rattle.requirement.specs.declared.Verified.the-variants.{NothingAsked}
+use Rattle.requirement.specs.Verified.{counted, told, verified, over, callWords}
+use Rattle.requirement.specs.Verified as v
+use Rattle.requirement.proofs.AnsweredLaws.{refused-as-read, answered, short-of-words, short-of-marks, nothing-asked}
+use Rattle.requirement.proofs.AnsweredLaws.{slices-after}
+use Rattle.requirement.proofs.Required.{words-are, never-malformed, required}
+use Rattle.requirement.proofs.MarksLaws.{list-marked}
+use Rattle.requirement.specs.Requirement3.{Requirement3}
 use Rattle.design.specs.Verifies.{Verifies}
 use Rattle.design.specs.Said.{Says, Said}
 
@@ -41,7 +43,8 @@ module _ (slice new old : List ℕ) (is : slice ≡ over new old) where
       let dropped = length-drop (length new) old in
       ap length is ∙ length-append new (drop (length new) old) ∙ omega arith
 
-module _ {w calls recorded calls′ recorded′ : List ℕ} {r : Verified} (left : Verifies w calls recorded calls′ recorded′ r)
+module _ {w calls recorded calls′ recorded′ : List ℕ} {r : Verified}
+    (left : Verifies w calls recorded calls′ recorded′ r)
     (n : Counts) (said : Says r n) where
   says : {a : Verified} → verified w (length calls) (length recorded) ≡ a → Says a n
   says is = subst (λ (a : Verified). Says a n) (left .answer ∙ is) said
@@ -75,7 +78,9 @@ module _ {w calls recorded calls′ recorded′ : List ℕ} {r : Verified} (left
             λ e. none-asked .0 (sym (left .answer) ∙ e ∙ ap NothingAsked (sym same)),
             λ e. left .answer ∙ none-asked .1 e ∙ ap NothingAsked same,
           );
-          required = λ no-loop. subst (λ (l : List ℕ). Requirement3 d (decode l)) (sym begins) (required w d reps pairs is no-loop);
+          required =
+              λ no-loop. subst (λ (l : List ℕ). Requirement3 d (decode l)) (sym begins)
+              (required w d reps pairs is no-loop);
         }
 
   pub verify-said : Said w calls′ recorded′ r n
@@ -83,9 +88,12 @@ module _ {w calls recorded calls′ recorded′ : List ℕ} {r : Verified} (left
     where
       go : (q : Read) → read w ≡ q → Said w calls′ recorded′ r n
       go (refused e) is = absurd (says (refused-as-read w is (length calls) (length recorded)))
-      go (accepted d reps pairs) is = fits (decLt (length calls) (length (callWords w))) (decLt (length recorded) (total d))
+      go (accepted d reps pairs) is =
+          fits (decLt (length calls) (length (callWords w))) (decLt (length recorded) (total d))
         where
-          fits : Dec (length calls < length (callWords w)) → Dec (length recorded < total d) → Said w calls′ recorded′ r n
+          fits : Dec (length calls < length (callWords w)) → Dec (length recorded < total d) →
+              Said w calls′ recorded′ r n
           fits (yes short) more = absurd (says (short-of-words w is (length calls) (length recorded) short))
-          fits (no room) (yes short) = absurd (says (short-of-marks w is (length calls) (length recorded) (omega arith) short))
+          fits (no room) (yes short) =
+              absurd (says (short-of-marks w is (length calls) (length recorded) (omega arith) short))
           fits (no room) (no more) = full is (omega arith) (omega arith)

@@ -1,5 +1,5 @@
--- What the functions of the order of work leave, from what they call: a pass from the walk and check; the answer from two passes; and an accepted
--- list with its table from `slot_table`. Assumes nothing.
+-- What the functions of the order of work leave, from what they call: a pass from the walk and check; the answer from
+-- two passes; and an accepted list with its table from `slot_table`. Assumes nothing.
 use mathlib.Core.Path.{_≡_, refl, sym, ap, subst, _∙_}
 use mathlib.Core.List.{List, [], _∷_, _++_, append-nil}
 use Prim.Native.Nat.{ℕ, zero, suc, _+_, _*_, _-_, _≤_, _<_, _^_}
@@ -17,7 +17,7 @@ use Rattle.design_list.specs.declared.Extent.{Extent}
 use Rattle.design_list.specs.declared.SlotTable.{SlotTable}
 use Rattle.design_list.specs.declared.SlotTable.the-variants as T
 use Rattle.design_list.specs.Read.{Read, refused, accepted, read, answer}
-use Rattle.design_list.specs.Accepted.{accepted-read}
+use Rattle.design_list.proofs.AcceptedLaws.{accepted-read}
 use Rattle.design_list.specs.Table.{Tabled, tableAnswer, tableAfter}
 use Rattle.order.specs.Verify.{built, verify}
 use Rattle.slots.specs.Tells.{Tells}
@@ -27,19 +27,11 @@ use Rattle.walk.proofs.Room.{most-low}
 use Rattle.running.specs.declared.Tally.{Tally}
 use Rattle.running.specs.Passes as running
 use Rattle.running.specs.Passes.{nothing}
-use Rattle.design.specs.declared.Verified.the-variants.{Refused, NothingAsked, Asked}
-use Rattle.design.specs.Verified.{told, verified, unroomed, over, callWords, marks, writtenMarks}
-use Rattle.design.specs.Answered.{
-  refused-as-read,
-  unroomed-refused,
-  unroomed-accepted,
-  answered,
-  short-of-words,
-  short-of-marks,
-  untouched,
-  slices-after,
-}
-use Rattle.design.specs.Required.{words-are}
+use Rattle.requirement.specs.declared.Verified.the-variants.{Refused, NothingAsked, Asked}
+use Rattle.requirement.specs.Verified.{told, verified, unroomed, over, callWords, marks, writtenMarks}
+use Rattle.requirement.proofs.AnsweredLaws.{refused-as-read, unroomed-refused, unroomed-accepted, answered}
+use Rattle.requirement.proofs.AnsweredLaws.{short-of-words, short-of-marks, untouched, slices-after}
+use Rattle.requirement.proofs.Required.{words-are}
 use Rattle.design.specs.Verifies.{Ready, Blank, toldBy, Tallied, Passes, Verifies}
 use Rattle.design.proofs.Passed.{passed}
 
@@ -65,10 +57,13 @@ pub taken-count : (n : ℕ) (l : List ℕ) → n ≤ length l → n ≡ length (
 taken-count n l h = let e = length-take n l in omega arith
 
 -- The same tables cleared again.
-pub blank-again : {table names₀ marks₀ names marks : List ℕ} {n m : ℕ} → Blank table names₀ marks₀ → n ≡ length names₀ → names ≡ replicate n 0
+pub blank-again : {table names₀ marks₀ names marks : List ℕ} {n m : ℕ} → Blank table names₀ marks₀ → n ≡ length names₀ →
+    names ≡ replicate n 0
     → length table ≡ m → marks ≡ replicate m 0 → Blank table names marks
 blank-again {table} blank kept unnamed lent unmarked = record {
-  unnamed = unnamed ∙ ap (λ (k : ℕ). replicate k 0) (kept ∙ ap length (blank .unnamed) ∙ length-replicate {A = ℕ} (4 * length table) 0);
+  unnamed = unnamed
+      ∙ ap (λ (k : ℕ). replicate k 0)
+      (kept ∙ ap length (blank .unnamed) ∙ length-replicate {A = ℕ} (4 * length table) 0);
   unmarked = unmarked ∙ ap (λ (k : ℕ). replicate k 0) (sym lent);
 }
 
@@ -84,7 +79,8 @@ all-zeros l =
     let many : length zeros ≡ length l = length-replicate {A = ℕ} (length l) 0 in
     let whole : length l - 0 ≡ length l = omega arith in
     let none : drop (0 + length zeros) l ≡ [] = drop-all l (0 + length zeros) (omega arith) in
-    ap (λ (n : ℕ). sets l 0 (replicate n 0)) whole ∙ sets-eq zeros l 0 (omega arith) ∙ ap (λ (m : List ℕ). zeros ++ m) none ∙ append-nil zeros
+    ap (λ (n : ℕ). sets l 0 (replicate n 0)) whole ∙ sets-eq zeros l 0 (omega arith)
+    ∙ ap (λ (m : List ℕ). zeros ++ m) none ∙ append-nil zeros
 
 -- ---- a pass
 
@@ -112,7 +108,8 @@ module _ {w : List ℕ} {x : Extent} {table : List ℕ} (ready : Ready w x table
   pub large-room : mostObligations (ready .d) ≤ 12288
   large-room = most-low w (ready .is)
 
-  pub passes : {calls names marks eqs calls′ names′ marks′ eqs′ : List ℕ} {p : Tally} → length calls < 2 ^ 64 → Blank table names marks
+  pub passes : {calls names marks eqs calls′ names′ marks′ eqs′ : List ℕ} {p : Tally} → length calls < 2 ^ 64 →
+      Blank table names marks
       → mostObligations (ready .d) ≤ length eqs
       → running.Passed (ready .d) nothing calls names marks eqs calls′ names′ marks′ eqs′ (p .counts) (p .obligations)
       → Passes (ready .d) calls calls′ marks′ p
@@ -128,7 +125,8 @@ module _ {w : List ℕ} {x : Extent} {table : List ℕ} (ready : Ready w x table
         wrote = all .wrote;
         counts = all .counts;
         marks = all .marks;
-        asked = λ n. told-as (p .obligations) (take (p .obligations) eqs′) n (taken-count (p .obligations) eqs′ fit) ∙ ap (λ (l : List ℕ). told l n) (all .asked);
+        asked = λ n. told-as (p .obligations) (take (p .obligations) eqs′) n (taken-count (p .obligations) eqs′ fit)
+            ∙ ap (λ (l : List ℕ). told l n) (all .asked);
       }
 
   pub tallied : {calls calls′ marks′ : List ℕ} {p : Tally} → Passes (ready .d) calls calls′ marks′ p
@@ -155,7 +153,8 @@ module _ {w : List ℕ} {x : Extent} {table : List ℕ} (ready : Ready w x table
   needs-words : words ≡ length (callWords w)
   needs-words = room ∙ ap length (sym (words-are w (ready .is)))
 
-  pub short-calls : length calls < words → Verifies w calls recorded calls recorded (Refused (record { number = 14; place = words }))
+  pub short-calls : length calls < words →
+      Verifies w calls recorded calls recorded (Refused (record { number = 14; place = words }))
   short-calls short =
       let need = needs-words in
       refuses w calls recorded (short-of-words w (ready .is) (length calls) (length recorded) (omega arith) ∙ rw need)
@@ -165,9 +164,11 @@ module _ {w : List ℕ} {x : Extent} {table : List ℕ} (ready : Ready w x table
   short-marks enough short =
       let need = needs-words in
       let size = ready .size in
-      refuses w calls recorded (short-of-marks w (ready .is) (length calls) (length recorded) (omega arith) (omega arith) ∙ rw size)
+      refuses w calls recorded
+      (short-of-marks w (ready .is) (length calls) (length recorded) (omega arith) (omega arith) ∙ rw size)
 
-  pub both-fit : {calls′ marks′ : List ℕ} {p : Tally} → words ≤ length calls → length table ≤ length recorded → length marks′ ≡ length table
+  pub both-fit : {calls′ marks′ : List ℕ} {p : Tally} → words ≤ length calls → length table ≤ length recorded →
+      length marks′ ≡ length table
       → Passes (ready .d) calls calls′ marks′ p
       → Verifies w calls recorded calls′ (marks′ ++ drop (length table) recorded) (toldBy (p .obligations) (p .counts))
   unfolding overwrite marks
@@ -178,7 +179,8 @@ module _ {w : List ℕ} {x : Extent} {table : List ℕ} (ready : Ready w x table
       let all : List ℕ = encode (verify (ready .d)) in
       let after = slices-after w calls recorded is (omega arith) (omega arith) in
       let said = answered w is (length calls) (length recorded) (omega arith) (omega arith) in
-      let wrote : calls′ ≡ over all calls = passes .wrote .words ∙ sets-eq all calls 0 (omega arith) ∙ rw (zero-add (length all)) in
+      let wrote : calls′ ≡ over all calls = passes .wrote .words ∙ sets-eq all calls 0 (omega arith)
+      ∙ rw (zero-add (length all)) in
       let marked : marks′ ≡ marks w = passes .marks ∙ sym (ap writtenMarks is) in
       record {
         answer = passes .asked (p .counts) ∙ ap (told ((built (ready .d)) .res)) (passes .counts) ∙ sym said;
@@ -194,7 +196,8 @@ record Reads (w : List ℕ) (x : Extent) : Type 0 where
   slots : x .base + x .added ≡ total d
   netreps : x .netreps ≡ length (d .netReps)
 
-module _ (w : List ℕ) {before after : List ℕ} {a : SlotTable} (long : length before ≡ 4096) (tabled : Tabled (read w) before after a) where
+module _ (w : List ℕ) {before after : List ℕ} {a : SlotTable} (long : length before ≡ 4096)
+    (tabled : Tabled (read w) before after a) where
   reads : {x : Extent} → a ≡ T.Filled x → Reads w x
   reads {x} filled = go (read w) refl (sym (tabled .same) ∙ filled)
     where
@@ -253,7 +256,8 @@ module _ (w : List ℕ) {before after : List ℕ} {a : SlotTable} (long : length
           let filled = rw (le-ltb (length before) (total d) (omega arith)) at same in
           let z : _≡_ {A = ℕ} 0 1 = cc in absurd (omega arith)
 
-  pub refused-of : {e : Fault} (calls recorded : List ℕ) → a ≡ T.Refused e → Verifies w calls recorded calls recorded (Refused e)
+  pub refused-of : {e : Fault} (calls recorded : List ℕ) → a ≡ T.Refused e →
+      Verifies w calls recorded calls recorded (Refused e)
   refused-of calls recorded refuse =
       refuses w calls recorded (refused-as-read w (reads-refused refuse) (length calls) (length recorded))
 

@@ -1,5 +1,5 @@
--- What an answer of `verify` other than a refusal says of the two slices that the caller holds: which words and marks they begin with, that these
--- are a well-formed call list, whether anything is asked, and requirement 3.
+-- What an answer of `verify` other than a refusal says of the two slices that the caller holds: which words and marks
+-- they begin with, that these are a well-formed call list, whether anything is asked, and requirement 3.
 use mathlib.Core.Path.{_≡_}
 use mathlib.Core.Logic.{_↔_}
 use mathlib.Core.List.{List, []}
@@ -13,10 +13,10 @@ use Rattle.design_list.specs.Read.{accepted, read}
 use Rattle.working_out.specs.Loop.{Loop}
 use Rattle.working_out.specs.Obligations.{obligations}
 use Rattle.builder.specs.declared.Counts.{Counts}
-use Rattle.design.specs.declared.Verified.{Verified}
-use Rattle.design.specs.declared.Verified.the-variants.{Refused, NothingAsked, Asked}
-use Rattle.design.specs.Verified as verified
-use Rattle.design.specs.Requirement3.{Requirement3}
+use Rattle.requirement.specs.declared.Verified.{Verified}
+use Rattle.requirement.specs.declared.Verified.the-variants.{Refused, NothingAsked, Asked}
+use Rattle.requirement.specs.Verified as verified
+use Rattle.requirement.specs.Requirement3.{Requirement3}
 
 -- NothingAsked or Asked, with these counts.
 abbrev pub Says : Verified → Counts → Type 0

@@ -1,4 +1,5 @@
--- What the code of the order of work is given and what it leaves: `verify` is to answer `verified`, and to leave the two slices as it says.
+-- What the code of the order of work is given and what it leaves: `verify` is to answer `verified`, and to leave the
+-- two slices as it says.
 use mathlib.Core.Path.{_≡_}
 use mathlib.Core.List.{List}
 use Prim.Native.Nat.{ℕ, zero, suc, _*_, _≤_}
@@ -13,9 +14,9 @@ use Rattle.builder.specs.declared.Counts.{Counts}
 use Rattle.slots.specs.Tells.{Tells}
 use Rattle.walk.specs.Works.{mostObligations}
 use Rattle.running.specs.declared.Tally.{Tally}
-use Rattle.design.specs.declared.Verified.{Verified}
-use Rattle.design.specs.declared.Verified.the-variants.{NothingAsked, Asked}
-use Rattle.design.specs.Verified.{counted, told, verified, callsAfter, recordedAfter}
+use Rattle.requirement.specs.declared.Verified.{Verified}
+use Rattle.requirement.specs.declared.Verified.the-variants.{NothingAsked, Asked}
+use Rattle.requirement.specs.Verified.{counted, told, verified, callsAfter, recordedAfter}
 
 -- An accepted list with the table of its slots and what the reader counted.
 pub record Ready (w : List ℕ) (x : Extent) (table : List ℕ) : Type 0 where

@@ -1,22 +1,16 @@
-// The answer of the order of work for a list of words (design.rs, `Design::verify`): what it says, and what it counts in the calls, the terms that
-// they make, the temporaries that they declare, and the words that they take.
+// The answer of the order of work for a list of words (design.rs, `Design::verify`): what it says, and what it counts
+// in the calls, the terms that they make, the temporaries that they declare, and the words that they take.
 use builder::Counts;
 use design_list::Extent;
 use design_list::SlotTable;
 use logic::Fault;
+use requirement::Verified;
 use running::Tally;
 ghost use mathlib.Core.Path.{_≡_};
 ghost use Prim.Native.Nat.{_≤_};
 ghost use lib.ListN.{length, replicate};
-ghost use Rattle.design.specs.Verified.{unroomed};
+ghost use Rattle.requirement.specs.Verified.{unroomed};
 ghost use Rattle.design.specs.Verifies.{Ready, Blank, Roomy, toldBy, Tallied, Passes, Verifies};
-
-// A refusal, a list with no obligation, or one whose obligations are asked.
-pub enum Verified {
-    Refused(Fault),
-    NothingAsked(Counts),
-    Asked(Counts),
-}
 
 // The steps of an accepted list and `check`, from no names and no marks, with room for its obligations' terms.
 fn pass(
@@ -258,8 +252,8 @@ fn count_read(list: &[u32], x: Extent, table: &[u32]) -> Tally
     count_large(list, x, table)
 }
 
-// `Design::verify` of a list of words: its answer, the call words in the first slice, and the marks of the slots recorded in the second. A refusal
-// leaves both as they were.
+// `Design::verify` of a list of words: its answer, the call words in the first slice, and the marks of the slots
+// recorded in the second. A refusal leaves both as they were.
 pub fn verify(list: &[u32], calls: &mut [u32], recorded: &mut [u8]) -> Verified
     ensures { λ r. ⌜ Verifies (now (list .entry)) (now (calls .entry)) (now (recorded .entry))
         (now (calls .exit)) (now (recorded .exit)) r ⌝ }

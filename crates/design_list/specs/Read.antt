@@ -1,5 +1,6 @@
--- Document 01, "Faults and what stays", Order: "list length (4, then 1), header words (2, 4), records left to right. ... After the last word 10, in list
--- order". `read` of a list of words is its first fault, or the design that it stands for.
+-- Document 01, "Faults and what stays", Order: "list length (4, then 1), header words (2, 4), records left to right.
+-- ... After the last word 10, in list order". `read` of a list of words is its first fault, or the design that it
+-- stands for.
 use Prim.Native.Nat.{ℕ, _+_}
 use mathlib.Core.Path.{_≡_}
 use mathlib.Core.List.{List}
@@ -48,7 +49,8 @@ readNetReps w h cells cellReps cellRepsAt netRepsAt =
 -- The cell replacements.
 unfoldable pub readCellReps : List ℕ → Header → List Placed → ℕ → Read
 readCellReps w h cells cellRepsAt =
-    let reps : Reading Placed = cellRepsFrom w (h .base + h .added) (heads cells (h .base)) (h .cellreps) 0 cellRepsAt in
+    let reps : Reading Placed =
+    cellRepsFrom w (h .base + h .added) (heads cells (h .base)) (h .cellreps) 0 cellRepsAt in
     onScan (reps .scan) (λ (netRepsAt : ℕ). readNetReps w h cells (reps .items) cellRepsAt netRepsAt)
 
 -- The cells.
@@ -77,7 +79,8 @@ answer (accepted d cellRepsAt netRepsAt) = D.Accepted record {
   pairs = netRepsAt;
 }
 
--- Document 01's number of an answer, 0 where the list is accepted, and its value: the place of the fault, or base + added.
+-- Document 01's number of an answer, 0 where the list is accepted, and its value: the place of the fault, or base +
+-- added.
 abbrev pub numberOf : DesignRead → ℕ
 numberOf (D.Accepted x) = 0
 numberOf (D.Refused e) = e .number
@@ -100,7 +103,3 @@ pub record Answered (r : Read) (a : DesignRead) : Type 0 where
   pub same : a ≡ answer r
   pub number : numberOf a ≡ readNumber r
   pub value : valueOf a ≡ readValue r
-
-pub answered : (r : Read) {a : DesignRead} → a ≡ answer r → Answered r a
-answered (accepted d cellRepsAt netRepsAt) same = record { same = same; number = rw same; value = rw same }
-answered (refused e) same = record { same = same; number = rw same; value = rw same }

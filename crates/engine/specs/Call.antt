@@ -1,5 +1,5 @@
--- Document 01, "Words": the calls of the trait `SmtEngine` that make up a call list. A term is known by its number: how many
--- calls made a term before it.
+-- Document 01, "Words": the calls of the trait `SmtEngine` that make up a call list. A term is known by its number: how
+-- many calls made a term before it.
 use mathlib.Core.Bool.{Bool}
 use mathlib.Core.List.{List}
 use Prim.Native.Nat.{ℕ}

@@ -1,5 +1,5 @@
--- Document 01, "Words": a call record is a head and arguments; operations 0 to 23. `encode` writes calls as records and `decode`
--- reads them back.
+-- Document 01, "Words": a call record is a head and arguments; operations 0 to 23. `encode` writes calls as records and
+-- `decode` reads them back.
 use mathlib.Core.Bool.{Bool, true, false}
 use mathlib.Core.List.{List, [], _∷_, _++_, map}
 use Prim.Native.Nat.{ℕ, zero, suc, _+_, _-_, _*_, _/_, _%_, _^_}

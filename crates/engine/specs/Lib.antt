@@ -1,16 +1,8 @@
 pub mod Call
 pub mod Meaning
-pub mod Laws
 pub mod Sorts
 pub mod Encode
 pub mod WellFormed
-pub mod SortLaws
-pub mod Tests
-pub mod Steps
-pub mod Written
-pub mod Accepted
-pub mod ReadBack
 pub mod Emit
 pub mod Structure
-pub mod StructureLaws
 pub mod Reached

@@ -1,5 +1,5 @@
--- What a call list means under SMT-LIB's QF_BV: the value of every term under an assignment of the declared names, and whether
--- the assertions hold.
+-- What a call list means under SMT-LIB's QF_BV: the value of every term under an assignment of the declared names, and
+-- whether the assertions hold.
 use mathlib.Core.Path.{_≡_}
 use mathlib.Core.Bool.{Bool, true, false, cond, _&&_}
 use mathlib.Core.List.{List, [], _∷_, _++_, map}
@@ -136,15 +136,11 @@ terms (c.declare name w ∷ cs) = suc (terms cs)
 terms (c.assert k ∷ cs) = terms cs
 terms (c.check ∷ cs) = terms cs
 
--- A valuation v meets the calls, the next of which makes term k: each term has its meaning, each declared name its width,
--- each assertion is true.
+-- A valuation v meets the calls, the next of which makes term k: each term has its meaning, each declared name its
+-- width, each assertion is true.
 abbrev pub Holds : Assignment → (ℕ → Value) → ℕ → List Call → Type 0
 Holds ρ v k [] = Unit {0}
 Holds ρ v k (c.term t ∷ cs) = (v k ≡ denote v t) × Holds ρ v (suc k) cs
 Holds ρ v k (c.declare name w ∷ cs) = (v k ≡ bits (ρ name)) × (length (ρ name) ≡ w) × Holds ρ v (suc k) cs
 Holds ρ v k (c.assert a ∷ cs) = (v a ≡ bool true) × Holds ρ v k cs
 Holds ρ v k (c.check ∷ cs) = Holds ρ v k cs
-
--- A valuation and the values of the first terms are the same.
-abbrev pub Agrees : (ℕ → Value) → List Value → Type 0
-Agrees v l = (k : ℕ) → k < length l → v k ≡ valueAt l k

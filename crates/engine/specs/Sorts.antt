@@ -7,7 +7,7 @@ use Prim.Native.Nat.{ℕ, suc, _+_, _-_, _^_, _≤_, _<_}
 use lib.ListN.{length, getD}
 use Rattle.engine.specs.Call.{Name, BinaryOp, Term, Call}
 use Rattle.engine.specs.Call as c
-use Rattle.engine.specs.Meaning.{Value, bool, bits, argumentsOf, All}
+use Rattle.engine.specs.Meaning.{argumentsOf, All}
 
 -- A sort by its width: 0 for Bool, 1 to 64 for a bit vector.
 abbrev pub Sort : Type 0
@@ -25,11 +25,6 @@ IsBool s = s ≡ boolSort
 
 abbrev pub IsVector : Sort → Type 0
 IsVector s = (1 ≤ s) × (s ≤ 64)
-
--- A value is of a sort.
-abbrev pub OfSort : Sort → Value → Type 0
-OfSort s (bool b) = IsBool s
-OfSort s (bits x) = IsVector s × (length x ≡ s)
 
 -- The sort of term k, of the sorts of the terms so far.
 abbrev pub sortAt : List Sort → ℕ → Sort

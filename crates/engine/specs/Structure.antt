@@ -1,5 +1,6 @@
--- The terms and names of a call list by its records alone: where the record of a term stands, what it says of the term's sort,
--- and whether a name was declared before a place. On a well-formed list these are the sorts and the names of its calls.
+-- The terms and names of a call list by its records alone: where the record of a term stands, what it says of the
+-- term's sort, and whether a name was declared before a place. On a well-formed list these are the sorts and the names
+-- of its calls.
 use mathlib.Core.Bool.{Bool, true, false, cond, _&&_}
 use mathlib.Core.List.{List}
 use Prim.Native.Nat.{ℕ, zero, suc, _+_, _-_, min}
@@ -9,16 +10,8 @@ use Rattle.logic.specs.declared.Term.{Term}
 use Rattle.engine.specs.Call.{BinaryOp, Call}
 use Rattle.engine.specs.Call as c
 use Rattle.engine.specs.Sorts.{Sort, noSort}
-use Rattle.engine.specs.Encode.{
-  Op,
-  makesTerm,
-  letterNumber,
-  suffixNumber,
-  operationAt,
-  argumentAt,
-  nextAt,
-  callAt,
-}
+use Rattle.engine.specs.Encode.{Op, makesTerm, letterNumber, suffixNumber, operationAt, argumentAt, nextAt}
+use Rattle.engine.specs.Encode.{callAt}
 use Rattle.engine.specs.WellFormed.{declares}
 use Rattle.engine.specs.declared.Origin.{Origin}
 use Rattle.engine.specs.declared.Origin.the-variants.{Given, Same, Joined}
@@ -57,7 +50,8 @@ originOf (c.declare name w) = Given w
 originOf (c.assert k) = Given noSort
 originOf c.check = Given noSort
 
--- The place of the record that makes term k, counted from a place on; the place past the last record where there is none.
+-- The place of the record that makes term k, counted from a place on; the place past the last record where there is
+-- none.
 unfoldable pub termPlace : ℕ → List ℕ → ℕ → ℕ → ℕ
 termPlace zero w at k = at
 termPlace (suc n) w at k =

@@ -1,5 +1,5 @@
--- Document 01, "Words": where a call list is malformed. Record by record, in each the head's reasons first, then its words left
--- to right: a word is right if some well-formed record could have it after the words before.
+-- Document 01, "Words": where a call list is malformed. Record by record, in each the head's reasons first, then its words
+-- left to right: a word is wrong if its kind, number or sort cannot follow the words before it.
 use mathlib.Core.Bool.{Bool, true, false, not, cond, _&&_, _||_}
 use mathlib.Core.List.{List, [], _∷_}
 use mathlib.Core.Option.{Option, some, none}
@@ -10,37 +10,13 @@ use Rattle.logic.specs.Word.{kindOf, payloadOf}
 use Rattle.engine.specs.Call.{Name, Call}
 use Rattle.engine.specs.Call as c
 use Rattle.engine.specs.Sorts.{Sort, noSort, sortAt, Context, start, after}
-use Rattle.engine.specs.Encode.{
-  Op,
-  offset,
-  letterNumber,
-  suffixNumber,
-  digitCount,
-  operationAt,
-  countAt,
-  argumentAt,
-  nextAt,
-  callAt,
-}
+use Rattle.engine.specs.Encode.{Op, offset, letterNumber, suffixNumber, digitCount, operationAt, countAt}
+use Rattle.engine.specs.Encode.{argumentAt, nextAt, callAt}
 use Rattle.engine.specs.Encode as o
 use Rattle.engine.specs.declared.Argument.{Argument}
-use Rattle.engine.specs.declared.Argument.the-variants.{
-  Flag,
-  AnyTerm,
-  BoolTerm,
-  VectorTerm,
-  SameSort,
-  Joined,
-  High,
-  Low,
-  Holder,
-  Letter,
-  Index,
-  Suffix,
-  Width,
-  Digit,
-  Nothing,
-}
+use Rattle.engine.specs.declared.Argument.the-variants.{Flag, AnyTerm, BoolTerm, VectorTerm, SameSort, Joined}
+use Rattle.engine.specs.declared.Argument.the-variants.{High, Low, Holder, Letter, Index, Suffix, Width, Digit}
+use Rattle.engine.specs.declared.Argument.the-variants.{Nothing}
 
 abbrev pub isNumber : ℕ → Bool
 isNumber word = eqb (kindOf word) 3
@@ -56,8 +32,8 @@ isWidth word = isNumber word && isVector (payloadOf word)
 abbrev pub sortOfWord : List Sort → ℕ → Sort
 sortOfWord sorts word = cond (eqb (kindOf word) 4) (sortAt sorts (payloadOf word)) noSort
 
--- How many arguments an operation has; of and any number but none, of a literal what its width asks. A bad width is at fault
--- itself under a count that some width asks.
+-- How many arguments an operation has; of and any number but none, of a literal what its width asks. A bad width is at
+-- fault itself under a count that some width asks.
 abbrev pub literalCount : ℕ → ℕ → Bool
 literalCount n width =
     cond (isWidth width) (eqb n (1 + digitCount (payloadOf width))) (leb 2 n && leb n 5)
@@ -109,8 +85,8 @@ argumentOf o.assert i = BoolTerm
 argumentOf o.check i = Nothing
 argumentOf o.unknown i = Nothing
 
--- Whether a word may stand as an argument: after the record's first argument and the word before it, with the sorts of the
--- terms that the word before and the word itself refer to.
+-- Whether a word may stand as an argument: after the record's first argument and the word before it, with the sorts of
+-- the terms that the word before and the word itself refer to.
 abbrev pub admits : Argument → ℕ → ℕ → ℕ → Sort → Sort → Bool
 admits Flag first before word sb s = isNumber word && leb (payloadOf word) 1
 admits AnyTerm first before word sb s = leb s 64

@@ -1,5 +1,6 @@
-// The calls of an SMT engine (trait `SmtEngine` of smt.rs), as words: each function writes the record of a call into a lent
-// slice at a count of words and gives the count after it. Past the slice's end nothing is written, and the count goes on.
+// The calls of an SMT engine (trait `SmtEngine` of smt.rs), as words: each function writes the record of a call into a
+// lent slice at a count of words and gives the count after it. Past the slice's end nothing is written, and the count
+// goes on.
 use logic::Term;
 ghost use mathlib.Core.Path.{_≡_};
 ghost use mathlib.Core.List.{[], _∷_, map};
@@ -36,7 +37,8 @@ pub enum Argument {
     Nothing,
 }
 
-// What a record says of the sort of its term: a width (0 for a Bool), the sort of another term, or the widths of two together.
+// What a record says of the sort of its term: a width (0 for a Bool), the sort of another term, or the widths of two
+// together.
 pub enum Origin {
     Given(u32),
     Same(Term),
@@ -177,7 +179,9 @@ pub fn build_bool_ite(
     if_true: Term,
     if_false: Term,
 ) -> usize
-    ensures { λ r. ⌜ Wrote (now (calls .entry)) at (recordOf (c.term (c.boolIte (cond .0) («if_true» .0) («if_false» .0)))) (now (calls .exit)) r ⌝ }
+    ensures { λ r.
+        ⌜ Wrote (now (calls .entry))
+        at (recordOf (c.term (c.boolIte (cond .0) («if_true» .0) («if_false» .0)))) (now (calls .exit)) r ⌝ }
 {
     record3(
         calls,
@@ -197,7 +201,8 @@ pub fn build_not(calls: &mut [u32], at: usize, arg: Term) -> usize
 
 // SMT-LIB's =, on Bools and on bit vectors.
 pub fn build_eq(calls: &mut [u32], at: usize, arg1: Term, arg2: Term) -> usize
-    ensures { λ r. ⌜ Wrote (now (calls .entry)) at (recordOf (c.term (c.equal (arg1 .0) (arg2 .0)))) (now (calls .exit)) r ⌝ }
+    ensures { λ r.
+        ⌜ Wrote (now (calls .entry)) at (recordOf (c.term (c.equal (arg1 .0) (arg2 .0)))) (now (calls .exit)) r ⌝ }
 {
     record2(calls, at, 5, logic::term_word(arg1), logic::term_word(arg2))
 }
@@ -209,7 +214,9 @@ pub fn build_bitvec_ite(
     if_true: Term,
     if_false: Term,
 ) -> usize
-    ensures { λ r. ⌜ Wrote (now (calls .entry)) at (recordOf (c.term (c.ite (cond .0) («if_true» .0) («if_false» .0)))) (now (calls .exit)) r ⌝ }
+    ensures { λ r.
+        ⌜ Wrote (now (calls .entry))
+        at (recordOf (c.term (c.ite (cond .0) («if_true» .0) («if_false» .0)))) (now (calls .exit)) r ⌝ }
 {
     record3(
         calls,
@@ -222,7 +229,9 @@ pub fn build_bitvec_ite(
 }
 
 pub fn build_concat(calls: &mut [u32], at: usize, arg_msb: Term, arg_lsb: Term) -> usize
-    ensures { λ r. ⌜ Wrote (now (calls .entry)) at (recordOf (c.term (c.concat («arg_msb» .0) («arg_lsb» .0)))) (now (calls .exit)) r ⌝ }
+    ensures { λ r.
+        ⌜ Wrote (now (calls .entry))
+        at (recordOf (c.term (c.concat («arg_msb» .0) («arg_lsb» .0)))) (now (calls .exit)) r ⌝ }
 {
     record2(
         calls,
@@ -240,7 +249,9 @@ pub fn build_extract(
     index_lsb: u32,
     arg: Term,
 ) -> usize
-    ensures { λ r. ⌜ Wrote (now (calls .entry)) at (recordOf (c.term (c.extract «index_msb» «index_lsb» (arg .0)))) (now (calls .exit)) r ⌝ }
+    ensures { λ r.
+        ⌜ Wrote (now (calls .entry))
+        at (recordOf (c.term (c.extract «index_msb» «index_lsb» (arg .0)))) (now (calls .exit)) r ⌝ }
 {
     record3(
         calls,
@@ -259,7 +270,9 @@ pub fn build_bvnot(calls: &mut [u32], at: usize, arg: Term) -> usize
 }
 
 pub fn build_binary(calls: &mut [u32], at: usize, op: BinaryOp, arg1: Term, arg2: Term) -> usize
-    ensures { λ r. ⌜ Wrote (now (calls .entry)) at (recordOf (c.term (c.op2 (binaryOf op) (arg1 .0) (arg2 .0)))) (now (calls .exit)) r ⌝ }
+    ensures { λ r.
+        ⌜ Wrote (now (calls .entry))
+        at (recordOf (c.term (c.op2 (binaryOf op) (arg1 .0) (arg2 .0)))) (now (calls .exit)) r ⌝ }
 {
     record2(
         calls,
@@ -271,7 +284,9 @@ pub fn build_binary(calls: &mut [u32], at: usize, op: BinaryOp, arg1: Term, arg2
 }
 
 pub fn build_compare(calls: &mut [u32], at: usize, op: Compare, arg1: Term, arg2: Term) -> usize
-    ensures { λ r. ⌜ Wrote (now (calls .entry)) at (recordOf (c.term (c.compare (compareOf op) (arg1 .0) (arg2 .0)))) (now (calls .exit)) r ⌝ }
+    ensures { λ r.
+        ⌜ Wrote (now (calls .entry))
+        at (recordOf (c.term (c.compare (compareOf op) (arg1 .0) (arg2 .0)))) (now (calls .exit)) r ⌝ }
 {
     record2(
         calls,
@@ -290,7 +305,10 @@ pub fn declare_bitvec_const(
     suffix: Suffix,
     width: u32,
 ) -> usize
-    ensures { λ r. ⌜ Wrote (now (calls .entry)) at (recordOf (c.declare (record { letter = letterOf letter; index = index; suffix = suffixOf suffix }) width)) (now (calls .exit)) r ⌝ }
+    ensures { λ r.
+        ⌜ Wrote (now (calls .entry))
+        at (recordOf (c.declare (record { letter = letterOf letter; index = index; suffix = suffixOf suffix }) width))
+        (now (calls .exit)) r ⌝ }
 {
     let named = push(calls, at, logic::head_word(21, 4));
     let next = push2(
@@ -321,7 +339,8 @@ pub fn check_sat(calls: &mut [u32], at: usize) -> usize
 
 // The and of two terms.
 pub fn build_and2(calls: &mut [u32], at: usize, arg1: Term, arg2: Term) -> usize
-    ensures { λ r. ⌜ Wrote (now (calls .entry)) at (recordOf (c.term (c.and (arg1 .0 ∷ arg2 .0 ∷ [])))) (now (calls .exit)) r ⌝ }
+    ensures { λ r.
+        ⌜ Wrote (now (calls .entry)) at (recordOf (c.term (c.and (arg1 .0 ∷ arg2 .0 ∷ [])))) (now (calls .exit)) r ⌝ }
 {
     record2(calls, at, 3, logic::term_word(arg1), logic::term_word(arg2))
 }
@@ -341,7 +360,8 @@ fn term_words(calls: &mut [u32], at: usize, terms: &[u32]) -> usize
 
 // The and of any number of terms, lent as their numbers.
 pub fn build_and(calls: &mut [u32], at: usize, terms: &[u32]) -> usize
-    ensures { λ r. ⌜ Wrote (now (calls .entry)) at (recordOf (c.term (c.and (now (terms .entry))))) (now (calls .exit)) r ⌝ }
+    ensures { λ r.
+        ⌜ Wrote (now (calls .entry)) at (recordOf (c.term (c.and (now (terms .entry))))) (now (calls .exit)) r ⌝ }
 {
     let next = push(
         calls,
@@ -375,7 +395,9 @@ fn literal_width(width: u32) -> u32
 
 // A literal of the low bits of a number; a width above 64 counts as 64.
 pub fn build_bitvec_lit(calls: &mut [u32], at: usize, width: u32, value: u64) -> usize
-    ensures { λ r. ⌜ Wrote (now (calls .entry)) at (recordOf (c.term (c.lit (nat2bv (min width 64) value)))) (now (calls .exit)) r ⌝ }
+    ensures { λ r.
+        ⌜ Wrote (now (calls .entry))
+        at (recordOf (c.term (c.lit (nat2bv (min width 64) value)))) (now (calls .exit)) r ⌝ }
 {
     let bits = literal_width(width);
     let count = (bits + 15) / 16;

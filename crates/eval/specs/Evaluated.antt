@@ -1,5 +1,5 @@
--- Document 01, "Examples" and faults 19 and 20: what the evaluator answers and writes. It takes bits in declaration order, writes
--- every term's number (Bool 0 or 1), and returns how many assertions are 0.
+-- Document 01, "Examples" and faults 19 and 20: what the evaluator answers and writes. It takes bits in declaration
+-- order, writes every term's number (Bool 0 or 1), and returns how many assertions are 0.
 use mathlib.Core.Bool.{Bool, true, false, cond, _&&_}
 use mathlib.Core.List.{List, [], _∷_, map}
 use mathlib.Core.Option.{Option, some, none}

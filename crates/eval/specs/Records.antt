@@ -10,7 +10,7 @@ use Rattle.engine.specs.Encode as o
 use Rattle.call_list.specs.Operations.{isDeclare}
 use Rattle.call_list.specs.Literal.{payloads}
 use Rattle.term_table.specs.Tables.{pickList}
-use Rattle.term_values.specs.Records.{numberIn, recordValue}
+use Rattle.term_values.specs.Records.{recordValue}
 
 -- The bits of a declaration are missing or above its width.
 abbrev pub bitsWrong : List ℕ → ℕ → ℕ → Bool
@@ -37,9 +37,6 @@ falseOf (o.compare op) value = 0
 falseOf o.declare value = 0
 falseOf o.check value = 0
 falseOf o.unknown value = 0
-
-abbrev pub falseBy : List ℕ → List ℕ → ℕ → ℕ
-falseBy slice w at = falseOf (operationAt w at) (numberIn slice (payloads w at 0))
 
 -- The number of its term, if it makes one.
 abbrev pub valuesNext : (ℕ → Sort) → List ℕ → List ℕ → ℕ → ℕ → ℕ → List ℕ

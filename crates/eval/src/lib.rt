@@ -18,7 +18,7 @@ ghost use Rattle.term_values.specs.Values.{valueNumber};
 ghost use Rattle.term_table.specs.Near.{sortNear};
 ghost use Rattle.eval.specs.Records.{wrongBits, falseOf, valuesNext};
 ghost use Rattle.eval.specs.Evaluated.{bitsFault, falseAssertions, termValues, refused, answer, written};
-ghost use Rattle.eval.specs.RecordLaws.{Evaluable};
+ghost use Rattle.eval.specs.Evaluable.{Evaluable};
 
 // What evaluating a call list answers: how many assertions are false, or the fault.
 pub enum Evaluation {
@@ -158,8 +158,11 @@ fn evaluate_records(
     gap: u32,
 ) -> usize
     requires { ⌜ Evaluable gap (now calls) (now bits) (now values) (now sorts) (now places) ⌝ }
-    ensures { λ r. ⌜ (now (values .exit) ≡ overwrite (now (values .entry)) 0 (map valueNumber (termValues (now (calls .entry)) (now (bits .entry)))))
-        × (r ≡ falseAssertions (valueAt (termValues (now (calls .entry)) (now (bits .entry)))) (decode (now (calls .entry)))) ⌝ }
+    ensures { λ r.
+        ⌜ (now (values .exit)
+        ≡ overwrite (now (values .entry)) 0 (map valueNumber (termValues (now (calls .entry)) (now (bits .entry)))))
+        × (r ≡ falseAssertions (valueAt (termValues (now (calls .entry)) (now (bits .entry))))
+        (decode (now (calls .entry)))) ⌝ }
 {
     let mut done = Cursor {
         at: 0,

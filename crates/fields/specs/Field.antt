@@ -1,5 +1,6 @@
--- Document 01, "Faults and what stays", Order: "Each field: outside the count 5, kind 2, bound 4, then 7 and 9 once their numbers are known,
--- constant 8, net 6. Then leftover 5". Each definition answers what stands at a place, or the first fault met there.
+-- Document 01, "Faults and what stays", Order: "Each field: outside the count 5, kind 2, bound 4, then 7 and 9 once
+-- their numbers are known, constant 8, net 6. Then leftover 5". Each definition answers what stands at a place, or the
+-- first fault met there.
 use Prim.Native.Nat.{ℕ, zero, suc, _+_}
 use mathlib.Core.List.{List}
 use mathlib.Core.Bool.{Bool, true, false, cond}
@@ -52,7 +53,8 @@ knownDriver total NoNet = false
 abbrev pub isKnown : ℕ → ℕ → Bool
 isKnown total net = knownDriver total (driverOf net)
 
--- A net of a kind up to `most` (0: net words only; 1: a control, which may be inverted): outside the count 5, kind 2, unknown slot 6.
+-- A net of a kind up to `most` (0: net words only; 1: a control, which may be inverted): outside the count 5, kind 2,
+-- unknown slot 6.
 unfoldable pub netAt : List ℕ → ℕ → ℕ → ℕ → ℕ → Scan
 netAt w total most end at =
     cond (ltb at end)

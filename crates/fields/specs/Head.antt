@@ -1,4 +1,5 @@
--- Document 01, "Faults and what stays", Order: "A record: missing word 1, head kind 2, operation 3, running past the list 1."
+-- Document 01, "Faults and what stays", Order: "A record: missing word 1, head kind 2, operation 3, running past the
+-- list 1."
 use Prim.Native.Nat.{ℕ, _+_, _/_, _%_}
 use mathlib.Core.List.{List}
 use mathlib.Core.Bool.{cond}

@@ -5,7 +5,8 @@ use logic::Driver;
 use logic::Fault;
 use logic::Net;
 ghost use mathlib.Core.Path.{_≡_};
-ghost use Rattle.fields.specs.Field.{numberAt, isConstant, isKnown, netAt, bitAt, constantAt, netsAt, constantsAt, endsAt};
+ghost use Rattle.fields.specs.Field.{numberAt, isConstant, isKnown, netAt, bitAt, constantAt, netsAt};
+ghost use Rattle.fields.specs.Field.{constantsAt, endsAt};
 ghost use Rattle.fields.specs.Pattern.{patternsAt};
 ghost use Rattle.fields.specs.Head.{recordOf, headAt};
 
@@ -202,7 +203,8 @@ pub fn constants_at(list: &[u32], end: usize, n: usize, start: usize) -> Scan
     Scan::Clean(at)
 }
 
-// The k patterns of a Match of n nets. The first word of the first alternate that is no constant leaves all three loops.
+// The k patterns of a Match of n nets. The first word of the first alternate that is no constant leaves all three
+// loops.
 pub fn patterns_at(list: &[u32], n: usize, end: usize, k: usize, start: usize) -> Scan
     ensures { λ r. ⌜ r ≡ patternsAt (now (list .entry)) n end k start ⌝ }
 {

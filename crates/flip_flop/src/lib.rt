@@ -33,7 +33,9 @@ fn cleared(
     clear: TritVec,
 ) -> BuiltTrits
     ensures { λ r. ⌜ (numberIn (now (fields .entry)) 0 ≤ 64 → (readsPast : ℕ → Bool)
-        → MakesTrits (cleared readsPast (hasClear (flipFlopIn (now (fields .entry)))) (flipFlopIn (now (fields .entry))) width (trits 1 clear) (trits width («data» .value))) width
+        → MakesTrits
+        (cleared readsPast (hasClear (flipFlopIn (now (fields .entry)))) (flipFlopIn (now (fields .entry))) width
+        (trits 1 clear) (trits width («data» .value))) width
         (now (calls .entry)) («data» .counts) (now (calls .exit)) r) ⌝ }
 {
     let control = controls::control_of(logic::word_at(fields, 3));
@@ -58,7 +60,9 @@ fn clocked(
     data: TritVec,
 ) -> BuiltTrits
     ensures { λ r. ⌜ (numberIn (now (fields .entry)) 0 ≤ 64 → width ≤ 64 → slot .0 + width + 1 < 536870911 → (i : ℕ)
-        → RanTrits (clocked (pastIn (now (table .entry))) (flipFlopIn (now (fields .entry))) (slot .0) width (trits 1 clear) (trits i «data»)) width
+        → RanTrits
+        (clocked (pastIn (now (table .entry))) (flipFlopIn (now (fields .entry))) (slot .0) width (trits 1 clear)
+        (trits i «data»)) width
         (now (calls .entry)) (now (names .entry)) (now (marks .entry)) c
         (now (calls .exit)) (now (names .exit)) (now (marks .exit)) r) ⌝ }
 {

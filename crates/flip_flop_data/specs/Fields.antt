@@ -5,7 +5,8 @@ use lib.Dec.{eqb}
 use Rattle.cell.specs.Cell.{FlipFlop}
 use Rattle.cell_reader.specs.Parse.{numberIn, controlIn, netsIn, tritsIn}
 
--- #n #reset-over-enable clock clear reset enable, n* data, n* clear value, n* reset value: the flip-flop of `cellIn` for Dff.
+-- #n #reset-over-enable clock clear reset enable, n* data, n* clear value, n* reset value: the flip-flop of `cellIn`
+-- for Dff.
 abbrev pub flipFlopIn : List ℕ → FlipFlop
 flipFlopIn w = record {
   resetOverEnable = eqb (numberIn w 1) 1;

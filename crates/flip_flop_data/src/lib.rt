@@ -1,5 +1,5 @@
-// SmtBuilder of smt.rs, `cell` for a Dff: the data that it takes at an edge, by its reset and its enable. `fields` is the part of the list from the
-// record's first field on.
+// SmtBuilder of smt.rs, `cell` for a Dff: the data that it takes at an edge, by its reset and its enable. `fields` is
+// the part of the list from the record's first field on.
 use builder::BuiltTrits;
 use builder::Counts;
 use builder::TritVec;
@@ -37,7 +37,9 @@ fn enabled(
     data: TritVec,
 ) -> BuiltTrits
     ensures { λ r. ⌜ (width ≤ 64 → slot .0 + width + 1 < 536870911 → (fields : List ℕ) (i : ℕ)
-        → RanTrits (enabled (pastIn (now (table .entry))) (flipFlopIn fields) (slot .0) width (trits 1 enable) (trits i «data»)) width
+        → RanTrits
+        (enabled (pastIn (now (table .entry))) (flipFlopIn fields) (slot .0) width (trits 1 enable)
+        (trits i «data»)) width
         (now (calls .entry)) (now (names .entry)) (now (marks .entry)) c
         (now (calls .exit)) (now (names .exit)) (now (marks .exit)) r) ⌝ }
 {
@@ -77,7 +79,9 @@ fn reset_over_enable(
     data: TritVec,
 ) -> BuiltTrits
     ensures { λ r. ⌜ (numberIn (now (fields .entry)) 0 ≤ 64 → width ≤ 64 → slot .0 + width + 1 < 536870911 → (i : ℕ)
-        → RanTrits (loaded (pastIn (now (table .entry))) true (flipFlopIn (now (fields .entry))) (slot .0) width (trits 1 reset) (trits 1 enable) (trits i «data»)) width
+        → RanTrits
+        (loaded (pastIn (now (table .entry))) true (flipFlopIn (now (fields .entry))) (slot .0) width
+        (trits 1 reset) (trits 1 enable) (trits i «data»)) width
         (now (calls .entry)) (now (names .entry)) (now (marks .entry)) c
         (now (calls .exit)) (now (names .exit)) (now (marks .exit)) r) ⌝ }
 {
@@ -100,7 +104,9 @@ fn enable_over_reset(
     data: TritVec,
 ) -> BuiltTrits
     ensures { λ r. ⌜ (numberIn (now (fields .entry)) 0 ≤ 64 → width ≤ 64 → slot .0 + width + 1 < 536870911 → (i : ℕ)
-        → RanTrits (loaded (pastIn (now (table .entry))) false (flipFlopIn (now (fields .entry))) (slot .0) width (trits 1 reset) (trits 1 enable) (trits i «data»)) width
+        → RanTrits
+        (loaded (pastIn (now (table .entry))) false (flipFlopIn (now (fields .entry))) (slot .0) width
+        (trits 1 reset) (trits 1 enable) (trits i «data»)) width
         (now (calls .entry)) (now (names .entry)) (now (marks .entry)) c
         (now (calls .exit)) (now (names .exit)) (now (marks .exit)) r) ⌝ }
 {
@@ -133,7 +139,9 @@ pub fn loaded(
     data: TritVec,
 ) -> BuiltTrits
     ensures { λ r. ⌜ (numberIn (now (fields .entry)) 0 ≤ 64 → width ≤ 64 → slot .0 + width + 1 < 536870911 → (i : ℕ)
-        → RanTrits (loaded (pastIn (now (table .entry))) (flipFlopIn (now (fields .entry)) .resetOverEnable) (flipFlopIn (now (fields .entry))) (slot .0) width (trits 1 reset) (trits 1 enable) (trits i «data»)) width
+        → RanTrits
+        (loaded (pastIn (now (table .entry))) (flipFlopIn (now (fields .entry)) .resetOverEnable)
+        (flipFlopIn (now (fields .entry))) (slot .0) width (trits 1 reset) (trits 1 enable) (trits i «data»)) width
         (now (calls .entry)) (now (names .entry)) (now (marks .entry)) c
         (now (calls .exit)) (now (names .exit)) (now (marks .exit)) r) ⌝ }
 {

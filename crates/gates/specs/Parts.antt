@@ -1,6 +1,7 @@
 -- The parts into which the code cuts a function of the model: each is what the model's function does from a line on.
 use Prim.Native.Nat.{ℕ}
-use Rattle.smt.specs.Prog.{Prog, ret, _>>=_, BitVec, TritVec, tv, buildBvnot, buildBvand, buildBvor, buildBvxor, buildBitvecIte}
+use Rattle.smt.specs.Prog.{Prog, ret, _>>=_, BitVec, TritVec, tv, buildBvnot, buildBvand, buildBvor, buildBvxor}
+use Rattle.smt.specs.Prog.{buildBitvecIte}
 use Rattle.smt.specs.Builder.{tvIs0, tvIs1, bvToBool}
 
 -- ---- tv_and and tv_or

@@ -21,7 +21,8 @@ fn undecided(
     b_decides: Term,
 ) -> BuiltTrits
     ensures { λ r. ⌜ ((i : ℕ)
-        → MakesTrits (undecided (trits i a) (trits i b) (bv («a_decides» .0) i) (bv («b_decides» .0) i) (bv (y .term .0) i)) i
+        → MakesTrits
+        (undecided (trits i a) (trits i b) (bv («a_decides» .0) i) (bv («b_decides» .0) i) (bv (y .term .0) i)) i
         (now (calls .entry)) (y .counts) (now (calls .exit)) r) ⌝ }
 {
     let some_x = builder::build_binary(calls, y.counts, BinaryOp::Or, a.x, b.x);

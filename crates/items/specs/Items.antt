@@ -1,5 +1,5 @@
--- Document 01, "Words" and "Faults and what stays": the header, the cell replacements and the net replacements of a design list, each up to its first
--- fault.
+-- Document 01, "Words" and "Faults and what stays": the header, the cell replacements and the net replacements of a
+-- design list, each up to its first fault.
 use Prim.Native.Nat.{ℕ, zero, suc, _+_, _-_, _^_}
 use mathlib.Core.List.{List, [], _∷_}
 use mathlib.Core.Bool.{Bool, false, cond}
@@ -65,7 +65,8 @@ abbrev pub onNewCell : Record → (Operation → ℕ → ℕ → Step) → Step
 onNewCell (R.Read op width next) f = f op width next
 onNewCell (R.Refused e) f = T.Refused e
 
--- Whether a replacement is right: its slot is not below `least`, heads a base cell as `head` says, and its new cell is no Void, Input or Note.
+-- Whether a replacement is right: its slot is not below `least`, heads a base cell as `head` says, and its new cell is
+-- no Void, Input or Note.
 unfoldable pub replaces : (ℕ → ℕ → Bool) → ℕ → ℕ → Operation → ℕ → Bool
 replaces head least slot op width = cond (leb least slot) (cond (head slot width) (mayReplace op) false) false
 
@@ -84,7 +85,8 @@ module _ {A : Type 0} where
   -- k replacements, each not below what the one before it asks: `item` of the place of each.
   unfoldable pub ascending : (ℕ → ℕ → Step) → (ℕ → A) → ℕ → ℕ → ℕ → Reading A
   ascending step item zero least at = stop (Clean at)
-  ascending step item (suc k) least at = onStep (step least at) (λ (above next : ℕ). push (item at) (ascending step item k above next))
+  ascending step item (suc k) least at =
+      onStep (step least at) (λ (above next : ℕ). push (item at) (ascending step item k above next))
 
 -- The cell replacements, their slots strictly ascending: the new cell at the replaced slot.
 abbrev pub newCell : List ℕ → ℕ → Placed

@@ -1,4 +1,3 @@
 pub mod Step
 pub mod Items
 pub mod Marks
-pub mod Laws

@@ -1,4 +1,5 @@
--- Whether a slot heads a cell of the base that is no Void and has an output width, by the words of the slots that the reader keeps.
+-- Whether a slot heads a cell of the base that is no Void and has an output width, by the words of the slots that the
+-- reader keeps.
 use Prim.Native.Nat.{ℕ, _/_, _%_}
 use mathlib.Core.List.{List}
 use mathlib.Core.Bool.{Bool, false, cond}

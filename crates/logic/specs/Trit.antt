@@ -1,4 +1,5 @@
--- Document 01, "Modules": a trit is 0, 1 or X. The builder holds it as two bits, x (is it undefined?) and y (if not, is it one?).
+-- Document 01, "Modules": a trit is 0, 1 or X. The builder holds it as two bits, x (is it undefined?) and y (if not, is
+-- it one?).
 use mathlib.Core.Bool.{Bool, true, false}
 use Prim.Native.Nat.{ℕ}
 use Rattle.logic.specs.declared.Trit.{Trit}

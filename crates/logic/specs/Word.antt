@@ -1,7 +1,5 @@
 -- Document 01, "Words": a word has 32 bits, of which the top three are its kind and the rest its payload.
-use mathlib.Core.Path.{_≡_}
-use Prim.Native.Nat.{ℕ, _+_, _*_, _/_, _%_, _^_, _<_}
-use native.Mathlib.Omega.{arith}
+use Prim.Native.Nat.{ℕ, _+_, _*_, _/_, _%_, _^_}
 
 abbrev pub kindOf : ℕ → ℕ
 kindOf word = word / 2 ^ 29
@@ -17,9 +15,6 @@ wordOf kind payload = kind * 2 ^ 29 + payload % 2 ^ 29
 abbrev pub netWord : ℕ → ℕ
 netWord = wordOf 0
 
-abbrev pub invertedWord : ℕ → ℕ
-invertedWord = wordOf 1
-
 -- A head's payload is the operation + 32 × the count of following words.
 abbrev pub headWord : ℕ → ℕ → ℕ
 headWord op count = wordOf 2 (op + 32 * count)
@@ -29,13 +24,3 @@ numberWord = wordOf 3
 
 abbrev pub termWord : ℕ → ℕ
 termWord = wordOf 4
-
--- Taking a word apart undoes making it, and making undoes taking apart.
-pub kind-of-word : (kind payload : ℕ) → kindOf (wordOf kind payload) ≡ kind
-kind-of-word kind payload = omega arith
-
-pub payload-of-word : (kind payload : ℕ) → payload < 2 ^ 29 → payloadOf (wordOf kind payload) ≡ payload
-payload-of-word kind payload low = omega arith
-
-pub word-of-parts : (word : ℕ) → wordOf (kindOf word) (payloadOf word) ≡ word
-word-of-parts word = omega arith

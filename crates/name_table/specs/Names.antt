@@ -20,7 +20,8 @@ slotOf letter index suffix = 9 * index + 3 * letter + suffix
 -- What the table has of a name: 1 where it was declared, 0 where it was not, 2 beyond the table.
 abbrev pub nameEntry : List ℕ → ℕ → ℕ → ℕ → ℕ
 nameEntry names letter index suffix =
-    cond (ltb index 4294967296 && ltb (slotOf letter index suffix) (length names)) (getD names (slotOf letter index suffix) 0) 2
+    cond (ltb index 4294967296 && ltb (slotOf letter index suffix) (length names))
+    (getD names (slotOf letter index suffix) 0) 2
 
 abbrev pub atMost : ℕ → ℕ → Bool
 atMost word bound = isNumber word && leb (payloadOf word) bound
@@ -40,7 +41,8 @@ searchBelow tops w at letter index suffix =
     (declaredBefore w (min at (length w)) letter index suffix)
     false
 
--- Three words spell a name declared before a place: from the table, beyond it by the highest index and then by the records.
+-- Three words spell a name declared before a place: from the table, beyond it by the highest index and then by the
+-- records.
 abbrev pub knownBy : List ℕ → List ℕ → List ℕ → ℕ → ℕ → ℕ → ℕ → Bool
 knownBy names tops w at letter index suffix =
     cond (atMost letter 2 && atMost suffix 2 && isNumber index)
@@ -51,10 +53,12 @@ knownBy names tops w at letter index suffix =
 -- The highest index goes up with a name that a record declares.
 abbrev pub noteTop : List ℕ → List ℕ → ℕ → List ℕ
 noteTop tops w at =
-    pickList (isDeclare (operationAt w at) && ltb (topOf tops (payloads w at 0) (payloads w at 2)) (payloads w at 1 + 1))
+    pickList (isDeclare (operationAt w at) && ltb (topOf tops (payloads w at 0) (payloads w at 2))
+    (payloads w at 1 + 1))
     (set tops (3 * payloads w at 0 + payloads w at 2) (payloads w at 1 + 1)) tops
 
 -- The name that a record declares goes into the table.
 abbrev pub noteName : List ℕ → List ℕ → ℕ → List ℕ
 noteName names w at =
-    pickList (isDeclare (operationAt w at)) (set names (slotOf (payloads w at 0) (payloads w at 1) (payloads w at 2)) 1) names
+    pickList (isDeclare (operationAt w at)) (set names (slotOf (payloads w at 0) (payloads w at 1) (payloads w at 2)) 1)
+    names

@@ -1,11 +1,13 @@
-// The names that a call list declares: a table with a byte for each name of a low index, past which the records themselves are searched.
+// The names that a call list declares: a table with a byte for each name of a low index, past which the records
+// themselves are searched.
 ghost use mathlib.Core.Path.{_≡_};
 ghost use mathlib.Core.Bool.{_&&_};
 ghost use Prim.Native.Nat.{ℕ, min};
 ghost use lib.ListN.{length, getD, set};
 ghost use Rattle.engine.specs.WellFormed.{isNumber};
 ghost use Rattle.engine.specs.Structure.{declaresAt, declaredBefore};
-ghost use Rattle.name_table.specs.Names.{atMost, slotOf, nameEntry, topOf, searchBelow, knownBy, noteName, noteTop};
+ghost use Rattle.name_table.specs.Names.{atMost, slotOf, nameEntry, topOf, searchBelow, knownBy, noteName};
+ghost use Rattle.name_table.specs.Names.{noteTop};
 
 // Whether the record at a place declares the name that three words spell.
 fn declares_at(calls: &[u32], at: usize, letter: u32, index: u32, suffix: u32) -> bool
@@ -25,7 +27,8 @@ fn declares_at(calls: &[u32], at: usize, letter: u32, index: u32, suffix: u32) -
 
 // Whether a record that begins before a place declares that name.
 pub fn declared_before(calls: &[u32], end: usize, letter: u32, index: u32, suffix: u32) -> bool
-    ensures { λ r. ⌜ r ≡ declaredBefore (now (calls .entry)) (min end (length (now (calls .entry)))) letter index suffix ⌝ }
+    ensures { λ r.
+        ⌜ r ≡ declaredBefore (now (calls .entry)) (min end (length (now (calls .entry)))) letter index suffix ⌝ }
 {
     let mut at = 0;
     while at < calls.len() {

@@ -1,5 +1,6 @@
-// The names of nets: bv_const and tv_const of smt.rs. The table of names has four words for each slot, 0 or one more than the term that the
-// name was declared with, so that a known name gives its term again; the marks have one byte for each slot, by its last read.
+// The names of nets: bv_const and tv_const of smt.rs. The table of names has four words for each slot, 0 or one more
+// than the term that the name was declared with, so that a known name gives its term again; the marks have one byte for
+// each slot, by its last read.
 use builder::Built;
 use builder::BuiltTrits;
 use builder::Counts;

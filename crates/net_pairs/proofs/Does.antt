@@ -1,4 +1,5 @@
--- One law for each kind of step, for steps one after another (`does-append`), and for a loop over steps (`Left`). Assumes nothing.
+-- One law for each kind of step, for steps one after another (`does-append`), and for a loop over steps (`Left`).
+-- Assumes nothing.
 use mathlib.Core.Path.{_≡_, refl, sym, ap, _∙_}
 use mathlib.Core.List.{List, [], _∷_, _++_}
 use Prim.Native.Nat.{ℕ, suc, _+_, _≤_}
@@ -15,7 +16,8 @@ use Rattle.net_pairs.specs.Does.{obligedIn, Kept, Pushed, Does}
 
 sets-append : (t : List ℕ) (i : ℕ) (a b : List ℕ) → sets t i (a ++ b) ≡ sets (sets t i a) (i + length a) b
 sets-append t i [] b = rw add-zero
-sets-append t i (v ∷ a) b = let shift : i + suc (length a) ≡ suc i + length a = omega arith in sets-append (set t i v) (suc i) a b ∙ rw shift
+sets-append t i (v ∷ a) b = let shift : i + suc (length a) ≡ suc i + length a = omega arith in
+    sets-append (set t i v) (suc i) a b ∙ rw shift
 
 pub obliged-append : (xs ys : List Step) → obligedIn (xs ++ ys) ≡ obligedIn xs + obligedIn ys
 unfolding obligedIn
@@ -34,7 +36,8 @@ does-none calls names marks eqs s = record {
 }
 
 -- Steps without an obligation.
-pub does-did : {steps : List Step} {calls names marks eqs calls′ names′ marks′ : List ℕ} {s s′ : Walked} → obligedIn steps ≡ 0
+pub does-did : {steps : List Step} {calls names marks eqs calls′ names′ marks′ : List ℕ} {s s′ : Walked} →
+    obligedIn steps ≡ 0
     → s′ .obligations ≡ s .obligations → Did steps calls names marks (s .counts) calls′ names′ marks′ (s′ .counts) []
     → Does steps calls names marks eqs s calls′ names′ marks′ eqs s′
 does-did quiet same did = record {
@@ -45,8 +48,10 @@ does-did quiet same did = record {
 }
 
 -- An obligation, after steps without one; its term pushed.
-pub does-pushed : {steps : List Step} {calls names marks eqs calls′ names′ marks′ eqs′ : List ℕ} {s s′ : Walked} {made : Built}
-    → obligedIn steps ≡ 1 → Did steps calls names marks (s .counts) calls′ names′ marks′ (made .counts) (made .term .0 ∷ [])
+pub does-pushed : {steps : List Step} {calls names marks eqs calls′ names′ marks′ eqs′ : List ℕ} {s s′ : Walked}
+    {made : Built}
+    → obligedIn steps ≡ 1 →
+    Did steps calls names marks (s .counts) calls′ names′ marks′ (made .counts) (made .term .0 ∷ [])
     → Pushed eqs (s .obligations) made eqs′ s′ → Does steps calls names marks eqs s calls′ names′ marks′ eqs′ s′
 does-pushed {made = made} one did pushed = record {
   terms = made .term .0 ∷ [];
@@ -55,17 +60,21 @@ does-pushed {made = made} one did pushed = record {
   kept = λ room. record { words = pushed .words; many = pushed .many (omega arith) };
 }
 
-pub does-append : (xs ys : List Step) {calls names marks eqs calls₁ names₁ marks₁ eqs₁ calls₂ names₂ marks₂ eqs₂ : List ℕ} {s s₁ s₂ : Walked}
-    → Does xs calls names marks eqs s calls₁ names₁ marks₁ eqs₁ s₁ → Does ys calls₁ names₁ marks₁ eqs₁ s₁ calls₂ names₂ marks₂ eqs₂ s₂
+pub does-append : (xs ys : List Step)
+    {calls names marks eqs calls₁ names₁ marks₁ eqs₁ calls₂ names₂ marks₂ eqs₂ : List ℕ} {s s₁ s₂ : Walked}
+    → Does xs calls names marks eqs s calls₁ names₁ marks₁ eqs₁ s₁ →
+    Does ys calls₁ names₁ marks₁ eqs₁ s₁ calls₂ names₂ marks₂ eqs₂ s₂
     → Does (xs ++ ys) calls names marks eqs s calls₂ names₂ marks₂ eqs₂ s₂
 does-append xs ys {eqs = eqs} {eqs₁ = eqs₁} {eqs₂ = eqs₂} {s = s} {s₁ = s₁} {s₂ = s₂} p q = record {
   terms = p .terms ++ q .terms;
-  many = let a = p .many in let b = q .many in length-append (p .terms) (q .terms) ∙ omega (arith, obliged-append xs ys);
+  many = let a = p .many in let b = q .many in length-append (p .terms) (q .terms)
+      ∙ omega (arith, obliged-append xs ys);
   did = did-append xs ys (p .did) (q .did);
   kept = λ room. both room;
 }
   where
-    both : s .obligations + obligedIn (xs ++ ys) ≤ length eqs → Kept eqs (s .obligations) (p .terms ++ q .terms) eqs₂ (s₂ .obligations)
+    both : s .obligations + obligedIn (xs ++ ys) ≤ length eqs →
+        Kept eqs (s .obligations) (p .terms ++ q .terms) eqs₂ (s₂ .obligations)
     both room =
         let split = obliged-append xs ys in
         let first = p .kept (omega arith) in
@@ -82,19 +91,25 @@ does-append xs ys {eqs = eqs} {eqs₁ = eqs₁} {eqs₂ = eqs₂} {s = s} {s₁ 
 
 -- ---- a loop over steps: the rest from here completes the whole
 
-pub record Left (whole left : List Step) (calls₀ names₀ marks₀ eqs₀ : List ℕ) (s₀ : Walked) (calls names marks eqs : List ℕ) (s : Walked) : Type 0 where
+pub record Left (whole left : List Step) (calls₀ names₀ marks₀ eqs₀ : List ℕ) (s₀ : Walked)
+    (calls names marks eqs : List ℕ) (s : Walked) : Type 0 where
   pub rest : {calls′ names′ marks′ eqs′ : List ℕ} {s′ : Walked}
-      → Does left calls names marks eqs s calls′ names′ marks′ eqs′ s′ → Does whole calls₀ names₀ marks₀ eqs₀ s₀ calls′ names′ marks′ eqs′ s′
+      → Does left calls names marks eqs s calls′ names′ marks′ eqs′ s′ →
+      Does whole calls₀ names₀ marks₀ eqs₀ s₀ calls′ names′ marks′ eqs′ s′
 
-pub left-start : (whole : List Step) (calls names marks eqs : List ℕ) (s : Walked) → Left whole whole calls names marks eqs s calls names marks eqs s
+pub left-start : (whole : List Step) (calls names marks eqs : List ℕ) (s : Walked) →
+    Left whole whole calls names marks eqs s calls names marks eqs s
 left-start whole calls names marks eqs s = record { rest = λ p. p }
 
-pub left-turn : (step left : List Step) {whole : List Step} {calls₀ names₀ marks₀ eqs₀ calls names marks eqs calls₁ names₁ marks₁ eqs₁ : List ℕ} {s₀ s s₁ : Walked}
+pub left-turn : (step left : List Step) {whole : List Step}
+    {calls₀ names₀ marks₀ eqs₀ calls names marks eqs calls₁ names₁ marks₁ eqs₁ : List ℕ} {s₀ s s₁ : Walked}
     → Left whole (step ++ left) calls₀ names₀ marks₀ eqs₀ s₀ calls names marks eqs s
     → Does step calls names marks eqs s calls₁ names₁ marks₁ eqs₁ s₁
     → Left whole left calls₀ names₀ marks₀ eqs₀ s₀ calls₁ names₁ marks₁ eqs₁ s₁
 left-turn step left p q = record { rest = λ r. p .rest (does-append step left q r) }
 
 pub left-end : {whole : List Step} {calls₀ names₀ marks₀ eqs₀ calls names marks eqs : List ℕ} {s₀ s : Walked}
-    → Left whole [] calls₀ names₀ marks₀ eqs₀ s₀ calls names marks eqs s → Does whole calls₀ names₀ marks₀ eqs₀ s₀ calls names marks eqs s
-left-end {calls = calls} {names = names} {marks = marks} {eqs = eqs} {s = s} p = p .rest (does-none calls names marks eqs s)
+    → Left whole [] calls₀ names₀ marks₀ eqs₀ s₀ calls names marks eqs s →
+    Does whole calls₀ names₀ marks₀ eqs₀ s₀ calls names marks eqs s
+left-end {calls = calls} {names = names} {marks = marks} {eqs = eqs} {s = s} p =
+    p .rest (does-none calls names marks eqs s)

@@ -1,4 +1,5 @@
--- The net replacements of an accepted list stand one after another, two words each, from the place after the cell replacements up to the last word.
+-- The net replacements of an accepted list stand one after another, two words each, from the place after the cell
+-- replacements up to the last word.
 use mathlib.Core.Path.{_≡_, refl}
 use mathlib.Core.List.{List, [], _++_}
 use Prim.Native.Nat.{ℕ, _+_, _≤_, _<_, _^_}
@@ -9,13 +10,13 @@ use Rattle.cell.specs.Design.{Design, NetPair, total}
 use Rattle.cell_reader.specs.Parse.{numberIn, netIn}
 use Rattle.items.specs.Items.{netPair}
 use Rattle.design_list.specs.Read.{read, accepted}
-use Rattle.design_list.specs.Accepted.{accepted-read}
+use Rattle.design_list.proofs.AcceptedLaws.{accepted-read}
 use Rattle.working_out.specs.Reading.{readsPast, pairOf}
 use Rattle.working_out.specs.Laid.{Within}
-use Rattle.accepted.specs.Fields.{known-within}
-use Rattle.accepted.specs.Replacements.{Climb, IsPair}
-use Rattle.accepted.specs.Replacements as R
-use Rattle.accepted.specs.Laid.{stages}
+use Rattle.accepted.proofs.Fields.{known-within}
+use Rattle.accepted.proofs.Replacements.{Climb, IsPair}
+use Rattle.accepted.proofs.Replacements as R
+use Rattle.accepted.proofs.Laid.{stages}
 use Rattle.nets.specs.Reads.{pastIn}
 use Rattle.order.specs.Verify.{pairSteps, eachPair}
 use Rattle.slots.specs.Tells.{Tells}
@@ -38,11 +39,13 @@ pub record HerePair (d : Design) (w : List ℕ) (at : ℕ) : Type 0 where
   pub from : Within (total d) (netIn w at)
   pub to : Within (total d) (netIn w (at + 1))
 
-unfoldable pub pairs-start : (w : List ℕ) {d : Design} {replacements pairs : ℕ} → read w ≡ accepted d replacements pairs → AtPair d w pairs
+unfoldable pub pairs-start : (w : List ℕ) {d : Design} {replacements pairs : ℕ} → read w ≡ accepted d replacements pairs
+    → AtPair d w pairs
 pairs-start w {d} accepts = record { pairs = d .netReps; least = 0; climb = stages (accepted-read w accepts) .nets }
 
 module _ (d : Design) (w : List ℕ) where
-  here-in : {least at : ℕ} {pairs : List NetPair} → Climb (IsPair w (total d)) (netPair w) least at pairs (length w) → at < length w → HerePair d w at
+  here-in : {least at : ℕ} {pairs : List NetPair} → Climb (IsPair w (total d)) (netPair w) least at pairs (length w) →
+      at < length w → HerePair d w at
   here-in (R.done ended) inside = absurd (omega arith)
   here-in (R.taken {at = at} is rest) inside = record {
     inside = is .to-is .inside;
@@ -56,9 +59,11 @@ module _ (d : Design) (w : List ℕ) where
   -- A turn: the steps of the first pair that is left, and the place after it.
   pub record PairTurn (pairs : List NetPair) (at : ℕ) : Type 0 where
     pub next : AtPair d w (at + 2)
-    pub step : eachPair d pairs ≡ pairSteps (readsPast d) (pairOf d (netPair w at)) (netPair w at) ++ eachPair d (next .pairs)
+    pub step : eachPair d pairs
+        ≡ pairSteps (readsPast d) (pairOf d (netPair w at)) (netPair w at) ++ eachPair d (next .pairs)
 
-  turn-in : {least at : ℕ} {pairs : List NetPair} → Climb (IsPair w (total d)) (netPair w) least at pairs (length w) → at < length w → PairTurn pairs at
+  turn-in : {least at : ℕ} {pairs : List NetPair} → Climb (IsPair w (total d)) (netPair w) least at pairs (length w) →
+      at < length w → PairTurn pairs at
   unfolding eachPair
   turn-in (R.done ended) inside = absurd (omega arith)
   turn-in (R.taken {above = top} {items = pairs} is rest) inside = record {
@@ -69,7 +74,8 @@ module _ (d : Design) (w : List ℕ) where
   pub pair-turn : {at : ℕ} (place : AtPair d w at) → at < length w → PairTurn (place .pairs) at
   pair-turn place inside = turn-in (place .climb) inside
 
-  end-in : {least at : ℕ} {pairs : List NetPair} → Climb (IsPair w (total d)) (netPair w) least at pairs (length w) → length w ≤ at → eachPair d pairs ≡ []
+  end-in : {least at : ℕ} {pairs : List NetPair} → Climb (IsPair w (total d)) (netPair w) least at pairs (length w) →
+      length w ≤ at → eachPair d pairs ≡ []
   unfolding eachPair
   end-in (R.done ended) past = refl
   end-in (R.taken is rest) past = absurd (let inside = is .from-is .inside in omega arith)
@@ -78,20 +84,27 @@ module _ (d : Design) (w : List ℕ) where
   pairs-end place past = end-in (place .climb) past
 
 -- Along the net replacements.
-pub record AlongPairs (d : Design) (w : List ℕ) (at : ℕ) (calls₀ names₀ marks₀ eqs₀ : List ℕ) (s₀ : Walked) (calls names marks eqs : List ℕ) (s : Walked) : Type 0 where
+pub record AlongPairs (d : Design) (w : List ℕ) (at : ℕ) (calls₀ names₀ marks₀ eqs₀ : List ℕ) (s₀ : Walked)
+    (calls names marks eqs : List ℕ) (s : Walked) : Type 0 where
   pub place : AtPair d w at
-  pub left : Left (eachPair d (d .netReps)) (eachPair d (place .pairs)) calls₀ names₀ marks₀ eqs₀ s₀ calls names marks eqs s
+  pub left : Left (eachPair d (d .netReps)) (eachPair d (place .pairs)) calls₀ names₀ marks₀ eqs₀ s₀ calls names marks
+      eqs s
 
 pub pairs-along : (w : List ℕ) {d : Design} {replacements pairs : ℕ} → read w ≡ accepted d replacements pairs
-    → (calls names marks eqs : List ℕ) (s : Walked) → AlongPairs d w pairs calls names marks eqs s calls names marks eqs s
+    → (calls names marks eqs : List ℕ) (s : Walked) →
+    AlongPairs d w pairs calls names marks eqs s calls names marks eqs s
 unfolding pairs-start
-pairs-along w accepts calls names marks eqs s = record { place = pairs-start w accepts; left = left-start _ calls names marks eqs s }
+pairs-along w accepts calls names marks eqs s =
+    record { place = pairs-start w accepts; left = left-start _ calls names marks eqs s }
 
 module _ {w table : List ℕ} {d : Design} where
   -- The nets are those of the two words, and the table tells what the pair is.
-  pub pairs-turn : {at : ℕ} {calls₀ names₀ marks₀ eqs₀ calls names marks eqs calls₁ names₁ marks₁ eqs₁ : List ℕ} {s₀ s s₁ : Walked} {from to : ℕ}
-      → Tells d table → AlongPairs d w at calls₀ names₀ marks₀ eqs₀ s₀ calls names marks eqs s → at < length w → from ≡ numberIn w at → to ≡ numberIn w (at + 1)
-      → (from < 2 ^ 29 → to < 2 ^ 29 → Does (pairSteps (pastIn table) (pairIn table from to) (record { from = netOf from; to = netOf to }))
+  pub pairs-turn : {at : ℕ} {calls₀ names₀ marks₀ eqs₀ calls names marks eqs calls₁ names₁ marks₁ eqs₁ : List ℕ}
+      {s₀ s s₁ : Walked} {from to : ℕ}
+      → Tells d table → AlongPairs d w at calls₀ names₀ marks₀ eqs₀ s₀ calls names marks eqs s →
+      at < length w → from ≡ numberIn w at → to ≡ numberIn w (at + 1)
+      → (from < 2 ^ 29 → to < 2 ^ 29 →
+      Does (pairSteps (pastIn table) (pairIn table from to) (record { from = netOf from; to = netOf to }))
       calls names marks eqs s calls₁ names₁ marks₁ eqs₁ s₁)
       → AlongPairs d w (at + 2) calls₀ names₀ marks₀ eqs₀ s₀ calls₁ names₁ marks₁ eqs₁ s₁
   pairs-turn {at} tells along inside from-is to-is does =
@@ -103,7 +116,8 @@ module _ {w table : List ℕ} {d : Design} where
       let step = rw (tells-past tells, from-is, to-is, told) at (does (omega arith) (omega arith)) in
       record {
         place = turn .next;
-        left = left-turn (pairSteps (readsPast d) (pairOf d (netPair w at)) (netPair w at)) (eachPair d (turn .next .pairs))
+        left = left-turn (pairSteps (readsPast d) (pairOf d (netPair w at)) (netPair w at))
+            (eachPair d (turn .next .pairs))
             (rw (turn .step) at (along .left)) step;
       }
 

@@ -1,4 +1,5 @@
-// The second loop of `Design::verify` of design.rs: the net replacements of an accepted list, from its words; and the terms of obligations in a lent table.
+// The second loop of `Design::verify` of design.rs: the net replacements of an accepted list, from its words; and the
+// terms of obligations in a lent table.
 use builder::Built;
 use builder::Counts;
 use logic::Net;
@@ -22,7 +23,8 @@ pub struct Walked {
     pub obligations: usize,
 }
 
-// `self.eqs.borrow_mut().push`: the term of an obligation, stored after the others; past the table's end nothing is stored.
+// `self.eqs.borrow_mut().push`: the term of an obligation, stored after the others; past the table's end nothing is
+// stored.
 pub fn push(eqs: &mut [u32], obligations: usize, eq: Built) -> Walked
     ensures { λ r. ⌜ Pushed (now (eqs .entry)) obligations eq (now (eqs .exit)) r ⌝ }
 {
@@ -69,7 +71,8 @@ fn replace_void_net(
     to_net: Net,
 ) -> Walked
     ensures { λ r. ⌜ ((eqs : List ℕ) → «from_net» .0 < 2 ^ 29 → «to_net» .0 < 2 ^ 29
-        → Does (asserted (replaceVoidNet (pastIn (now (table .entry))) (netOf («from_net» .0)) (netOf («to_net» .0))) ∷ [])
+        → Does (asserted (replaceVoidNet (pastIn (now (table .entry))) (netOf («from_net» .0)) (netOf («to_net» .0)))
+        ∷ [])
         (now (calls .entry)) (now (names .entry)) (now (marks .entry)) eqs s
         (now (calls .exit)) (now (names .exit)) (now (marks .exit)) eqs r) ⌝ }
 {
@@ -106,7 +109,8 @@ fn replace_dff_net(
     push(eqs, s.obligations, eq)
 }
 
-// A net replacement: of equal nets none, of a Void's net an assertion, of a Dff's by a Dff's an induction step before it.
+// A net replacement: of equal nets none, of a Void's net an assertion, of a Dff's by a Dff's an induction step before
+// it.
 fn replace_pair(
     table: &[u32],
     calls: &mut [u32],
@@ -118,7 +122,8 @@ fn replace_pair(
     to_net: Net,
 ) -> Walked
     ensures { λ r. ⌜ («from_net» .0 < 2 ^ 29 → «to_net» .0 < 2 ^ 29
-        → Does (pairSteps (pastIn (now (table .entry))) (pairIn (now (table .entry)) («from_net» .0) («to_net» .0)) (record { from = netOf («from_net» .0); to = netOf («to_net» .0) }))
+        → Does (pairSteps (pastIn (now (table .entry))) (pairIn (now (table .entry)) («from_net» .0) («to_net» .0))
+        (record { from = netOf («from_net» .0); to = netOf («to_net» .0) }))
         (now (calls .entry)) (now (names .entry)) (now (marks .entry)) (now (eqs .entry)) s
         (now (calls .exit)) (now (names .exit)) (now (marks .exit)) (now (eqs .exit)) r) ⌝ }
 {

@@ -15,7 +15,8 @@ ghost use Rattle.builder.specs.Ran.{trits, MakesTrits, RanTrits};
 ghost use Rattle.names.specs.Names.{ageOf};
 ghost use Rattle.nets.specs.Reads.{pastIn, ageIn, reader, ageBy};
 
-// How nets are read: by their current trits, by their past ones, or as `net` does: the past trit of a base Dff, else the current one.
+// How nets are read: by their current trits, by their past ones, or as `net` does: the past trit of a base Dff, else
+// the current one.
 pub enum Reading {
     Curr,
     Past,

@@ -7,7 +7,8 @@ use native.Mathlib.Omega.{arith}
 use native.Mathlib.Nat.{pow-suc}
 use lib.Dec.{eqb, eqb·zero-suc, eqb·suc-zero, eqb·suc-suc}
 use lib.ListN.{replicate}
-use Rattle.logic.specs.Table.{tab, tab-ext, tab-const, map-tab}
+use Rattle.logic.specs.Table.{tab}
+use Rattle.logic.proofs.TableLaws.{tab-ext, tab-const, map-tab}
 use Rattle.logic.specs.Trit.{xOf, yOf}
 use Rattle.logic.specs.declared.Trit.{Trit}
 use Rattle.logic.specs.declared.Trit.the-variants.{Zero, One}

@@ -23,7 +23,8 @@ module _ {matches : TritVec} {k : ℕ} {cold : TritVec} {calls₀ : List ℕ} {c
   pub match-start : MatchLeft matches k cold calls₀ c₀ names marks k cold calls₀ c₀
   match-start = record { rest = λ p. p }
 
-  pub match-turn : (index : ℕ) {s hot v v₁ : TritVec} {calls calls₁ calls₂ calls₃ : List ℕ} {c c₁ c₂ c₃ : Counts} → 0 < index
+  pub match-turn : (index : ℕ) {s hot v v₁ : TritVec} {calls calls₁ calls₂ calls₃ : List ℕ} {c c₁ c₂ c₃ : Counts} →
+      0 < index
       → MatchLeft matches k cold calls₀ c₀ names marks index v calls c
       → Ran (tvExtract (index - 1) (index - 1) matches) calls names marks c calls₁ names marks c₁ s
       → Ran (tvLit (oneHot k (index - 1))) calls₁ names marks c₁ calls₂ names marks c₂ hot

@@ -3,3 +3,4 @@ pub mod Stores
 pub mod Nets
 pub mod Numbers
 pub mod Part
+pub mod WordsLaws

@@ -8,13 +8,16 @@ use native.Mathlib.Omega.{arith}
 use lib.ListN.{length, getD, set, take, drop, replicate}
 use lib.ListN.{length-append, length-take, length-drop, length-map, length-replicate, List·getD-append, List·getD-map}
 use lib.Seq.{sets}
-use Rattle.logic.specs.Net.{Net, constant, slot, netOfSlot, net-of-payload}
-use Rattle.logic.specs.Table.{tab, tab-ext, as-tab, length-tab, map-tab}
+use Rattle.logic.specs.Net.{Net, constant, slot, netOfSlot}
+use Rattle.logic.proofs.NetLaws.{net-of-payload}
+use Rattle.logic.specs.Table.{tab}
+use Rattle.logic.proofs.TableLaws.{tab-ext, as-tab, length-tab, map-tab}
 use Rattle.logic.specs.Word.{payloadOf, netWord}
 use Rattle.logic.specs.declared.Trit.the-variants.{Undef}
 use Rattle.cell_reader.specs.Parse.{netsIn}
 use Rattle.smt.specs.Builder.{outputNets, extended, overwritten}
-use Rattle.operands.specs.Words.{netOfWord, wordsIn, outputWords, msbWord, extension, extendedWords}
+use Rattle.operands.proofs.WordsLaws.{netOfWord}
+use Rattle.operands.specs.Words.{wordsIn, outputWords, msbWord, extension, extendedWords}
 use Rattle.operands.proofs.Stores.{sets-append, sets-front, sets-within}
 
 -- ---- lists of words and lists of nets
@@ -72,12 +75,15 @@ extended-words : (signed : Bool) (ws : List ℕ) (w : ℕ)
 extended-words true ws w =
     map-append netOfWord ws _ ∙
     ap (λ (r : List Net). map netOfWord ws ++ r) (map-replicate netOfWord (w - length ws) (msbWord ws) ∙
-    rw (length-map ws netOfWord) (ap (replicate (w - length ws)) (sym (List·getD-map netOfWord ws (length ws - 1) 536870911))))
+    rw (length-map ws netOfWord)
+    (ap (replicate (w - length ws)) (sym (List·getD-map netOfWord ws (length ws - 1) 536870911))))
 extended-words false ws w =
     map-append netOfWord ws _ ∙
-    ap (λ (r : List Net). map netOfWord ws ++ r) (map-replicate netOfWord (w - length ws) 0 ∙ rw (length-map ws netOfWord))
+    ap (λ (r : List Net). map netOfWord ws ++ r)
+    (map-replicate netOfWord (w - length ws) 0 ∙ rw (length-map ws netOfWord))
 
-length-extended : (signed : Bool) (ws : List ℕ) (n w : ℕ) → length ws ≡ n → n ≤ w → length (extendedWords signed ws w) ≡ w
+length-extended : (signed : Bool) (ws : List ℕ) (n w : ℕ) → length ws ≡ n → n ≤ w → length (extendedWords signed ws w)
+    ≡ w
 length-extended signed ws n w e wide = simp (length-append, length-replicate) (omega arith)
 
 getD-tab : {A : Type 0} (n : ℕ) (f : ℕ → A) (i : ℕ) (d : A) → i < n → getD (tab n f) i d ≡ f i
@@ -136,11 +142,13 @@ overwritten-words l vs us n offset e room within =
     nets =
         map-append netOfWord (take offset vs) _ ∙
         ap₂ (λ (a b : List Net). a ++ b) (map-take netOfWord offset vs) (map-append netOfWord us _ ∙
-        ap (λ (r : List Net). map netOfWord us ++ r) (map-drop netOfWord (offset + length us) vs ∙ rw (length-map us netOfWord)))
+        ap (λ (r : List Net). map netOfWord us ++ r)
+        (map-drop netOfWord (offset + length us) vs ∙ rw (length-map us netOfWord)))
 
 pub nets-overwritten : (l words : List ℕ) (value n update u offset : ℕ) → n ≤ length l → offset + u ≤ n
     → netsIn (sets (sets l 0 (wordsIn words n value)) offset (wordsIn words u update)) n 0
     ≡ overwritten (netsIn words n value) offset (netsIn words u update)
 nets-overwritten l words value n update u offset room within =
-    overwritten-words l (wordsIn words n value) (wordsIn words u update) n offset (length-tab n _) room (rw length-tab within) ∙
+    overwritten-words l (wordsIn words n value) (wordsIn words u update) n offset (length-tab n _) room
+    (rw length-tab within) ∙
     ap₂ (λ (a b : List Net). overwritten a offset b) (sym (nets-words words n value)) (sym (nets-words words u update))

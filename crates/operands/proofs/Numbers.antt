@@ -9,7 +9,8 @@ use native.Mathlib.Omega.{arith}
 use borrow.Author.Tests.{lt-ltb}
 use lib.ListN.{length, getD, length-map}
 use lib.Pow.{pow-mono}
-use Rattle.logic.specs.Table.{tab, tab-ext, length-tab}
+use Rattle.logic.specs.Table.{tab}
+use Rattle.logic.proofs.TableLaws.{tab-ext, length-tab}
 use Rattle.logic.specs.Trit.{xOf, yOf}
 use Rattle.logic.specs.Net.{Net, constant, slot, netOf, driverOf, driverOfNet}
 use Rattle.logic.specs.Word.{payloadOf}
@@ -18,10 +19,10 @@ use Rattle.logic.specs.declared.Trit.the-variants.{Undef}
 use Rattle.logic.specs.declared.Driver.{Driver}
 use Rattle.logic.specs.declared.Driver.the-variants.{Constant, Output, NoNet}
 use Rattle.bitvec.specs.Bits.{bit, bv2nat, nat2bv}
-use Rattle.bitvec.specs.Laws.{bv2nat-lt, nat2bv-of}
+use Rattle.bitvec.proofs.Laws.{bv2nat-lt, nat2bv-of}
 use Rattle.cell_reader.specs.Parse.{tritOf, tritIn, tritsIn}
 use Rattle.smt.specs.Builder.{ilog2, shiftWidth}
-use Rattle.smt.specs.ShowsShift.{ilog2-is, shiftWidth-narrow}
+use Rattle.smt.proofs.ShowsShift.{ilog2-is, shiftWidth-narrow}
 use Rattle.operands.specs.Words.{Wide, packed, Packed}
 
 -- ---- prepare_shift
@@ -123,7 +124,8 @@ module _ (f : Trit → Bool) (w : List ℕ) where
       rw all (nat2bv-of n (map f (tritsIn w n at)) (length-map (tritsIn w n at) f ∙ length-tab n _))
 
 -- The two numbers of some constants are their literal's.
-pub packed-literal : (w : List ℕ) (n at x y : ℕ) → x ≡ packed xOf w (min n 64) at → y ≡ packed yOf w (min n 64) at → n ≤ 64
+pub packed-literal : (w : List ℕ) (n at x y : ℕ) → x ≡ packed xOf w (min n 64) at → y ≡ packed yOf w (min n 64) at →
+    n ≤ 64
     → Packed w n at x y
 packed-literal w n at x y is-x is-y few =
     record { is-undef = rw is-x (packed-bits xOf w n at few); is-one = rw is-y (packed-bits yOf w n at few) }

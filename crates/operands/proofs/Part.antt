@@ -1,5 +1,5 @@
--- The cell of a record, read from the part of the list that begins at the record's first field: every number, net, control,
--- constant and pattern of the part is that of the list so many places on. Assumes nothing.
+-- The cell of a record, read from the part of the list that begins at the record's first field: every number, net,
+-- control, constant and pattern of the part is that of the list so many places on. Assumes nothing.
 use mathlib.Core.Path.{_≡_, refl, sym, ap, ap₂, _∙_}
 use mathlib.Core.Bool.{Bool}
 use mathlib.Core.List.{List, [], _∷_}
@@ -10,7 +10,8 @@ use lib.Dec.{eqb}
 use lib.ListN.{getD, drop, take, length, length-drop}
 use lib.Seq.{getD-drop, take-all}
 use Rattle.logic.specs.Net.{Net}
-use Rattle.logic.specs.Table.{tab, tab-ext}
+use Rattle.logic.specs.Table.{tab}
+use Rattle.logic.proofs.TableLaws.{tab-ext}
 use Rattle.logic.specs.declared.Trit.{Trit}
 use Rattle.cell.specs.Cell as C
 use Rattle.cell.specs.Cell.{Cell, Control}
@@ -23,7 +24,8 @@ pub part-all : (w : List ℕ) (at : ℕ) → take (length w - at) (drop at w) �
 part-all w at = take-all (length w - at) (drop at w) (rw (length-drop at w) (omega arith))
 
 -- A function of three or four arguments, at equal ones.
-ap₃ : {A B C D : Type 0} (f : A → B → C → D) {a a′ : A} {b b′ : B} {c c′ : C} → a ≡ a′ → b ≡ b′ → c ≡ c′ → f a b c ≡ f a′ b′ c′
+ap₃ : {A B C D : Type 0} (f : A → B → C → D) {a a′ : A} {b b′ : B} {c c′ : C} → a ≡ a′ → b ≡ b′ → c ≡ c′ → f a b c
+    ≡ f a′ b′ c′
 ap₃ f a b c = cc
 
 ap₄ : {A B C D E : Type 0} (f : A → B → C → D → E) {a a′ : A} {b b′ : B} {c c′ : C} {d d′ : D}
@@ -45,7 +47,8 @@ dffOf over clock clear reset enable dat clearValue resetValue =
     }
 
 dff-same : {o o′ : Bool} {c c′ l l′ r r′ e e′ : Control} {d d′ : List Net} {u u′ v v′ : List Trit}
-    → o ≡ o′ → c ≡ c′ → l ≡ l′ → r ≡ r′ → e ≡ e′ → d ≡ d′ → u ≡ u′ → v ≡ v′ → dffOf o c l r e d u v ≡ dffOf o′ c′ l′ r′ e′ d′ u′ v′
+    → o ≡ o′ → c ≡ c′ → l ≡ l′ → r ≡ r′ → e ≡ e′ → d ≡ d′ → u ≡ u′ → v ≡ v′ → dffOf o c l r e d u v
+    ≡ dffOf o′ c′ l′ r′ e′ d′ u′ v′
 dff-same over clock clear reset enable dat clear-value reset-value = cc
 
 module _ (w : List ℕ) (at : ℕ) where
@@ -97,7 +100,9 @@ module _ (w : List ℕ) (at : ℕ) where
       rw first-in (ap₂ (C.binary o) (nets-in n 1 (at + 1) refl) (nets-in n (1 + n) (at + 1 + n) (omega arith)))
   cell-in O.Mux =
       let n = numberIn w at in
-      rw first-in (ap₃ C.mux (net-in 1 (at + 1) refl) (nets-in n 2 (at + 2) refl) (nets-in n (2 + n) (at + 2 + n) (omega arith)))
+      rw first-in
+      (ap₃ C.mux (net-in 1 (at + 1) refl) (nets-in n 2 (at + 2) refl)
+      (nets-in n (2 + n) (at + 2 + n) (omega arith)))
   cell-in O.Adc =
       let n = numberIn w at in
       rw first-in (ap₃ C.adc (nets-in n 1 (at + 1) refl) (nets-in n (1 + n) (at + 1 + n) (omega arith))
@@ -121,6 +126,7 @@ module _ (w : List ℕ) (at : ℕ) where
   cell-in O.Dff =
       let n = numberIn w at in
       rw first-in
-      (dff-same (ap (λ (m : ℕ). eqb m 1) (number-in 1 (at + 1) refl)) (control-in 2 (at + 2) refl) (control-in 3 (at + 3) refl)
+      (dff-same (ap (λ (m : ℕ). eqb m 1) (number-in 1 (at + 1) refl)) (control-in 2 (at + 2) refl)
+      (control-in 3 (at + 3) refl)
       (control-in 4 (at + 4) refl) (control-in 5 (at + 5) refl) (nets-in n 6 (at + 6) refl)
       (trits-in n (6 + n) (at + 6 + n) (omega arith)) (trits-in n (6 + n + n) (at + 6 + n + n) (omega arith)))

@@ -7,7 +7,8 @@ use native.Mathlib.Numerals.{add-one}
 use native.Mathlib.Omega.{arith}
 use lib.ListN.{length, set, take, drop, replicate, length-append}
 use lib.Seq.{sets, sets-eq, take-append-le, drop-append-le}
-use Rattle.logic.specs.Table.{tab, tab-ext}
+use Rattle.logic.specs.Table.{tab}
+use Rattle.logic.proofs.TableLaws.{tab-ext}
 
 -- ---- a loop that stores f 0, f 1, .. f (n - 1)
 
@@ -52,7 +53,8 @@ fill-none l at end word done = let none : end - at ≡ 0 = omega arith in rw non
 pub sets-append : (l : List ℕ) (at : ℕ) (a b : List ℕ) → sets (sets l at a) (at + length a) b ≡ sets l at (a ++ b)
 sets-append l at [] b = rw add-zero
 sets-append l at (v ∷ a) b =
-    let place : at + suc (length a) ≡ suc at + length a = omega arith in rw place (sets-append (set l at v) (suc at) a b)
+    let place : at + suc (length a) ≡ suc at + length a = omega arith in
+    rw place (sets-append (set l at v) (suc at) a b)
 
 -- What is stored at the start of a list stands there, before the rest.
 pub sets-front : (l vs : List ℕ) → length vs ≤ length l → sets l 0 vs ≡ vs ++ drop (length vs) l

@@ -1,21 +1,18 @@
--- The words of a cell's operands as `SmtBuilder::cell` prepares them: copied, extended, overwritten, and constants packed.
+-- The words of a cell's operands as `SmtBuilder::cell` prepares them: copied, extended, overwritten, and constants
+-- packed.
 use mathlib.Core.Bool.{Bool, cond}
 use mathlib.Core.List.{List, _++_, map}
 use mathlib.Core.Path.{_≡_}
 use Prim.Native.Nat.{ℕ, _+_, _-_, _≤_, min}
 use lib.ListN.{length, getD, replicate}
-use Rattle.logic.specs.Net.{Net, netOf, netOfSlot}
+use Rattle.logic.specs.Net.{netOfSlot}
 use Rattle.logic.specs.Table.{tab}
 use Rattle.logic.specs.Trit.{xOf, yOf}
-use Rattle.logic.specs.Word.{payloadOf, netWord}
+use Rattle.logic.specs.Word.{netWord}
 use Rattle.logic.specs.declared.Trit.{Trit}
 use Rattle.bitvec.specs.Bits.{bv2nat, nat2bv}
 use Rattle.cell_reader.specs.Parse.{tritsIn}
 use Rattle.smt.specs.Builder.{shiftWidth}
-
--- The net of a word.
-abbrev pub netOfWord : ℕ → Net
-netOfWord word = netOf (payloadOf word)
 
 -- n words of a list from a place on.
 abbrev pub wordsIn : List ℕ → ℕ → ℕ → List ℕ

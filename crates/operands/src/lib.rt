@@ -1,6 +1,6 @@
-// What the arms of `SmtBuilder::cell` of smt.rs do with their operands before any call of the engine. A value is a run of
-// net words: words of the list, read in place, or words stored into a table that the caller lends; past its end nothing is
-// stored.
+// What the arms of `SmtBuilder::cell` of smt.rs do with their operands before any call of the engine. A value is a run
+// of net words: words of the list, read in place, or words stored into a table that the caller lends; past its end
+// nothing is stored.
 use logic::Driver;
 use logic::Net;
 use logic::Slot;
@@ -18,7 +18,8 @@ ghost use Rattle.logic.specs.declared.Trit.the-variants as t;
 ghost use Rattle.bitvec.specs.Bits.{bit, nat2bv};
 ghost use Rattle.cell_reader.specs.Parse.{netsIn, tritOf, tritIn, tritsIn};
 ghost use Rattle.smt.specs.Builder.{outputNets, extended, overwritten, ilog2, shiftWidth};
-ghost use Rattle.operands.specs.Words.{wordsIn, outputWords, msbWord, extension, extendedWords, Wide, packed, Packed};
+ghost use Rattle.operands.specs.Words.{wordsIn, outputWords, msbWord, extension, extendedWords, Wide, packed};
+ghost use Rattle.operands.specs.Words.{Packed};
 
 // n words from a place on, copied to another.
 fn copy(out: &mut [u32], to: u32, words: &[u32], from: u32, n: u32)
@@ -146,7 +147,8 @@ pub fn overwritten_nets(
     offset: u32,
 )
     ensures stored { λ _. ⌜ now (out .exit)
-        ≡ sets (sets (now (out .entry)) 0 (wordsIn (now (words .entry)) n value)) offset (wordsIn (now (words .entry)) u update) ⌝ }
+        ≡ sets (sets (now (out .entry)) 0 (wordsIn (now (words .entry)) n value)) offset
+        (wordsIn (now (words .entry)) u update) ⌝ }
     ensures nets { λ _. ⌜ (n ≤ length (now (out .entry)) → offset + u ≤ n
         → netsIn (now (out .exit)) n 0
         ≡ overwritten (netsIn (now (words .entry)) n value) offset (netsIn (now (words .entry)) u update)) ⌝ }

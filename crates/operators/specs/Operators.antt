@@ -1,5 +1,5 @@
--- Document 01, "Words", "Operations and bodies": in what the operations of one layout differ, as far as their numbers and
--- their output width go.
+-- Document 01, "Words", "Operations and bodies": in what the operations of one layout differ, as far as their numbers
+-- and their output width go.
 use mathlib.Core.Bool.{Bool, true, false}
 use Prim.Native.Nat.{ℕ}
 use Rattle.operators.specs.declared.Binary.{Binary}

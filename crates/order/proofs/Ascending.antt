@@ -1,4 +1,5 @@
--- The terms of the obligations ascend strictly: each is the last term of its step's run, and a later step makes later terms.
+-- The terms of the obligations ascend strictly: each is the last term of its step's run, and a later step makes later
+-- terms.
 use mathlib.Core.Bool.{Bool}
 use mathlib.Core.List.{List, [], _∷_}
 use Prim.Native.Nat.{ℕ, _≤_, _<_}
@@ -6,13 +7,15 @@ use native.Mathlib.Omega.{arith}
 use Rattle.logic.specs.Net.{Net}
 use Rattle.cell.specs.Cell.{Cell}
 use Rattle.cell.specs.Design.{Design, total}
-use Rattle.working_out.specs.Reading.{Each, each-map, readsPast}
+use Rattle.working_out.specs.Reading.{Each, readsPast}
+use Rattle.working_out.proofs.ReadingLaws.{each-map}
 use Rattle.working_out.specs.Laid.{Ascending}
 use Rattle.smt.specs.Prog.{Prog, _>>=_, TritVec}
 use Rattle.smt.specs.Builder.{tvRefines, net, cell}
 use Rattle.smt.specs.Emit.{St, emit}
-use Rattle.smt.specs.Wp.{emit-seq}
-use Rattle.order.specs.Verify.{Step, declared, asserted, obliged, newCell, replaceNet, currents, steps, work, start, built}
+use Rattle.smt.proofs.WpLaws.{emit-seq}
+use Rattle.order.specs.Verify.{Step, declared, asserted, obliged, newCell, replaceNet, currents, steps, work}
+use Rattle.order.specs.Verify.{start, built}
 use Rattle.order.proofs.Numbered.{emit-next}
 use Rattle.order.proofs.EachStep.{each-step}
 
@@ -79,12 +82,15 @@ work-ascends : (steps : List Step) → Each FreshStep steps → (s : St) → Asc
 unfolding work
 work-ascends [] fresh s = record { high = tt; ascend = tt }
 work-ascends (declared m ∷ rest) fresh s =
-    later (s .next) ((emit m s) .st .next) _ (let e = emit-next m s in omega arith) (work-ascends rest (fresh .1) ((emit m s) .st))
+    later (s .next) ((emit m s) .st .next) _ (let e = emit-next m s in omega arith)
+    (work-ascends rest (fresh .1) ((emit m s) .st))
 work-ascends (asserted m ∷ rest) fresh s =
-    later (s .next) ((emit m s) .st .next) _ (let e = emit-next m s in omega arith) (work-ascends rest (fresh .1) ((emit m s) .st))
+    later (s .next) ((emit m s) .st .next) _ (let e = emit-next m s in omega arith)
+    (work-ascends rest (fresh .1) ((emit m s) .st))
 work-ascends (obliged m ∷ rest) fresh s =
     let made = fresh .0 s in
-    one-more (s .next) ((emit m s) .res) ((emit m s) .st .next) _ (made .0) (made .1) (work-ascends rest (fresh .1) ((emit m s) .st))
+    one-more (s .next) ((emit m s) .res) ((emit m s) .st .next) _ (made .0) (made .1)
+    (work-ascends rest (fresh .1) ((emit m s) .st))
 
 pub obligations-ascend : (d : Design) → Ascending (λ (k : ℕ). k) ((built d) .res)
 obligations-ascend d = (work-ascends (steps d) (fresh-steps d) (start (total d))) .ascend

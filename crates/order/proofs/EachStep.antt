@@ -7,29 +7,12 @@ use lib.Dec.{eqb}
 use Rattle.logic.specs.Net.{Net}
 use Rattle.cell.specs.Cell.{Cell, outputLen}
 use Rattle.cell.specs.Design.{Design, Placed, NetPair}
-use Rattle.working_out.specs.Reading.{Each, each-append, readsPast, Pair, equal, ofVoid, ofDffs, ordinary, pairOf}
+use Rattle.working_out.specs.Reading.{Each, readsPast, Pair, equal, ofVoid, ofDffs, ordinary, pairOf}
+use Rattle.working_out.proofs.ReadingLaws.{each-append}
 use Rattle.smt.specs.Builder.{currValue, outputNets}
-use Rattle.order.specs.Verify.{
-  Step,
-  declared,
-  asserted,
-  obliged,
-  isInput,
-  claim,
-  addCell,
-  newCell,
-  replaceNet,
-  replaceVoidNet,
-  joinPasts,
-  currents,
-  newCellIn,
-  withNew,
-  cellSteps,
-  pairSteps,
-  eachCell,
-  eachPair,
-  steps,
-}
+use Rattle.order.specs.Verify.{Step, declared, asserted, obliged, isInput, claim, addCell, newCell, replaceNet}
+use Rattle.order.specs.Verify.{replaceVoidNet, joinPasts, currents, newCellIn, withNew, cellSteps, pairSteps}
+use Rattle.order.specs.Verify.{eachCell, eachPair, steps}
 
 pub record OfEachKind (P : Step → Type 0) (rp : ℕ → Bool) : Type 0 where
   pub input : (s w : ℕ) → P (declared (currValue (outputNets s w)))
@@ -76,7 +59,8 @@ module _ (P : Step → Type 0) (d : Design) (of : OfEachKind P (readsPast d)) wh
   unfolding eachPair
   of-pairs [] = tt
   of-pairs (p ∷ pairs) =
-      each-append P (pairSteps (readsPast d) (pairOf d p) p) (eachPair d pairs) (of-pair (pairOf d p) p) (of-pairs pairs)
+      each-append P (pairSteps (readsPast d) (pairOf d p) p) (eachPair d pairs) (of-pair (pairOf d p) p)
+      (of-pairs pairs)
 
   pub each-step : Each P (steps d)
   each-step =

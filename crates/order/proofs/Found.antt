@@ -11,7 +11,7 @@ use Rattle.cell.specs.Cell.{Cell, outputLen}
 use Rattle.cell.specs.Design.{Design, Placed, total}
 use Rattle.working_out.specs.Reading.{Each, cellIn, cellOf}
 use Rattle.working_out.specs.Laid.{Laid, CellLaid, MayReplace, Replaces}
-use Rattle.working_out.specs.Layout.{at-each, located}
+use Rattle.working_out.proofs.LayoutLaws.{at-each, located}
 use Rattle.smt.specs.CellBits.{NotInput}
 use Rattle.order.specs.Verify.{newCellIn}
 
@@ -19,7 +19,8 @@ abbrev pub placed : ℕ → Cell → Placed
 placed s a = record { slot = s; cell = a }
 
 -- What holds of each replacement holds of the one that is found.
-pub found : (P : Placed → Type 0) (reps : List Placed) (s : ℕ) (a : Cell) → Each P reps → newCellIn reps s ≡ some a → P (placed s a)
+pub found : (P : Placed → Type 0) (reps : List Placed) (s : ℕ) (a : Cell) → Each P reps → newCellIn reps s ≡ some a →
+    P (placed s a)
 unfolding newCellIn
 found P [] s a h e = absurd (let z : _≡_ {A = ℕ} 0 1 = cc in omega arith)
 found P (r ∷ reps) s a h e = go (λ q. found P reps s a (h .1) q) (eqb (r .slot) s) refl e
@@ -49,7 +50,8 @@ pub record New (d : Design) (p : Placed) (a : Cell) : Type 0 where
   pub replaces : Replaces d (placed (p .slot) a)
   pub width : outputLen a ≡ outputLen (p .cell)
 
-pub new-found : (d : Design) → Laid d → (p : Placed) → cellOf d (p .slot) ≡ p → (a : Cell) → newCellIn (d .cellReps) (p .slot) ≡ some a → New d p a
+pub new-found : (d : Design) → Laid d → (p : Placed) → cellOf d (p .slot) ≡ p → (a : Cell) →
+    newCellIn (d .cellReps) (p .slot) ≡ some a → New d p a
 new-found d laid p own a e =
     let r = found (Replaces d) (d .cellReps) (p .slot) a (laid .replaces) e in
     record {

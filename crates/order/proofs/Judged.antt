@@ -12,30 +12,20 @@ use Rattle.rules.specs.Shape.{Shaped}
 use Rattle.rules.specs.CellRule.{Trits}
 use Rattle.working_out.specs.Reading.{Each, cellOf, readsPast, Pair, equal, ofVoid, ofDffs, ordinary, pairOf}
 use Rattle.working_out.specs.Laid.{Laid}
-use Rattle.working_out.specs.Obligations.{Obligation, current, asRead, cellObligations, netObligations, ofPair, obligations, broken}
+use Rattle.working_out.specs.Obligations.{Obligation, current, asRead, cellObligations, netObligations, ofPair}
+use Rattle.working_out.specs.Obligations.{obligations, broken}
 use Rattle.working_out.specs.Obligations as o
 use Rattle.smt.specs.Builder.{currValue, outputNets}
 use Rattle.smt.specs.Formula.{NetBits}
 use Rattle.smt.specs.CellBits.{NotInput}
-use Rattle.smt.specs.CellShows.{tritsOf, value-shows, cell-bits-show}
+use Rattle.smt.specs.CellShows.{tritsOf}
+use Rattle.smt.proofs.CellShowsLaws.{value-shows, cell-bits-show}
 use Rattle.order.specs.Verify.{Step, declared, asserted, obliged, claim, addCell, isInput, newCellIn}
 use Rattle.order.proofs.Found.{placed, own-cells, may-replace, new-found}
 use Rattle.order.proofs.Replacements.{foundAt, inCells, wide, design-in-order}
-use Rattle.order.specs.Meant.{
-  Meant,
-  meantAdd,
-  meantNew,
-  meantCell,
-  meantCells,
-  meantPair,
-  meantPairs,
-  meantSteps,
-  newTest,
-  netTest,
-  currentTest,
-  ask,
-  asks,
-}
+use Rattle.order.specs.Meant.{Meant, meantAdd, meantNew, meantCell, meantCells, meantPair, meantPairs, meantSteps}
+use Rattle.order.specs.Meant.{newTest, netTest, currentTest}
+use Rattle.order.proofs.MeantLaws.{ask, asks}
 use Rattle.order.proofs.StepsMean.{positive}
 use Rattle.order.proofs.Shown.{refines-shown, current-shows, outputs-show}
 
@@ -64,7 +54,8 @@ module _ (d : Design) (b : NetBits) where
       refines-shown (current-shows d b (p .from ∷ [])) (value-shows (readsPast d) b (p .to ∷ [])) ∙ sym (Bool·not-not _)
 
   current-holds : (p : NetPair) → currentTest (readsPast d) (p .from) (p .to) b ≡ holds (current p)
-  current-holds p = refines-shown (current-shows d b (p .from ∷ [])) (current-shows d b (p .to ∷ [])) ∙ sym (Bool·not-not _)
+  current-holds p = refines-shown (current-shows d b (p .from ∷ [])) (current-shows d b (p .to ∷ []))
+      ∙ sym (Bool·not-not _)
 
   pair-judged : (k : Pair) (p : NetPair) → asks b (meantPair (readsPast d) k p) ≡ map holds (ofPair k p)
   unfolding asks
@@ -83,13 +74,17 @@ module _ (d : Design) (b : NetBits) where
 
   -- ---- cell replacements
 
-  cell-holds : (s : ℕ) (a : Cell) → Shaped a → NotInput a → 0 < outputLen a → newTest (readsPast d) s (outputLen a) a b ≡ holds (o.cell (placed s a))
+  cell-holds : (s : ℕ) (a : Cell) → Shaped a → NotInput a → 0 < outputLen a → newTest (readsPast d) s (outputLen a) a b
+      ≡ holds (o.cell (placed s a))
   cell-holds s a shaped terms wide =
-      refines-shown (outputs-show d b s (outputLen a)) (cell-bits-show (readsPast d) b s a shaped terms wide) ∙ sym (Bool·not-not _)
+      refines-shown (outputs-show d b s (outputLen a)) (cell-bits-show (readsPast d) b s a shaped terms wide)
+      ∙ sym (Bool·not-not _)
 
   module _ (laid : Laid d) where
-    new-judged : (p : Placed) → cellOf d (p .slot) ≡ p → 0 < outputLen (p .cell) → (x : Option Cell) → newCellIn (d .cellReps) (p .slot) ≡ x
-        → asks b (meantNew (readsPast d) (p .slot) (outputLen (p .cell)) x) ≡ map (λ r. holds (o.cell r)) (foundAt (p .slot) x)
+    new-judged : (p : Placed) → cellOf d (p .slot) ≡ p → 0 < outputLen (p .cell) → (x : Option Cell) →
+        newCellIn (d .cellReps) (p .slot) ≡ x
+        → asks b (meantNew (readsPast d) (p .slot) (outputLen (p .cell)) x)
+        ≡ map (λ r. holds (o.cell r)) (foundAt (p .slot) x)
     unfolding asks
     new-judged p own some-out none e = refl
     new-judged p own some-out (some a) e =
@@ -102,12 +97,15 @@ module _ (d : Design) (b : NetBits) where
     add-asks : (s w : ℕ) (a : Cell) (l : List Bool) (t : Bool) → ask (addCell (readsPast d) s w a) t l ≡ l
     add-asks s w a l t = go (isInput a)
       where
-        go : (i : Bool) → ask (cond i (declared (currValue (outputNets s w))) (asserted (claim (readsPast d) s w a))) t l ≡ l
+        go : (i : Bool) →
+            ask (cond i (declared (currValue (outputNets s w))) (asserted (claim (readsPast d) s w a))) t l ≡ l
         go true = refl
         go false = refl
 
     cell-judged : (p : Placed) → cellOf d (p .slot) ≡ p
-        → asks b (meantCell d p) ≡ map (λ r. holds (o.cell r)) (cond (eqb (outputLen (p .cell)) 0) [] (foundAt (p .slot) (newCellIn (d .cellReps) (p .slot))))
+        → asks b (meantCell d p)
+        ≡ map (λ r. holds (o.cell r))
+        (cond (eqb (outputLen (p .cell)) 0) [] (foundAt (p .slot) (newCellIn (d .cellReps) (p .slot))))
     cell-judged p own = go (eqb (outputLen (p .cell)) 0) refl
       where
         go : (z : Bool) → eqb (outputLen (p .cell)) 0 ≡ z
@@ -129,8 +127,11 @@ module _ (d : Design) (b : NetBits) where
     unfolding meantCells inCells
     cells-judged [] own = unfold asks in refl
     cells-judged (p ∷ cells) own =
-        asks-append b (meantCell d p) (meantCells d cells) ∙ ap₂ _++_ (cell-judged p (own .0)) (cells-judged cells (own .1))
-        ∙ sym (map-append (λ r. holds (o.cell r)) (cond (eqb (outputLen (p .cell)) 0) [] (foundAt (p .slot) (newCellIn (d .cellReps) (p .slot)))) (inCells (d .cellReps) cells))
+        asks-append b (meantCell d p) (meantCells d cells)
+        ∙ ap₂ _++_ (cell-judged p (own .0)) (cells-judged cells (own .1))
+        ∙ sym (map-append (λ r. holds (o.cell r))
+        (cond (eqb (outputLen (p .cell)) 0) [] (foundAt (p .slot) (newCellIn (d .cellReps) (p .slot))))
+        (inCells (d .cellReps) cells))
 
     -- Those of the cell replacements are the obligations of cells.
     of-cells : (reps : List Placed) → map (λ r. holds (o.cell r)) (wide reps) ≡ map holds (cellObligations reps)
@@ -139,13 +140,16 @@ module _ (d : Design) (b : NetBits) where
     of-cells (r ∷ reps) = go (eqb (outputLen (r .cell)) 0) (of-cells reps)
       where
         go : (z : Bool) → map (λ r. holds (o.cell r)) (wide reps) ≡ map holds (cellObligations reps)
-            → map (λ r. holds (o.cell r)) (cond z [] (r ∷ []) ++ wide reps) ≡ map holds (cond z [] (o.cell r ∷ []) ++ cellObligations reps)
+            → map (λ r. holds (o.cell r)) (cond z [] (r ∷ []) ++ wide reps)
+            ≡ map holds (cond z [] (o.cell r ∷ []) ++ cellObligations reps)
         go true e = e
         go false e = ap (λ (l : List Bool). holds (o.cell r) ∷ l) e
 
     pub steps-judged : asks b (meantSteps d) ≡ map holds (obligations d)
     steps-judged =
         asks-append b (meantCells d (d .cells)) (meantPairs d (d .netReps))
-        ∙ ap₂ _++_ (cells-judged (d .cells) (own-cells d laid) ∙ ap (map (λ r. holds (o.cell r))) (design-in-order d laid) ∙ of-cells (d .cellReps))
+        ∙ ap₂ _++_
+        (cells-judged (d .cells) (own-cells d laid) ∙ ap (map (λ r. holds (o.cell r))) (design-in-order d laid)
+        ∙ of-cells (d .cellReps))
         (pairs-judged (d .netReps))
         ∙ sym (map-append holds (cellObligations (d .cellReps)) (netObligations d (d .netReps)))

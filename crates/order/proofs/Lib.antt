@@ -11,3 +11,5 @@ pub mod Ascending
 pub mod NetReads
 pub mod Marks
 pub mod Pairs
+pub mod MeantLaws
+pub mod ReadsLaws

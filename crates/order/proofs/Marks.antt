@@ -1,9 +1,10 @@
--- A slot's mark is that of its last read, none where it is never read. Each read sets its slot's mark and no other, whether its name
--- is new or known, and nothing else sets one.
+-- A slot's mark is that of its last read, none where it is never read. Each read sets its slot's mark and no other,
+-- whether its name is new or known, and nothing else sets one.
 use mathlib.Core.Path.{_≡_, refl, sym, ap, _∙_}
 use mathlib.Core.Logic.{_⊎_, inl, inr, ⊎-elim}
 use mathlib.Core.Bool.{Bool, true, false, cond}
-use mathlib.Core.List.{List, [], _∷_, _++_, List·Memᴰ, List·Memᴰ·head, List·Memᴰ·tail, List·Memᴰ·not-nil, List·Memᴰ·cases-cons}
+use mathlib.Core.List.{List, [], _∷_, _++_, List·Memᴰ, List·Memᴰ·head, List·Memᴰ·tail, List·Memᴰ·not-nil}
+use mathlib.Core.List.{List·Memᴰ·cases-cons}
 use Prim.Native.Nat.{ℕ, zero, suc, _≤_, _<_}
 use native.Mathlib.Omega.{arith}
 use lib.Dec.{eqb}
@@ -63,7 +64,8 @@ emit-marks {A} (declare a i h f) s = go (λ k s. emit-marks (f k) s) (getD (s .n
   where
     go : ((k : ℕ) (s : St) → MarkedBy (s .marks) ((emit (f k) s) .st .marks) (reads (f k) s)) → (o : ℕ)
         → MarkedBy (s .marks) ((known {X = Out A} o
-        (after (c.declare (netName a i h) 1 ∷ []) (emit (f (s .next)) (learn a i h s))) (λ k. emit (f k) (reread a i s))) .st .marks)
+        (after (c.declare (netName a i h) 1 ∷ []) (emit (f (s .next)) (learn a i h s)))
+        (λ k. emit (f k) (reread a i s))) .st .marks)
         (netRead a i h ∷ known o (reads (f (s .next)) (learn a i h s)) (λ k. reads (f k) (reread a i s)))
     go rec zero = marked-then (netRead a i h ∷ []) _ (marked-read a i h (s .marks)) (rec (s .next) (learn a i h s))
     go rec (suc k) = marked-then (netRead a i h ∷ []) _ (marked-read a i h (s .marks)) (rec k (reread a i s))
@@ -86,7 +88,8 @@ none-marked (suc n) (suc i) = none-marked n i
 pub marks-many : (d : Design) → length ((built d) .st .marks) ≡ total d
 marks-many d = (work-marks (steps d) (start (total d))) .many ∙ length-replicate {A = ℕ} (total d) _
 
-pub marks-by-last-read : (d : Design) (i : ℕ) → i < total d → getD ((built d) .st .marks) i 0 ≡ markAfter i 0 (readsOf d)
+pub marks-by-last-read : (d : Design) (i : ℕ) → i < total d → getD ((built d) .st .marks) i 0
+    ≡ markAfter i 0 (readsOf d)
 marks-by-last-read d i low =
     (work-marks (steps d) (start (total d))) .last i (rw length-replicate low)
     ∙ ap (λ (m : ℕ). markAfter i m (readsOf d)) (none-marked (total d) i)
@@ -134,7 +137,8 @@ unmarked-unread i m (r ∷ rs) e = go (eqb (r .slot) i) refl (unmarked-unread i 
     go false q u = (
       u .0,
       λ a h m.
-          ⊎-elim (λ p. eqb-false (r .slot) i q (ap (λ (n : NetRead). n .slot) (sym p))) (u .1 a h) (List·Memᴰ·cases-cons m),
+          ⊎-elim (λ p. eqb-false (r .slot) i q (ap (λ (n : NetRead). n .slot) (sym p))) (u .1 a h)
+          (List·Memᴰ·cases-cons m),
     )
 
 -- No mark is above 2.

@@ -1,4 +1,5 @@
--- The reads of runs: a sequence's are its first part's and then its second's, and a slot's net is read by its x and its y.
+-- The reads of runs: a sequence's are its first part's and then its second's, and a slot's net is read by its x and its
+-- y.
 use mathlib.Core.Path.{_≡_, refl, ap}
 use mathlib.Core.List.{List, [], _∷_, _++_}
 use Prim.Native.Nat.{ℕ, zero, suc}
@@ -16,7 +17,8 @@ reads-seq (ret a) g s = refl
 reads-seq (op t f) g s = reads-seq (f (s .next)) g _
 reads-seq (declare a i h f) g s = go (λ k s. reads-seq (f k) g s) (getD (s .names) (place a i h) 0) refl
   where
-    go : ((k : ℕ) (s : St) → reads (f k >>= g) s ≡ reads (f k) s ++ reads (g ((emit (f k) s) .res)) ((emit (f k) s) .st))
+    go : ((k : ℕ) (s : St) → reads (f k >>= g) s
+        ≡ reads (f k) s ++ reads (g ((emit (f k) s) .res)) ((emit (f k) s) .st))
         → (o : ℕ) → getD (s .names) (place a i h) 0 ≡ o
         → reads (declare a i h f >>= g) s
         ≡ reads (declare a i h f) s ++ reads (g ((emit (declare a i h f) s) .res)) ((emit (declare a i h f) s) .st)
@@ -40,4 +42,10 @@ ret-reads a s = refl
 pub slot-reads : (a : Age) (i : ℕ) (s : St) → reads (netOf a (slot i)) s ≡ netRead a i isUndef ∷ netRead a i isOne ∷ []
 unfolding netOf tvConst
 slot-reads a i s =
-    rw (reads-seq (bvConst a i isUndef), reads-seq (bvConst a i isOne), const-reads a i isUndef, const-reads a i isOne, ret-reads)
+    rw (
+      reads-seq (bvConst a i isUndef),
+      reads-seq (bvConst a i isOne),
+      const-reads a i isUndef,
+      const-reads a i isOne,
+      ret-reads,
+    )

@@ -26,13 +26,17 @@ emit-next (op t f) s = let h = emit-next (f (s .next)) (at (suc (s .next)) (s .t
 emit-next {A} (declare a i y f) s = go (λ k s. emit-next (f k) s) (getD (s .names) (place a i y) 0)
   where
     go : ((k : ℕ) (s : St) → (emit (f k) s) .st .next ≡ s .next + terms ((emit (f k) s) .calls)) → (o : ℕ)
-        → (known {X = Out A} o (after (c.declare (netName a i y) 1 ∷ []) (emit (f (s .next)) (learn a i y s))) (λ k. emit (f k) (reread a i s))) .st .next
-        ≡ s .next + terms ((known {X = Out A} o (after (c.declare (netName a i y) 1 ∷ []) (emit (f (s .next)) (learn a i y s))) (λ k. emit (f k) (reread a i s))) .calls)
+        → (known {X = Out A} o (after (c.declare (netName a i y) 1 ∷ []) (emit (f (s .next)) (learn a i y s)))
+        (λ k. emit (f k) (reread a i s))) .st .next
+        ≡ s .next + terms
+        ((known {X = Out A} o (after (c.declare (netName a i y) 1 ∷ []) (emit (f (s .next)) (learn a i y s)))
+        (λ k. emit (f k) (reread a i s))) .calls)
     go rec zero = let h = rec (s .next) (learn a i y s) in omega arith
     go rec (suc k) = rec k (reread a i s)
 emit-next (bind w t f) s = let h = emit-next (f (s .next)) (at (suc (suc (s .next))) (suc (s .temp)) s) in omega arith
 emit-next (bind2 w x y f) s =
-    let h = emit-next (f (s .next) (suc (s .next))) (at (suc (suc (suc (suc (s .next))))) (suc (s .temp)) s) in omega arith
+    let h = emit-next (f (s .next) (suc (s .next))) (at (suc (suc (suc (suc (s .next))))) (suc (s .temp)) s) in
+    omega arith
 
 pub work-next : (steps : List Step) (s : St) → (work steps s) .st .next ≡ s .next + terms ((work steps s) .calls)
 unfolding work terms

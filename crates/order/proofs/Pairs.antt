@@ -1,24 +1,12 @@
--- Every run of the builder that reads a net by its x reads it by its y too, and the other way round: a net is read by `tvConst`, which
--- asks for both, and no function asks for a name by itself.
+-- Every run of the builder that reads a net by its x reads it by its y too, and the other way round: a net is read by
+-- `tvConst`, which asks for both, and no function asks for a name by itself.
 use mathlib.Core.Path.{_≡_, ap}
 use mathlib.Core.Bool.{Bool, true, false, cond}
 use mathlib.Core.Option.{none}
 use mathlib.Core.Logic.{⊎-elim}
-use mathlib.Core.List.{
-  List,
-  [],
-  _∷_,
-  _++_,
-  List·Memᴰ,
-  List·Memᴰ·head,
-  List·Memᴰ·tail,
-  List·Memᴰ·not-nil,
-  List·Memᴰ·cases-cons,
-  List·Memᴰ·eq-of-singleton,
-  List·Memᴰ·append-cases,
-  Memᴰ·append-left,
-  Memᴰ·append-right,
-}
+use mathlib.Core.List.{List, [], _∷_, _++_, List·Memᴰ, List·Memᴰ·head, List·Memᴰ·tail, List·Memᴰ·not-nil}
+use mathlib.Core.List.{List·Memᴰ·cases-cons, List·Memᴰ·eq-of-singleton, List·Memᴰ·append-cases, Memᴰ·append-left}
+use mathlib.Core.List.{Memᴰ·append-right}
 use Prim.Native.Nat.{ℕ, zero, suc}
 use lib.ListN.{replicate}
 use Rattle.logic.specs.Net.{Net, constant, slot}
@@ -30,82 +18,16 @@ use Rattle.cell.specs.Design.{Design, total}
 use Rattle.engine.specs.Call.{BinaryOp, Term}
 use Rattle.working_out.specs.Reading.{Each, readsPast}
 use Rattle.smt.specs.Prog.{Prog, ret, _>>=_, Age, curr, past, Half, isUndef, isOne, TritVec, BitVec, vector}
-use Rattle.smt.specs.Builder.{
-  bvConcatOn,
-  bvConcat,
-  bvIsZero,
-  bvToBool,
-  boolToBv,
-  tvLit,
-  tvBind,
-  bvBind,
-  tvConcatOn,
-  tvConcat,
-  tvExtract,
-  tvIs0,
-  tvIs1,
-  tvEq,
-  tvRefines,
-  tvNot,
-  tvAnd,
-  tvOr,
-  tvXor,
-  tvMux,
-  collect,
-  netOf,
-  valueOf,
-  currNet,
-  pastNet,
-  currValue,
-  pastValue,
-  outputNets,
-  invertNet,
-  clockNet,
-  bvNoX,
-  carryX,
-  tvAdc,
-  tvEquals,
-  tvLess,
-  tvMul,
-  tvBinary,
-  Prepared,
-  tvShift,
-  firstMatch,
-  overwritten,
-  net,
-  value,
-  controlNet,
-  prepareAt,
-  shifted,
-  compared,
-  product,
-  sum,
-  matchOf,
-  matchCell,
-  enabled,
-  resetTo,
-  loaded,
-  cleared,
-  hasClear,
-  dffCell,
-  adcCell,
-  cell,
-}
+use Rattle.smt.specs.Builder.{bvConcatOn, bvConcat, bvIsZero, bvToBool, boolToBv, tvLit, tvBind, bvBind, tvConcatOn}
+use Rattle.smt.specs.Builder.{tvConcat, tvExtract, tvIs0, tvIs1, tvEq, tvRefines, tvNot, tvAnd, tvOr, tvXor, tvMux}
+use Rattle.smt.specs.Builder.{collect, netOf, valueOf, currNet, pastNet, currValue, pastValue, outputNets, invertNet}
+use Rattle.smt.specs.Builder.{clockNet, bvNoX, carryX, tvAdc, tvEquals, tvLess, tvMul, tvBinary, Prepared, tvShift}
+use Rattle.smt.specs.Builder.{firstMatch, overwritten, net, value, controlNet, prepareAt, shifted, compared, product}
+use Rattle.smt.specs.Builder.{sum, matchOf, matchCell, enabled, resetTo, loaded, cleared, hasClear, dffCell, adcCell}
+use Rattle.smt.specs.Builder.{cell}
 use Rattle.smt.specs.Emit.{St, emit}
-use Rattle.order.specs.Verify.{
-  Step,
-  declared,
-  asserted,
-  obliged,
-  claim,
-  newCell,
-  replaceNet,
-  replaceVoidNet,
-  joinPasts,
-  currents,
-  steps,
-  start,
-}
+use Rattle.order.specs.Verify.{Step, declared, asserted, obliged, claim, newCell, replaceNet, replaceVoidNet}
+use Rattle.order.specs.Verify.{joinPasts, currents, steps, start}
 use Rattle.order.specs.Reads.{NetRead, netRead, reads, stepReads, readsOf}
 use Rattle.order.proofs.NetReads.{reads-seq, slot-reads}
 use Rattle.order.proofs.EachStep.{each-step}
@@ -120,7 +42,8 @@ none-read a i h g m = absurd (List·Memᴰ·not-nil m)
 
 pub pairs-append : (rs qs : List NetRead) → Pairs rs → Pairs qs → Pairs (rs ++ qs)
 pairs-append rs qs p q a i h g m =
-    ⊎-elim (λ (l : _). Memᴰ·append-left qs (p a i h g l)) (λ (r : _). Memᴰ·append-right rs (q a i h g r)) (List·Memᴰ·append-cases rs m)
+    ⊎-elim (λ (l : _). Memᴰ·append-left qs (p a i h g l)) (λ (r : _). Memᴰ·append-right rs (q a i h g r))
+    (List·Memᴰ·append-cases rs m)
 
 abbrev pub Paired : {A : Type 0} → Prog A → Type 0
 Paired m = (s : St) → Pairs (reads m s)
@@ -142,7 +65,8 @@ paired-constant a t s = none-read
 both-halves : (a : Age) (i : ℕ) → Pairs (netRead a i isUndef ∷ netRead a i isOne ∷ [])
 both-halves a i b j h g m =
     ⊎-elim (λ e. both (ap (λ (r : NetRead). r .age) e) (ap (λ (r : NetRead). r .slot) e) g)
-    (λ m. let e = List·Memᴰ·eq-of-singleton m in both (ap (λ (r : NetRead). r .age) e) (ap (λ (r : NetRead). r .slot) e) g)
+    (λ m. let e = List·Memᴰ·eq-of-singleton m in
+    both (ap (λ (r : NetRead). r .age) e) (ap (λ (r : NetRead). r .slot) e) g)
     (List·Memᴰ·cases-cons m)
   where
     both : b ≡ a → j ≡ i → (g : Half) → List·Memᴰ (netRead b j g) (netRead a i isUndef ∷ netRead a i isOne ∷ [])

@@ -1,5 +1,5 @@
--- From bits to trits: nets whose bits pass the asserted tests show trits that solve the design's equations, and the test of an
--- obligation is false exactly when the obligation is broken.
+-- From bits to trits: nets whose bits pass the asserted tests show trits that solve the design's equations, and the
+-- test of an obligation is false exactly when the obligation is broken.
 use mathlib.Core.Path.{_≡_, refl, sym, ap, _∙_}
 use mathlib.Core.Bool.{Bool, true, false, _&&_}
 use mathlib.Core.List.{List, [], _∷_, _++_, map}
@@ -8,7 +8,8 @@ use native.Mathlib.Omega.{arith}
 use lib.Dec.{eqb}
 use borrow.Author.Tests.{ne-eqb}
 use lib.ListN.{length}
-use Rattle.logic.specs.Table.{zipWith, map-tab, length-tab}
+use Rattle.logic.specs.Table.{zipWith}
+use Rattle.logic.proofs.TableLaws.{map-tab, length-tab}
 use Rattle.logic.specs.Trit.{shows}
 use Rattle.logic.specs.Net.{Net, slot}
 use Rattle.logic.specs.declared.Trit.{Trit}
@@ -28,13 +29,16 @@ use Rattle.working_out.specs.Obligations.{allRefine}
 use Rattle.smt.specs.Prog.{curr}
 use Rattle.smt.specs.Builder.{outputNets}
 use Rattle.smt.specs.Formula.{TritBits, tb, NetBits, refinesBits}
-use Rattle.smt.specs.Refines.{same-bits, refines-shows}
-use Rattle.smt.specs.Shows.{Shown, Shows, empty, lane, shown-is}
+use Rattle.smt.proofs.Refines.{same-bits, refines-shows}
+use Rattle.smt.proofs.Shows.{Shown, Shows, empty, lane, shown-is}
 use Rattle.smt.specs.CellBits.{currBits, netBit, cellBits}
-use Rattle.smt.specs.CellShows.{tritsOf, read-shows, value-shows, cell-bits-show}
+use Rattle.smt.specs.CellShows.{tritsOf}
+use Rattle.smt.proofs.CellShowsLaws.{read-shows, value-shows, cell-bits-show}
 use Rattle.order.proofs.Asserted.{asserted-not-input, asserted-some, asserted-claimed}
 use Rattle.order.specs.Verify.{newCellIn}
-use Rattle.order.specs.Meant.{Meant, meantAdd, meantNew, meantCell, meantCells, meantPair, meantPairs, meantSteps, claimTest, voidTest, SaidOf}
+use Rattle.order.specs.Meant.{Meant, meantAdd, meantNew, meantCell, meantCells, meantPair, meantPairs, meantSteps}
+use Rattle.order.specs.Meant.{claimTest, voidTest}
+use Rattle.order.proofs.MeantLaws.{SaidOf}
 
 -- ---- tv_refines: false exactly where some bit of from is defined and to is not the same trit
 
@@ -43,7 +47,8 @@ pub refines-shown : {n : ℕ} {x y u w : Bits} {ts us : List Trit} → Shown n x
 unfolding allRefine
 refines-shown p q = refines-shows p q ∙ trits p q
   where
-    trits : {n : ℕ} {x y u w : Bits} {ts us : List Trit} → Shown n x y ts → Shown n u w us → all (zipWith refines ts us) ≡ allRefine ts us
+    trits : {n : ℕ} {x y u w : Bits} {ts us : List Trit} → Shown n x y ts → Shown n u w us → all (zipWith refines ts us)
+        ≡ allRefine ts us
     trits empty empty = refl
     trits (lane a b p) (lane u w q) = ap (λ (r : Bool). refines (shows a b) (shows u w) && r) (trits p q)
 
@@ -53,7 +58,8 @@ module _ (d : Design) (b : NetBits) where
   abbrev θ : Trits
   θ = tritsOf b
 
-  pub current-shows : (nets : List Net) → Shows (length nets) (currBits (readsPast d) b nets) (map (ofNet (θ .now)) nets)
+  pub current-shows : (nets : List Net) →
+      Shows (length nets) (currBits (readsPast d) b nets) (map (ofNet (θ .now)) nets)
   current-shows = read-shows b (λ i. curr) (θ .now) (λ i. refl)
 
   -- The outputs of a cell.
@@ -66,11 +72,15 @@ module _ (d : Design) (b : NetBits) where
   cell-shown : (s : ℕ) (a : Cell) → Shaped a → asserted a ≡ true → claimTest (readsPast d) s (outputLen a) a b ≡ true
       → map (θ .now) (outputs s (outputLen a)) ≡ tritRule d (θ .was) s a (θ .now)
   cell-shown s a shaped h said =
-      let same = same-bits (currBits (readsPast d) b (outputNets s (outputLen a))) (cellBits (readsPast d) b s (outputLen a) a) said in
+      let same =
+      same-bits (currBits (readsPast d) b (outputNets s (outputLen a))) (cellBits (readsPast d) b s (outputLen a) a)
+      said in
       let rule = cell-bits-show (readsPast d) b s a shaped (asserted-not-input a h) (asserted-some a h) in
-      sym (shown-is (outputs-show s (outputLen a))) ∙ ap (λ (t : TritBits). zipWith shows (t .x) (t .y)) same ∙ shown-is rule
+      sym (shown-is (outputs-show s (outputLen a))) ∙ ap (λ (t : TritBits). zipWith shows (t .x) (t .y)) same
+      ∙ shown-is rule
 
-  void-shown : (i : ℕ) (to : Net) → voidTest (readsPast d) (slot i) to b ≡ true → θ .now i ∷ [] ≡ tritRule d (θ .was) i (bufOf to) (θ .now)
+  void-shown : (i : ℕ) (to : Net) → voidTest (readsPast d) (slot i) to b ≡ true → θ .now i ∷ []
+      ≡ tritRule d (θ .was) i (bufOf to) (θ .now)
   void-shown i to said =
       let same = same-bits (currBits (readsPast d) b (slot i ∷ [])) (netBit (readsPast d) b to) said in
       sym (shown-is (current-shows (slot i ∷ []))) ∙ ap (λ (t : TritBits). zipWith shows (t .x) (t .y)) same
@@ -89,7 +99,8 @@ module _ (d : Design) (b : NetBits) where
   claim-said : (p : Placed) → asserted (p .cell) ≡ true → Each (SaidOf b) (meantCell d p)
       → claimTest (readsPast d) (p .slot) (outputLen (p .cell)) (p .cell) b ≡ true
   claim-said p h said =
-      let w : eqb (outputLen (p .cell)) 0 ≡ false = ne-eqb (outputLen (p .cell)) 0 (λ e. let l = asserted-some (p .cell) h in omega arith) in
+      let w : eqb (outputLen (p .cell)) 0 ≡ false =
+      ne-eqb (outputLen (p .cell)) 0 (λ e. let l = asserted-some (p .cell) h in omega arith) in
       let add : Each (SaidOf b) (meantAdd (readsPast d) (p .slot) (outputLen (p .cell)) (p .cell)
       ∷ meantNew (readsPast d) (p .slot) (outputLen (p .cell)) (newCellIn (d .cellReps) (p .slot))) = rw w at said in
       rw (asserted-claimed (p .cell) h) at (add .0)
@@ -109,11 +120,13 @@ module _ (d : Design) (b : NetBits) where
       let one : Each (SaidOf b) (meantPair (readsPast d) ofVoid p) = rw e at said in
       one .0
 
-  voids-shown : (pairs : List NetPair) → Each (SaidOf b) (meantPairs d pairs) → Each (VoidShown (tritRule d (θ .was)) d (θ .now)) pairs
+  voids-shown : (pairs : List NetPair) → Each (SaidOf b) (meantPairs d pairs) →
+      Each (VoidShown (tritRule d (θ .was)) d (θ .now)) pairs
   unfolding meantPairs
   voids-shown [] said = tt
   voids-shown (p ∷ pairs) said = (
-    λ e i from. void-shown i (p .to) (rw from at (void-said p e (left (meantPair (readsPast d) (pairOf d p) p) _ said))),
+    λ e i from. void-shown i (p .to)
+        (rw from at (void-said p e (left (meantPair (readsPast d) (pairOf d p) p) _ said))),
     voids-shown pairs (right (meantPair (readsPast d) (pairOf d p) p) _ said),
   )
 

@@ -7,63 +7,31 @@ use Prim.Native.Nat.{ℕ, _+_, _<_}
 use native.Mathlib.Omega.{arith}
 use lib.Dec.{eqb}
 use borrow.Author.Tests.{eqb-false}
-use Rattle.logic.specs.Table.{length-tab}
+use Rattle.logic.proofs.TableLaws.{length-tab}
 use Rattle.logic.specs.Net.{Net, slot}
 use Rattle.cell.specs.Cell.{Cell, outputLen}
 use Rattle.cell.specs.Design.{Design, Placed, NetPair}
 use Rattle.rules.specs.Shape.{Shaped}
 use Rattle.engine.specs.Meaning.{Value, bool, asBool, all, Assignment}
 use Rattle.working_out.specs.Laid.{Laid, CellLaid}
-use Rattle.working_out.specs.Reading.{Each, each-append, cellOf, readsPast, Pair, equal, ofVoid, ofDffs, ordinary, pairOf}
+use Rattle.working_out.specs.Reading.{Each, cellOf, readsPast, Pair, equal, ofVoid, ofDffs, ordinary, pairOf}
+use Rattle.working_out.proofs.ReadingLaws.{each-append}
 use Rattle.smt.specs.Prog.{_>>=_, curr, past}
 use Rattle.smt.specs.Builder.{currNet, pastNet, currValue, outputNets, net, cell}
 use Rattle.smt.specs.Formula.{netBits}
-use Rattle.smt.specs.Wp.{wp, wp-mono, wp-seq}
-use Rattle.smt.specs.Terms.{Is, netOf-wp, valueOf-wp, tvEq-wp, tvRefines-wp}
-use Rattle.smt.specs.CellBits.{NotInput, currBits, net-wp, cell-wp}
+use Rattle.smt.specs.Wp.{wp}
+use Rattle.smt.proofs.WpLaws.{wp-mono, wp-seq}
+use Rattle.smt.proofs.Terms.{Is, netOf-wp, valueOf-wp, tvEq-wp, tvRefines-wp}
+use Rattle.smt.specs.CellBits.{NotInput, currBits}
+use Rattle.smt.proofs.CellBitsLaws.{net-wp, cell-wp}
 use Rattle.order.proofs.Found.{own-cells, may-replace, new-found}
-use Rattle.order.specs.Meant.{
-  Meant,
-  claimTest,
-  newTest,
-  netTest,
-  voidTest,
-  joinTest,
-  currentTest,
-  meantAdd,
-  meantNew,
-  meantPair,
-  meantCell,
-  meantCells,
-  meantPairs,
-  meantSteps,
-  stepsOf,
-  Says,
-  StepIs,
-  truths,
-  MeantIs,
-}
-use Rattle.order.specs.Verify.{
-  Step,
-  declared,
-  asserted,
-  isInput,
-  claim,
-  addCell,
-  newCell,
-  replaceNet,
-  replaceVoidNet,
-  joinPasts,
-  currents,
-  newCellIn,
-  withNew,
-  cellSteps,
-  pairSteps,
-  eachCell,
-  eachPair,
-  steps,
-  query,
-}
+use Rattle.order.specs.Meant.{Meant, claimTest, newTest, netTest, voidTest, joinTest, currentTest, meantAdd}
+use Rattle.order.specs.Meant.{meantNew, meantPair, meantCell, meantCells, meantPairs, meantSteps, Says, StepIs}
+use Rattle.order.specs.Meant.{MeantIs}
+use Rattle.order.proofs.MeantLaws.{stepsOf, truths}
+use Rattle.order.specs.Verify.{Step, declared, asserted, isInput, claim, addCell, newCell, replaceNet}
+use Rattle.order.specs.Verify.{replaceVoidNet, joinPasts, currents, newCellIn, withNew, cellSteps, pairSteps}
+use Rattle.order.specs.Verify.{eachCell, eachPair, steps, query}
 
 -- ---- these are the steps
 
@@ -95,7 +63,8 @@ cells-steps : (d : Design) (cells : List Placed) → stepsOf (meantCells d cells
 unfolding meantCells eachCell
 cells-steps d [] = refl
 cells-steps d (p ∷ cells) =
-    map-append (λ (m : Meant). m .step) (meantCell d p) (meantCells d cells) ∙ ap₂ _++_ (cell-steps d p) (cells-steps d cells)
+    map-append (λ (m : Meant). m .step) (meantCell d p) (meantCells d cells)
+    ∙ ap₂ _++_ (cell-steps d p) (cells-steps d cells)
 
 pairs-steps : (d : Design) (pairs : List NetPair) → stepsOf (meantPairs d pairs) ≡ eachPair d pairs
 unfolding meantPairs eachPair
@@ -114,7 +83,9 @@ steps-are d =
 module _ (ρ : Assignment) (v : ℕ → Value) where
   out-wp : (rp : ℕ → Bool) (s w : ℕ) → 0 < w
       → wp ρ v (currValue (outputNets s w)) (λ r. Is ρ v r (currBits rp (netBits ρ) (outputNets s w)))
-  out-wp rp s w wide = valueOf-wp ρ v currNet (λ i. curr) (netOf-wp ρ v curr) (outputNets s w) (rw (length-tab w (λ (i : ℕ). slot (s + i))) wide)
+  out-wp rp s w wide =
+      valueOf-wp ρ v currNet (λ i. curr) (netOf-wp ρ v curr) (outputNets s w)
+      (rw (length-tab w (λ (i : ℕ). slot (s + i))) wide)
 
   module _ (rp : ℕ → Bool) where
     claim-is : (s : ℕ) (a : Cell) → Shaped a → NotInput a → 0 < outputLen a
@@ -164,8 +135,12 @@ module _ (ρ : Assignment) (v : ℕ → Value) where
         w : ℕ
         w = outputLen a
 
-        go : (b : Bool) → isInput a ≡ b → StepIs ρ v (cond b (declared (currValue (outputNets s (outputLen a)))) (asserted (claim rp s (outputLen a) a))) (claimTest rp s (outputLen a) a)
-        go true e = wp-mono ρ v (currValue (outputNets s (outputLen a))) _ _ (λ r _. tt) (out-wp rp s (outputLen a) wide)
+        go : (b : Bool) → isInput a ≡ b →
+            StepIs ρ v
+            (cond b (declared (currValue (outputNets s (outputLen a)))) (asserted (claim rp s (outputLen a) a)))
+            (claimTest rp s (outputLen a) a)
+        go true e =
+            wp-mono ρ v (currValue (outputNets s (outputLen a))) _ _ (λ r _. tt) (out-wp rp s (outputLen a) wide)
         go false e = claim-is s a shaped (λ n q. true≢false (sym (ap isInput q) ∙ e)) wide
 
   -- The query is false just where every obligation's term is true.
@@ -179,12 +154,17 @@ pub positive : (n : ℕ) → (n ≡ 0 → ⊥) → 0 < n
 positive n ne = omega arith
 
 module _ (d : Design) (laid : Laid d) (ρ : Assignment) (v : ℕ → Value) where
-  new-means : (p : Placed) → cellOf d (p .slot) ≡ p → 0 < outputLen (p .cell) → (o : Option Cell) → newCellIn (d .cellReps) (p .slot) ≡ o
+  new-means : (p : Placed) → cellOf d (p .slot) ≡ p → 0 < outputLen (p .cell) → (o : Option Cell) →
+      newCellIn (d .cellReps) (p .slot) ≡ o
       → Each (MeantIs ρ v) (meantNew (readsPast d) (p .slot) (outputLen (p .cell)) o)
   new-means p own wide none e = tt
   new-means p own wide (some a) e =
-      let n = new-found d laid p own a e in
-      (rw (n .width) at (new-is ρ v (readsPast d) (p .slot) a (n .laid .shaped) (may-replace a (n .replaces .new)) (rw (n .width) wide)), tt)
+      let n = new-found d laid p own a e in (
+        rw (n .width)
+            at (new-is ρ v (readsPast d) (p .slot) a (n .laid .shaped) (may-replace a (n .replaces .new))
+            (rw (n .width) wide)),
+        tt,
+      )
 
   cell-means : (p : Placed) → cellOf d (p .slot) ≡ p → Shaped (p .cell) → Each (MeantIs ρ v) (meantCell d p)
   cell-means p own shaped = go (eqb (outputLen (p .cell)) 0) refl
@@ -194,30 +174,37 @@ module _ (d : Design) (laid : Laid d) (ρ : Assignment) (v : ℕ → Value) wher
           ∷ meantNew (readsPast d) (p .slot) (outputLen (p .cell)) (newCellIn (d .cellReps) (p .slot))))
       go true e = tt
       go false e =
-          let wide = positive (outputLen (p .cell)) (eqb-false (outputLen (p .cell)) 0 e) in
-          (add-is ρ v (readsPast d) (p .slot) (p .cell) shaped wide, new-means p own wide (newCellIn (d .cellReps) (p .slot)) refl)
+          let wide = positive (outputLen (p .cell)) (eqb-false (outputLen (p .cell)) 0 e) in (
+            add-is ρ v (readsPast d) (p .slot) (p .cell) shaped wide,
+            new-means p own wide (newCellIn (d .cellReps) (p .slot)) refl,
+          )
 
   cells-mean : (cells : List Placed) → Each (λ (p : Placed). cellOf d (p .slot) ≡ p) cells → Each (CellLaid d) cells
       → Each (MeantIs ρ v) (meantCells d cells)
   unfolding meantCells
   cells-mean [] own laid = tt
   cells-mean (p ∷ cells) own laid =
-      each-append (MeantIs ρ v) (meantCell d p) (meantCells d cells) (cell-means p (own .0) (laid .0 .shaped)) (cells-mean cells (own .1) (laid .1))
+      each-append (MeantIs ρ v) (meantCell d p) (meantCells d cells) (cell-means p (own .0) (laid .0 .shaped))
+      (cells-mean cells (own .1) (laid .1))
 
   pair-means : (k : Pair) (p : NetPair) → Each (MeantIs ρ v) (meantPair (readsPast d) k p)
   pair-means equal p = tt
   pair-means ofVoid p = (void-is ρ v (readsPast d) (p .from) (p .to), tt)
-  pair-means ofDffs p =
-      (join-is ρ v (readsPast d) (p .from) (p .to), (current-is ρ v (readsPast d) (p .from) (p .to), (net-is ρ v (readsPast d) (p .from) (p .to), tt)))
+  pair-means ofDffs p = (
+    join-is ρ v (readsPast d) (p .from) (p .to),
+    (current-is ρ v (readsPast d) (p .from) (p .to), (net-is ρ v (readsPast d) (p .from) (p .to), tt)),
+  )
   pair-means ordinary p = (net-is ρ v (readsPast d) (p .from) (p .to), tt)
 
   pairs-mean : (pairs : List NetPair) → Each (MeantIs ρ v) (meantPairs d pairs)
   unfolding meantPairs
   pairs-mean [] = tt
   pairs-mean (p ∷ pairs) =
-      each-append (MeantIs ρ v) (meantPair (readsPast d) (pairOf d p) p) (meantPairs d pairs) (pair-means (pairOf d p) p) (pairs-mean pairs)
+      each-append (MeantIs ρ v) (meantPair (readsPast d) (pairOf d p) p) (meantPairs d pairs)
+      (pair-means (pairOf d p) p) (pairs-mean pairs)
 
   pub steps-mean : Each (MeantIs ρ v) (meantSteps d)
   steps-mean =
-      each-append (MeantIs ρ v) (meantCells d (d .cells)) (meantPairs d (d .netReps)) (cells-mean (d .cells) (own-cells d laid) (laid .cells))
+      each-append (MeantIs ρ v) (meantCells d (d .cells)) (meantPairs d (d .netReps))
+      (cells-mean (d .cells) (own-cells d laid) (laid .cells))
       (pairs-mean (d .netReps))

@@ -1,36 +1,22 @@
--- What the steps of the order of work mean: each with its test, what its term says of the nets' bits; and what a valuation that meets
--- the calls of the steps says of the tests.
+-- What the steps of the order of work mean: each with its test, what its term says of the nets' bits; and what a
+-- valuation that meets the calls of the steps says of the tests.
 use mathlib.Core.Path.{_≡_}
-use mathlib.Core.Bool.{Bool, true, cond}
+use mathlib.Core.Bool.{Bool, cond}
 use mathlib.Core.Option.{Option, none, some}
-use mathlib.Core.List.{List, [], _∷_, _++_, map}
+use mathlib.Core.List.{List, [], _∷_, _++_}
 use Prim.Native.Nat.{ℕ}
 use lib.Dec.{eqb}
 use Rattle.logic.specs.Net.{Net}
 use Rattle.cell.specs.Cell.{Cell, outputLen}
 use Rattle.cell.specs.Design.{Design, Placed, NetPair}
-use Rattle.engine.specs.Call.{Call}
-use Rattle.engine.specs.Meaning.{Value, bool, asBool, Assignment, Holds}
-use Rattle.working_out.specs.Reading.{Each, readsPast, Pair, equal, ofVoid, ofDffs, ordinary, pairOf}
+use Rattle.engine.specs.Meaning.{Value, bool, Assignment}
+use Rattle.working_out.specs.Reading.{readsPast, Pair, equal, ofVoid, ofDffs, ordinary, pairOf}
 use Rattle.smt.specs.Builder.{outputNets}
-use Rattle.smt.specs.Emit.{St}
 use Rattle.smt.specs.Formula.{NetBits, netBits, sameBits, refinesBits}
-use Rattle.smt.specs.Wp.{Known, wp}
+use Rattle.smt.specs.Wp.{wp}
 use Rattle.smt.specs.CellBits.{netBit, pastBits, currBits, cellBits}
-use Rattle.order.specs.Verify.{
-  Step,
-  declared,
-  asserted,
-  obliged,
-  addCell,
-  newCell,
-  replaceNet,
-  replaceVoidNet,
-  joinPasts,
-  currents,
-  newCellIn,
-  work,
-}
+use Rattle.order.specs.Verify.{Step, declared, asserted, obliged, addCell, newCell, replaceNet, replaceVoidNet}
+use Rattle.order.specs.Verify.{joinPasts, currents, newCellIn}
 
 pub record Meant : Type 0 where
   pub step : Step
@@ -91,33 +77,6 @@ meantPairs d (p ∷ pairs) = meantPair (readsPast d) (pairOf d p) p ++ meantPair
 abbrev pub meantSteps : Design → List Meant
 meantSteps d = meantCells d (d .cells) ++ meantPairs d (d .netReps)
 
-abbrev pub stepsOf : List Meant → List Step
-stepsOf = map (λ m. m .step)
-
--- ---- what each step says
-
--- The tests of the asserted steps hold, and those of the obliged steps in order.
-abbrev pub Said : NetBits → Step → (NetBits → Bool) → Type 0
-Said b (declared m) t = Unit {0}
-Said b (asserted m) t = t b ≡ true
-Said b (obliged m) t = Unit {0}
-
-abbrev pub SaidOf : NetBits → Meant → Type 0
-SaidOf b m = Said b (m .step) (m .test)
-
-abbrev pub ask : Step → Bool → List Bool → List Bool
-ask (declared m) t l = l
-ask (asserted m) t l = l
-ask (obliged m) t l = t ∷ l
-
-unfoldable pub asks : NetBits → List Meant → List Bool
-asks b [] = []
-asks b (m ∷ ms) = ask (m .step) (m .test b) (asks b ms)
-
--- The Bools of terms.
-unfoldable pub truths : (ℕ → Value) → List ℕ → List Bool
-truths v l = map (λ k. asBool (v k)) l
-
 module _ (ρ : Assignment) (v : ℕ → Value) where
   abbrev pub Says : (NetBits → Bool) → ℕ → Type 0
   Says t r = v r ≡ bool (t (netBits ρ))
@@ -129,9 +88,3 @@ module _ (ρ : Assignment) (v : ℕ → Value) where
 
   abbrev pub MeantIs : Meant → Type 0
   MeantIs m = StepIs (m .step) (m .test)
-
-  pub record Worked (ms : List Meant) (s : St) (rest : List Call) : Type 0 where
-    pub said : Each (SaidOf (netBits ρ)) ms
-    pub judged : truths v ((work (stepsOf ms) s) .res) ≡ asks (netBits ρ) ms
-    pub names : Known ρ v ((work (stepsOf ms) s) .st .names)
-    pub more : Holds ρ v ((work (stepsOf ms) s) .st .next) rest

@@ -1,14 +1,14 @@
--- Document 01: "The builder marks each slot in the recorded slice 0 (none), 1 (n) or 2 (p), by its last read." The reads of nets of
--- a run, in order: every name that is declared, a known one among them, whose declaring reuses its number and adds no record.
+-- Document 01: "The builder marks each slot in the recorded slice 0 (none), 1 (n) or 2 (p), by its last read." The
+-- reads of nets of a run, in order: every name that is declared, a known one among them, whose declaring reuses its
+-- number and adds no record.
 use mathlib.Core.Bool.{cond}
 use mathlib.Core.List.{List, [], _∷_, _++_}
 use Prim.Native.Nat.{ℕ, suc}
 use lib.Dec.{eqb}
 use lib.ListN.{getD}
-use Rattle.engine.specs.Call.{Name}
 use Rattle.cell.specs.Design.{Design, total}
 use Rattle.smt.specs.Prog.{Prog, ret, op, declare, bind, bind2, Age, Half}
-use Rattle.smt.specs.Emit.{St, netName, place, mark, at, reread, learn, known, emit}
+use Rattle.smt.specs.Emit.{St, place, mark, at, reread, learn, known, emit}
 use Rattle.order.specs.Verify.{Step, declared, asserted, obliged, steps, start}
 
 -- n or p of a slot, its x or its y.
@@ -19,9 +19,6 @@ pub record NetRead : Type 0 where
 
 abbrev pub netRead : Age → ℕ → Half → NetRead
 netRead a i h = record { age = a; slot = i; half = h }
-
-abbrev pub nameOf : NetRead → Name
-nameOf r = netName (r .age) (r .slot) (r .half)
 
 -- The reads of a run from the builder's state, which goes on as in `emit`.
 unfoldable pub reads : {A : Type 0} → Prog A → St → List NetRead

@@ -1,1 +1,2 @@
-// The order of work (design.rs, `Design::verify`): its model, and what its steps mean, in specs/.
+// The order of work (design.rs, `Design::verify`): its model, and what its steps mean, in specs/; their
+// laws in proofs/.

@@ -9,9 +9,9 @@ use lib.Dec.{ltb}
 use lib.ListN.{length, drop, set}
 use borrow.Author.Tests.{ltb-false}
 use Rattle.builder.specs.declared.Counts.{Counts}
-use Rattle.design.specs.declared.Verified.{Verified}
-use Rattle.design.specs.declared.Verified.the-variants.{Refused, NothingAsked, Asked}
-use Rattle.design.specs.Verified.{unroomed}
+use Rattle.requirement.specs.declared.Verified.{Verified}
+use Rattle.requirement.specs.declared.Verified.the-variants.{Refused, NothingAsked, Asked}
+use Rattle.requirement.specs.Verified.{unroomed}
 use Rattle.packed.specs.Verified.{packedVerified, roomed, lent, countsAfter, PackedCounts}
 
 pub three-set : (l : List ℕ) (a b c : ℕ) → 3 ≤ length l → set (set (set l 0 a) 1 b) 2 c ≡ a ∷ b ∷ c ∷ drop 3 l

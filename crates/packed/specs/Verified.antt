@@ -7,9 +7,9 @@ use Prim.Native.Nat.{ℕ, _+_, _*_, _^_}
 use lib.Dec.{ltb}
 use lib.ListN.{length, drop}
 use Rattle.builder.specs.declared.Counts.{Counts}
-use Rattle.design.specs.declared.Verified.{Verified}
-use Rattle.design.specs.declared.Verified.the-variants.{Refused, NothingAsked, Asked}
-use Rattle.design.specs.Verified.{numberOf, valueOf, verified, unroomed, callsAfter, recordedAfter}
+use Rattle.requirement.specs.declared.Verified.{Verified}
+use Rattle.requirement.specs.declared.Verified.the-variants.{Refused, NothingAsked, Asked}
+use Rattle.requirement.specs.Verified.{numberOf, valueOf, verified, unroomed, callsAfter, recordedAfter}
 use Rattle.packing.specs.Packed.{packedAs}
 
 -- 1 where something is asked.

@@ -1,7 +1,7 @@
 // What the order of work answers, packed into one word of 64 bits.
 use builder::Counts;
-use design::Verified;
 use logic::Fault;
+use requirement::Verified;
 ghost use mathlib.Core.Path.{_≡_};
 ghost use lib.ListN.{length};
 ghost use Prim.Native.Nat.{_≤_};

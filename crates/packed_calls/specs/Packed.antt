@@ -1,5 +1,5 @@
--- The answers of checker, evaluator, writer and answer reader, packed into one word of 64 bits: bits 63 to 48 the fault number (0: none), bits 47 to
--- 0 its place or what the entry says.
+-- The answers of checker, evaluator, writer and answer reader, packed into one word of 64 bits: bits 63 to 48 the fault
+-- number (0: none), bits 47 to 0 its place or what the entry says.
 use mathlib.Core.Path.{_≡_}
 use mathlib.Core.Bool.{cond}
 use mathlib.Core.List.{List}
@@ -24,7 +24,8 @@ use Rattle.answer.specs.declared.Answer.the-variants.{Unsat, Sat}
 use Rattle.answer.specs.Reply.{answerOf, replyTo, tableAfter}
 use Rattle.packing.specs.Packed.{packedAs, packedFault}
 
--- The checker's answer, with the room lent for the numbers of terms and of declared names: 19 at its place, then 14 at 2; below 0 the terms.
+-- The checker's answer, with the room lent for the numbers of terms and of declared names: 19 at its place, then 14 at
+-- 2; below 0 the terms.
 abbrev pub packedChecked : CallList → ℕ → ℕ
 packedChecked (WellFormed terms declared) room = cond (ltb room 2) (packedAs 14 2) (terms % 2 ^ 48)
 packedChecked (Malformed place) room = packedAs 19 place

@@ -1,12 +1,13 @@
-// What checker, evaluator, writer and answer reader say, packed into one word of 64 bits. Where a caller lends tables, what they hold afterwards is
-// free.
+// What checker, evaluator, writer and answer reader say, packed into one word of 64 bits. Where a caller lends tables,
+// what they hold afterwards is free.
 use answer::Answer;
 use checker::CallList;
 use eval::Evaluation;
 use logic::Fault;
 use script::Written;
 ghost use mathlib.Core.Path.{_≡_};
-ghost use Rattle.packed_calls.specs.Packed.{PackedCheck, checkedOf, packedEvaluation, PackedEvaluation, packedWritten, PackedScript, PackedAnswer};
+ghost use Rattle.packed_calls.specs.Packed.{PackedCheck, checkedOf, packedEvaluation, PackedEvaluation};
+ghost use Rattle.packed_calls.specs.Packed.{packedWritten, PackedScript, PackedAnswer};
 
 // ---- the checker
 
@@ -30,7 +31,8 @@ fn packed_check(checked: CallList, sizes: &mut [u64]) -> u64
     }
 }
 
-// Checks a call list: 19 and its place, or 0 and the number of terms, which goes into a slice with that of the declared names.
+// Checks a call list: 19 and its place, or 0 and the number of terms, which goes into a slice with that of the declared
+// names.
 pub fn check(calls: &[u32], sizes: &mut [u64]) -> u64
     ensures { λ r. ⌜ PackedCheck (checkedOf (now (calls .entry))) (now (sizes .entry)) (now (sizes .exit)) r ⌝ }
 {
@@ -63,7 +65,8 @@ fn packed_evaluation(answer: Evaluation) -> u64
 
 // Evaluates a call list: the fault's number and place, or 0 and the number of false assertions.
 pub fn evaluate(calls: &[u32], bits: &[u64], values: &mut [u64]) -> u64
-    ensures { λ r. ⌜ PackedEvaluation (now (calls .entry)) (now (bits .entry)) (now (values .entry)) (now (values .exit)) r ⌝ }
+    ensures { λ r.
+        ⌜ PackedEvaluation (now (calls .entry)) (now (bits .entry)) (now (values .entry)) (now (values .exit)) r ⌝ }
 {
     packed_evaluation(eval::evaluate(calls, bits, values))
 }
@@ -76,7 +79,8 @@ pub fn evaluate_with(
     sorts: &mut [u8],
     names: &mut [u8],
 ) -> u64
-    ensures { λ r. ⌜ PackedEvaluation (now (calls .entry)) (now (bits .entry)) (now (values .entry)) (now (values .exit)) r ⌝ }
+    ensures { λ r.
+        ⌜ PackedEvaluation (now (calls .entry)) (now (bits .entry)) (now (values .entry)) (now (values .exit)) r ⌝ }
 {
     packed_evaluation(eval::evaluate_with(calls, bits, values, sorts, names))
 }
@@ -94,7 +98,8 @@ fn packed_written(answer: Written) -> u64
 
 // Writes a script: the fault's number and place, or 0 and the number of bytes.
 pub fn script(calls: &[u32], recorded: &[u8], text: &mut [u8]) -> u64
-    ensures { λ r. ⌜ PackedScript (now (calls .entry)) (now (recorded .entry)) (now (text .entry)) (now (text .exit)) r ⌝ }
+    ensures { λ r.
+        ⌜ PackedScript (now (calls .entry)) (now (recorded .entry)) (now (text .entry)) (now (text .exit)) r ⌝ }
 {
     packed_written(script::write_script(calls, recorded, text))
 }
@@ -108,7 +113,8 @@ pub fn script_with(
     sorts: &mut [u8],
     names: &mut [u8],
 ) -> u64
-    ensures { λ r. ⌜ PackedScript (now (calls .entry)) (now (recorded .entry)) (now (text .entry)) (now (text .exit)) r ⌝ }
+    ensures { λ r.
+        ⌜ PackedScript (now (calls .entry)) (now (recorded .entry)) (now (text .entry)) (now (text .exit)) r ⌝ }
 {
     packed_written(script::write_script_with(calls, recorded, text, places, sorts, names))
 }
@@ -117,7 +123,8 @@ pub fn script_with(
 
 // Reads a solver's answer: the fault's number and place, or 0 for unsat and 1 for sat.
 pub fn answer(text: &[u8], recorded: &[u8], trits: &mut [u8]) -> u64
-    ensures { λ r. ⌜ PackedAnswer (now (text .entry)) (now (recorded .entry)) (now (trits .entry)) (now (trits .exit)) r ⌝ }
+    ensures { λ r.
+        ⌜ PackedAnswer (now (text .entry)) (now (recorded .entry)) (now (trits .entry)) (now (trits .exit)) r ⌝ }
 {
     match answer::read_answer(text, recorded, trits) {
         Answer::Refused(f) => packing::packed_fault(f),

@@ -1,4 +1,5 @@
--- Document 01, "Examples": the pieces of the example script's lines. How a term is written depends on the calls that made it.
+-- Document 01, "Examples": the pieces of the example script's lines. How a term is written depends on the calls that
+-- made it.
 use mathlib.Core.List.{List, [], _∷_, _++_}
 use Prim.Native.Nat.{ℕ}
 use lib.ListN.{getD}

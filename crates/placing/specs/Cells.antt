@@ -30,7 +30,8 @@ onRecord (R.Refused e) f = P.Refused e
 unfoldable pub placedAt : List ℕ → ℕ → ℕ → ℕ → ℕ → Placing
 placedAt w base total slot at =
     onRecord (recordAt w total at) (λ (op : Operation) (width next : ℕ).
-    cond (leb (slot + max 1 width) (limitOf base total slot)) (P.Placed op width (record { 0 = slot + max 1 width }) next) (P.Refused (fault 11 at)))
+    cond (leb (slot + max 1 width) (limitOf base total slot))
+    (P.Placed op width (record { 0 = slot + max 1 width }) next) (P.Refused (fault 11 at)))
 
 abbrev pub onPlaced : Placing → (ℕ → ℕ → Reading Placed) → Reading Placed
 onPlaced (P.Placed op width after next) f = f (after .0) next

@@ -1,4 +1,4 @@
 pub mod Slots
 pub mod Cells
-pub mod Laws
+pub mod Placement
 pub mod Cover

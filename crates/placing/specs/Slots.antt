@@ -1,4 +1,5 @@
--- Document 01, "Words": a cell takes max(1, output width) slots, one cell after another. What stands at each slot, and the words that say so.
+-- Document 01, "Words": a cell takes max(1, output width) slots, one cell after another. What stands at each slot, and
+-- the words that say so.
 use Prim.Native.Nat.{ℕ, _+_, _*_}
 use mathlib.Core.List.{List, [], _∷_, _++_, map}
 use mathlib.Core.Bool.{Bool, false, cond}
@@ -32,7 +33,8 @@ heads cells base slot width =
 unfoldable pub isVoid : List Placed → ℕ → ℕ → Bool
 isVoid cells base slot = cond (ltb slot base) (eqb (standing (takes cells slot .cell)) 0) false
 
--- The word for a slot: what stands there (0 a Void, 1 a Dff, 2 another cell) + 4 × (0 base, 1 added) + 8 × output width + 1,024 × first slot.
+-- The word for a slot: what stands there (0 a Void, 1 a Dff, 2 another cell) + 4 × (0 base, 1 added) + 8 × output width
+-- + 1,024 × first slot.
 abbrev pub markWord : ℕ → ℕ → ℕ → ℕ → ℕ
 markWord base stands width first = stands + 4 * cond (ltb first base) 0 1 + 8 * width + 1024 * first
 

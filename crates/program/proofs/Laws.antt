@@ -17,7 +17,7 @@ use Rattle.design_list.specs.declared.Extent.{Extent}
 use Rattle.design_list.specs.declared.DesignRead.the-variants as D
 use Rattle.design_list.specs.Read.{Read, refused, accepted, read, answer}
 use Rattle.engine.specs.Emit.{Wrote, counted}
-use Rattle.text.specs.Write.{overwrite-fits}
+use Rattle.text.proofs.Write.{overwrite-fits}
 use Rattle.engine.specs.WellFormed.{malformedAt}
 use Rattle.engine.specs.Encode.{decode}
 use Rattle.asked.specs.Marks.{badMark}
@@ -27,13 +27,14 @@ use Rattle.script.specs.declared.Written.{Written}
 use Rattle.script.specs.declared.Written.the-variants.{Bytes, Refused}
 use Rattle.script.specs.Written.{scriptOf, roomFor, onFine, onFormed, marked, written, textAfter, Scripted}
 use Rattle.builder.specs.declared.Counts.{Counts}
-use Rattle.design.specs.declared.Verified.{Verified}
-use Rattle.design.specs.declared.Verified.the-variants as design
-use Rattle.design.specs.Verified.{verified, callWords, marks}
+use Rattle.requirement.specs.declared.Verified.{Verified}
+use Rattle.requirement.specs.declared.Verified.the-variants as design
+use Rattle.requirement.specs.Verified.{verified, callWords, marks}
 use Rattle.design.specs.Verifies.{Verifies}
 use Rattle.design.specs.Said.{Says, Said}
 use Rattle.design.proofs.Said.{verify-said}
-use Rattle.program.specs.Output.{wordAt, firstWords, wordsOf, refusalLine, scriptOr, scriptText, ofVerified, listOutput, outputIn, slotsIn}
+use Rattle.program.specs.Output.{wordAt, firstWords, wordsOf, refusalLine, scriptOr, scriptText, ofVerified}
+use Rattle.program.specs.Output.{listOutput, outputIn, slotsIn}
 
 -- ---- the words of the input
 
@@ -116,14 +117,16 @@ told-text (design.NothingAsked m) n said text = refl
 told-text (design.Asked m) n said text = refl
 
 -- `verify` with the program's room.
-module _ {w calls recorded calls′ recorded′ : List ℕ} {r : Verified} (left : Verifies w calls recorded calls′ recorded′ r)
+module _ {w calls recorded calls′ recorded′ : List ℕ} {r : Verified}
+    (left : Verifies w calls recorded calls′ recorded′ r)
     (words : length calls ≡ 16384) (marked : length recorded ≡ 4096) where
   answer-is : r ≡ verified w 16384 4096
   answer-is = left .answer ∙ rw (words, marked)
 
   pub list-refused : {e : Fault} → r ≡ design.Refused e → (room : ℕ) → listOutput w room ≡ refusalLine e
   unfolding listOutput
-  list-refused is room = ap (λ (a : Verified). ofVerified a (scriptText (callWords w) (marks w) room)) (sym answer-is ∙ is)
+  list-refused is room =
+      ap (λ (a : Verified). ofVerified a (scriptText (callWords w) (marks w) room)) (sym answer-is ∙ is)
 
   module _ (n : Counts) (said : Says r n) (slots : ℕ) (all : slots ≡ slotsIn (read w)) where
     -- The first words and marks are there.
@@ -149,7 +152,8 @@ module _ (bytes : List ℕ) (room : ℕ) where
   unfolding outputIn
   too-long long = rw (lt-ltb 65536 (length bytes) long)
 
-  pub broken-word : length bytes ≤ 65536 → (length bytes % 4 ≡ 0 → ⊥) → outputIn bytes room ≡ refusalLine (fault 1 (length bytes / 4))
+  pub broken-word : length bytes ≤ 65536 → (length bytes % 4 ≡ 0 → ⊥) → outputIn bytes room
+      ≡ refusalLine (fault 1 (length bytes / 4))
   unfolding outputIn
   broken-word short broken = rw (le-ltb 65536 (length bytes) short, ne-eqb _ _ broken)
 

@@ -1,5 +1,6 @@
--- Document 01, "Examples": "The program reads little-endian words from standard input and writes the script, or `refused N at P`. It lends 16,384
--- call words and 65,536 text bytes; a broken last word is fault 1 there, after 4 for a 16,385th word." What it writes, for every input.
+-- Document 01, "Examples": "The program reads little-endian words from standard input and writes the script, or
+-- `refused N at P`. It lends 16,384 call words and 65,536 text bytes; a broken last word is fault 1 there, after 4 for
+-- a 16,385th word." What it writes, for every input.
 use mathlib.Core.Bool.{cond}
 use mathlib.Core.List.{List, [], _∷_, _++_}
 use Prim.Native.Nat.{ℕ, zero, suc, _+_, _*_, _/_, _%_, _^_}
@@ -13,9 +14,9 @@ use Rattle.text.specs.Bytes.{ascii, decimal}
 use Rattle.script.specs.declared.Written.{Written}
 use Rattle.script.specs.declared.Written.the-variants as script
 use Rattle.script.specs.Written.{written, scriptOf}
-use Rattle.design.specs.declared.Verified.{Verified}
-use Rattle.design.specs.declared.Verified.the-variants as design
-use Rattle.design.specs.Verified.{verified, callWords, marks}
+use Rattle.requirement.specs.declared.Verified.{Verified}
+use Rattle.requirement.specs.declared.Verified.the-variants as design
+use Rattle.requirement.specs.Verified.{verified, callWords, marks}
 
 -- ---- the words of the input
 
@@ -56,7 +57,8 @@ ofVerified (design.Asked n) text = text
 unfoldable pub listOutput : List ℕ → ℕ → List ℕ
 listOutput w room = ofVerified (verified w 16384 4096) (scriptText (callWords w) (marks w) room)
 
--- What is written for the bytes of the input: a byte after the 16,384th word is 4, a broken last word 1, both before anything else.
+-- What is written for the bytes of the input: a byte after the 16,384th word is 4, a broken last word 1, both before
+-- anything else.
 unfoldable pub outputIn : List ℕ → ℕ → List ℕ
 outputIn bytes room =
     cond (ltb 65536 (length bytes)) (refusalLine (fault 4 16384))

@@ -1,7 +1,7 @@
 // The program below its input and output: the bytes of a design list to the bytes of its script, or of its refusal.
-use design::Verified;
 use design_list::DesignRead;
 use logic::Fault;
+use requirement::Verified;
 use script::Written;
 ghost use mathlib.Core.Path.{_≡_};
 ghost use Prim.Native.Nat.{_/_, _<_, _≤_};

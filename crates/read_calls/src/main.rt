@@ -1,6 +1,7 @@
-// Reads call lists from standard input, each as its length and its words, little-endian, then the number of its bits and each as
-// two words, low first, and the room for values. Writes a line for each: `well formed TERMS NAMES` or `malformed at PLACE`, then
-// `evaluated FALSE` or `refused FAULT at PLACE`, then what the values are after, which were all 7777; of more than 64 a digest.
+// Reads call lists from standard input, each as its length and its words, little-endian, then the number of its bits
+// and each as two words, low first, and the room for values. Writes a line for each: `well formed TERMS NAMES` or
+// `malformed at PLACE`, then `evaluated FALSE` or `refused FAULT at PLACE`, then what the values are after, which were
+// all 7777; of more than 64 a digest.
 use checker::CallList;
 use eval::Evaluation;
 use libc::STDOUT_FILENO;
@@ -114,7 +115,8 @@ fn same(a: Evaluation, b: Evaluation) -> bool {
     }
 }
 
-// Evaluates once more, with tables of three terms and two indexes, past which the records are searched, and tells where anything differs.
+// Evaluates once more, with tables of three terms and two indexes, past which the records are searched, and tells where
+// anything differs.
 fn show_small(list: &[u32], bits: &[u64], values: &mut [u64], answer: Evaluation) {
     let mut sorts = [0u8; 3];
     let mut names = [0u8; 18];

@@ -1,5 +1,5 @@
-// Reads design lists from standard input, each as its length and its words, little-endian, and writes a line for each: `accepted SLOTS` or
-// `refused N at P`.
+// Reads design lists from standard input, each as its length and its words, little-endian, and writes a line for each:
+// `accepted SLOTS` or `refused N at P`.
 use design_list::DesignRead;
 use libc::STDOUT_FILENO;
 use word_input::Next;

@@ -1,5 +1,5 @@
--- What the steps of the code say of the tokens: a result with the place where reading goes on stands for the tokens from there.
-use mathlib.Core.Path.{_≡_, refl}
+-- What the steps of the code say of the tokens: a result with the place where reading goes on stands for the tokens
+-- from there.
 use mathlib.Core.Bool.{Bool, cond}
 use mathlib.Core.List.{List, []}
 use Prim.Native.Nat.{ℕ}
@@ -8,7 +8,6 @@ use Rattle.logic.specs.Trit.{shows, readbackNumber}
 use Rattle.logic.specs.declared.Readback.the-variants.{Shown, Absent}
 use Rattle.engine.specs.Call.{Name}
 use Rattle.text.specs.Names.{spelling}
-use Rattle.tokens.specs.Token.{tokensOf}
 use Rattle.tokens.specs.Place.{tokensFrom}
 use Rattle.reply.specs.declared.Step.{Step}
 use Rattle.reply.specs.declared.Step.the-variants as step
@@ -55,8 +54,3 @@ abbrev pub replyAfter : List ℕ → List Name → Verdict → Reply
 replyAfter text names verdict.Unsat = unsat
 replyAfter text names (verdict.Sat at) = satisfied (model names (tokensFrom text at))
 replyAfter text names (verdict.Refused e) = bad e
-
--- The whole text's tokens are those from its start.
-pub tokens-start : (text : List ℕ) → tokensOf text ≡ tokensFrom text 0
-unfolding tokensFrom
-tokens-start text = refl

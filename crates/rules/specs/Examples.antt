@@ -1,17 +1,10 @@
 -- Document 01, "Examples": the starred set, one list and one claim, computed by the cell rules.
-use mathlib.Core.Path.{_≡_, refl}
-use mathlib.Core.Bool.{Bool}
 use mathlib.Core.List.{List, [], _∷_, map, reverse}
-use Prim.Native.Nat.{ℕ}
 use Rattle.logic.specs.Net.{Net, constant}
-use Rattle.logic.specs.Table.{tab}
 use Rattle.logic.specs.declared.Trit.{Trit}
 use Rattle.logic.specs.declared.Trit.the-variants.{Zero, One, Undef}
 use Rattle.cell.specs.Cell.{Cell}
 use Rattle.cell.specs.Cell as c
-use Rattle.rules.specs.Trits.{anyX, number}
-use Rattle.rules.specs.Rules.{anyMismatch, alternate, matches, firstHot}
-use Rattle.rules.specs.CellRule.{Trits, cellRule}
 
 -- A cell of constant nets, and the trits that document 01 gives for it.
 pub record Example : Type 0 where
@@ -52,9 +45,3 @@ examples =
     ∷ (c.shift c.xshr (nets (I ∷ O ∷ [])) (nets (I ∷ [])) 1 ⟶ (X ∷ I ∷ []))
     ∷ (c.match [] (constant I) (([] ∷ []) ∷ []) ⟶ (I ∷ []))
     ∷ []
-
--- Each cell's rule gives the trits of its example, whatever the trits of the slots: it reads none.
-pub starred : (readsPast : ℕ → Bool) (θ : Trits) (out : List ℕ)
-    → map (λ (e : Example). cellRule readsPast θ out (e .cell)) examples ≡ map (λ (e : Example). e .shows) examples
-unfolding tab anyX number anyMismatch alternate matches firstHot
-starred readsPast θ out = refl

@@ -4,11 +4,6 @@ pub mod CellRule
 pub mod Reads
 pub mod Examples
 pub mod Width
-pub mod Laws
-pub mod Cases
-pub mod Number
 pub mod Refine
-pub mod Ripple
-pub mod Monotone
 pub mod Local
 pub mod Shape

@@ -17,8 +17,8 @@ fn lesser(a: usize, b: usize) -> usize
     if a < b { a } else { b }
 }
 
-// The steps of an accepted list and `check`. The terms of its obligations stand in a lent table, and as many are asked as
-// it has room for.
+// The steps of an accepted list and `check`. The terms of its obligations stand in a lent table, and as many are asked
+// as it has room for.
 fn pass(
     c: Counts,
     list: &[u32],

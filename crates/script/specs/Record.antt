@@ -1,27 +1,26 @@
 -- The line of a record: what the code writes at a place, after some records.
-use mathlib.Core.Path.{_≡_, ap, _∙_, sym}
+use mathlib.Core.Path.{_≡_}
 use mathlib.Core.Bool.{true, cond}
 use mathlib.Core.List.{List}
 use Prim.Native.Nat.{ℕ}
 use lib.Dec.{ltb}
 use lib.ListN.{length, getD}
 use Rattle.engine.specs.Sorts.{Sort}
-use Rattle.engine.specs.Encode.{Op, operationAt, countAt, argumentAt, callAt}
+use Rattle.engine.specs.Encode.{operationAt, countAt, argumentAt, callAt}
 use Rattle.engine.specs.WellFormed.{countFits}
 use Rattle.call_list.specs.Made.{made, sortsOf, sortOfCall}
 use Rattle.call_list.specs.Records.{firstCalls}
 use Rattle.call_list.specs.Literal.{payloads, LiteralFits}
 use Rattle.term_table.specs.Tables.{recordSort}
-use Rattle.text.specs.Bytes.{ascii}
 use Rattle.pieces.specs.Text.{reference}
 use Rattle.pieces.specs.Shape.{lineOf, bodyOf, nameOf}
 use Rattle.pieces.specs.Arguments.{referenceBy}
 use Rattle.pieces.specs.declared.Line.{Line}
-use Rattle.pieces.specs.declared.Line.the-variants.{Define, Declare, Assert, Check}
+use Rattle.pieces.specs.declared.Line.the-variants.{Define}
 use Rattle.pieces.specs.declared.Body.{Body}
 use Rattle.pieces.specs.declared.Body.the-variants.{Literal}
 use Rattle.script.specs.Text.{line}
-use Rattle.script.specs.Shape.{bodyBy, defineLine, declareLine, assertLine, lineBy, line-by}
+use Rattle.script.specs.Shape.{bodyBy, defineLine, declareLine, assertLine}
 
 -- What the line of the record at a place does, and how its term is written.
 abbrev pub lineKind : List ℕ → ℕ → Line
@@ -29,17 +28,6 @@ lineKind w head = lineOf (operationAt w head)
 
 abbrev pub bodyKind : List ℕ → ℕ → Body
 bodyKind w head = bodyOf (operationAt w head)
-
--- The same as the code finds them.
-pub line-kind : (w : List ℕ) (head : ℕ) {op : Op} {found told : Line} → op ≡ operationAt w head → found ≡ lineOf op
-    → found ≡ told
-    → lineKind w head ≡ told
-line-kind w head is-op is-line is-told = ap lineOf (sym is-op) ∙ sym is-line ∙ is-told
-
-pub body-kind : (w : List ℕ) (head : ℕ) {op : Op} {found told : Body} → op ≡ operationAt w head → found ≡ bodyOf op
-    → found ≡ told
-    → bodyKind w head ≡ told
-body-kind w head is-op is-body is-told = ap bodyOf (sym is-op) ∙ sym is-body ∙ is-told
 
 -- The text of the term that the record at a place makes, after so many terms.
 abbrev pub bodyAt : List ℕ → List ℕ → ℕ → ℕ → List ℕ
@@ -76,36 +64,3 @@ pub record Writable (w places sorts : List ℕ) (records terms head : ℕ) : Typ
   pub sort : lineKind w head ≡ Define
       → sortBy sorts w terms head ≡ sortOfCall (sortsOf (firstCalls w records)) (callAt w head)
   pub references : referenceBy places w terms ≡ reference (firstCalls w records)
-
-module _ {w places sorts : List ℕ} {records terms head : ℕ} (can : Writable w places sorts records terms head) where
-  by-kind : lineAt w records head
-      ≡ lineBy (lineKind w head) (firstCalls w records) (operationAt w head) (countAt w head) (payloads w head)
-  by-kind = line-by (operationAt w head) (countAt w head) (payloads w head) (argumentAt w head 0)
-      (firstCalls w records) (can .counted)
-
-  pub line-declared : lineKind w head ≡ Declare → lineAt w records head ≡ declareAt w head
-  line-declared e = by-kind ∙ rw e
-
-  pub line-checked : lineKind w head ≡ Check → lineAt w records head ≡ ascii "(check-sat)\n"
-  line-checked e = by-kind ∙ rw e
-
-  pub line-asserted : lineKind w head ≡ Assert → lineAt w records head ≡ assertAt places w terms head
-  line-asserted e =
-      by-kind ∙ asserted ∙ ap (λ (r : ℕ → List ℕ). assertLine (r (payloads w head 0))) (sym (can .references))
-    where
-      asserted : lineBy (lineKind w head) (firstCalls w records) (operationAt w head) (countAt w head) (payloads w head)
-          ≡ assertLine (reference (firstCalls w records) (payloads w head 0))
-      asserted = rw e
-
-  pub line-defined : lineKind w head ≡ Define
-      → lineAt w records head ≡ defineAt places w terms head (sortBy sorts w terms head)
-  line-defined e =
-      by-kind ∙ defined
-      ∙ ap (λ (r : ℕ → List ℕ). defineLine terms (sortBy sorts w terms head)
-      (bodyBy (bodyKind w head) r (operationAt w head) (countAt w head) (payloads w head))) (sym (can .references))
-    where
-      defined : lineBy (lineKind w head) (firstCalls w records) (operationAt w head) (countAt w head) (payloads w head)
-          ≡ defineLine terms (sortBy sorts w terms head)
-          (bodyBy (bodyKind w head) (reference (firstCalls w records)) (operationAt w head) (countAt w head)
-          (payloads w head))
-      defined = rw (e, can .sort e, can .many)

@@ -1,7 +1,6 @@
--- Document 01, "Examples": the script of a call list, line by line, as its example has it. A line depends on the calls before it:
--- how many terms they make, of which sorts, and under which names.
-use mathlib.Core.Path.{_≡_}
-use mathlib.Core.List.{List, [], _∷_, _++_, map, append-assoc, append-nil}
+-- Document 01, "Examples": the script of a call list, line by line, as its example has it. A line depends on the calls
+-- before it: how many terms they make, of which sorts, and under which names.
+use mathlib.Core.List.{List, [], _∷_, _++_, map}
 use Prim.Native.Nat.{ℕ}
 use lib.ListN.{length}
 use Rattle.engine.specs.Call.{Name, Term, Call}
@@ -33,7 +32,8 @@ termText r (c.compare op a b) = applied (operationText (o.compare op)) (r a ∷ 
 -- The line of a call after others; it ends in a line feed.
 abbrev pub line : List Call → Call → List ℕ
 line before (c.term t) =
-    ascii "(define-fun " ++ numbered (length (made before)) ++ ascii " () " ++ sortText (sortOf (sortsOf before) t) ++ ascii " "
+    ascii "(define-fun " ++ numbered (length (made before)) ++ ascii " () " ++ sortText (sortOf (sortsOf before) t)
+    ++ ascii " "
     ++ termText (reference before) t ++ ascii ")\n"
 line before (c.declare name w) = ascii "(declare-const " ++ nameText name ++ ascii " " ++ sortText w ++ ascii ")\n"
 line before (c.assert k) = ascii "(assert " ++ reference before k ++ ascii ")\n"
@@ -43,13 +43,6 @@ line before c.check = ascii "(check-sat)\n"
 unfoldable pub lines : List Call → List Call → List ℕ
 lines before [] = []
 lines before (call ∷ calls) = line before call ++ lines (before ++ (call ∷ [])) calls
-
--- One call more is one line more.
-pub lines-more : (before calls : List Call) (call : Call) → lines before (calls ++ (call ∷ [])) ≡ lines before calls ++ line (before ++ calls) call
-unfolding lines
-lines-more before [] call = rw (append-nil before) (append-nil (line before call))
-lines-more before (first ∷ calls) call =
-    rw (lines-more (before ++ (first ∷ [])) calls call, append-assoc before (first ∷ []) calls, append-assoc)
 
 -- The two lines before the calls'.
 abbrev pub header : List ℕ

@@ -215,7 +215,9 @@ fn write_fitting(
     text: &mut [u8],
 ) -> Written
     requires { ⌜ HasTables (now calls) (now places) (now sorts) ⌝ }
-    ensures { λ r. ⌜ Scripted (now (calls .entry)) (now (recorded .entry)) (now (text .entry)) (now (text .exit)) r (roomFor (length (scriptOf (now (calls .entry)) (now (recorded .entry)))) (length (now (text .entry)))) ⌝ }
+    ensures { λ r.
+        ⌜ Scripted (now (calls .entry)) (now (recorded .entry)) (now (text .entry)) (now (text .exit)) r
+        (roomFor (length (scriptOf (now (calls .entry)) (now (recorded .entry)))) (length (now (text .entry)))) ⌝ }
 {
     let needed = script_length(calls, places, sorts, recorded);
     if text.len() < needed {
@@ -237,7 +239,9 @@ fn write_marked(
     text: &mut [u8],
 ) -> Written
     requires { ⌜ HasTables (now calls) (now places) (now sorts) × HasNames (now calls) (now names) ⌝ }
-    ensures { λ r. ⌜ Scripted (now (calls .entry)) (now (recorded .entry)) (now (text .entry)) (now (text .exit)) r (marked (now (calls .entry)) (now (recorded .entry)) (length (now (text .entry)))) ⌝ }
+    ensures { λ r.
+        ⌜ Scripted (now (calls .entry)) (now (recorded .entry)) (now (text .entry)) (now (text .exit)) r
+        (marked (now (calls .entry)) (now (recorded .entry)) (length (now (text .entry)))) ⌝ }
 {
     match asked::bad_mark(calls, names, recorded) {
         Mark::Bad(slot) => Written::Refused(Fault {
@@ -259,7 +263,9 @@ pub fn write_script_with(
     sorts: &mut [u8],
     names: &mut [u8],
 ) -> Written
-    ensures { λ r. ⌜ Scripted (now (calls .entry)) (now (recorded .entry)) (now (text .entry)) (now (text .exit)) r (written (now (calls .entry)) (now (recorded .entry)) (length (now (text .entry)))) ⌝ }
+    ensures { λ r.
+        ⌜ Scripted (now (calls .entry)) (now (recorded .entry)) (now (text .entry)) (now (text .exit)) r
+        (written (now (calls .entry)) (now (recorded .entry)) (length (now (text .entry)))) ⌝ }
 {
     match checker::check_with(calls, places, sorts, names) {
         CallList::Malformed(place) => Written::Refused(Fault { number: 19, place }),
@@ -270,9 +276,12 @@ pub fn write_script_with(
     }
 }
 
-// Writes the script of a call list and its recorded marks into a lent text: 19 for a malformed list, then 2, then 15 at the room needed.
+// Writes the script of a call list and its recorded marks into a lent text: 19 for a malformed list, then 2, then 15 at
+// the room needed.
 pub fn write_script(calls: &[u32], recorded: &[u8], text: &mut [u8]) -> Written
-    ensures { λ r. ⌜ Scripted (now (calls .entry)) (now (recorded .entry)) (now (text .entry)) (now (text .exit)) r (written (now (calls .entry)) (now (recorded .entry)) (length (now (text .entry)))) ⌝ }
+    ensures { λ r.
+        ⌜ Scripted (now (calls .entry)) (now (recorded .entry)) (now (text .entry)) (now (text .exit)) r
+        (written (now (calls .entry)) (now (recorded .entry)) (length (now (text .entry)))) ⌝ }
 {
     let mut places = [0u32; 8192];
     let mut sorts = [0u8; 53248];

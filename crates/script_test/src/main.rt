@@ -1,5 +1,6 @@
-// Reads call lists from standard input and writes the script of each, or its refusal. A case is three little-endian words, how many call
-// words, marks and bytes of room follow or are lent, then the call words and the marks, one byte each.
+// Reads call lists from standard input and writes the script of each, or its refusal. A case is three little-endian
+// words, how many call words, marks and bytes of room follow or are lent, then the call words and the marks, one byte
+// each.
 use script::Written;
 ghost use Prim.Native.Nat.{_≤_};
 ghost use lib.ListN.{length};

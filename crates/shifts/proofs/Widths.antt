@@ -5,7 +5,7 @@ use mathlib.Core.List.{List}
 use Prim.Native.Nat.{ℕ}
 use lib.ListN.{length}
 use Rattle.logic.specs.Net.{Net}
-use Rattle.logic.specs.Table.{length-tab}
+use Rattle.logic.proofs.TableLaws.{length-tab}
 use Rattle.cell_reader.specs.Parse.{netsIn}
 use Rattle.smt.specs.Prog.{Prog}
 use Rattle.smt.specs.Builder.{Prepared, shiftWidth, extended, zext, prepareAt, prepareShift}

@@ -38,7 +38,11 @@ fn prepare_at(
     marks: &mut [u8],
     c: Counts,
 ) -> BuiltPrepared
-    ensures ran { λ r. ⌜ (width ≤ 64 → Ran (prepareAt (pastIn (now (table .entry))) width (netsIn (now («value_ext» .entry)) width 0) (netsIn (now («amount_ext» .entry)) width 0) stride) (now (calls .entry)) (now (names .entry)) (now (marks .entry)) c (now (calls .exit)) (now (names .exit)) (now (marks .exit)) (r .counts) (preparedOf (r .prepared))) ⌝ }
+    ensures ran { λ r. ⌜ (width ≤ 64 →
+        Ran (prepareAt (pastIn (now (table .entry))) width (netsIn (now («value_ext» .entry)) width 0)
+        (netsIn (now («amount_ext» .entry)) width 0) stride) (now (calls .entry)) (now (names .entry))
+        (now (marks .entry)) c (now (calls .exit)) (now (names .exit)) (now (marks .exit)) (r .counts)
+        (preparedOf (r .prepared))) ⌝ }
     ensures width { λ r. ⌜ r .prepared .width ≡ width ⌝ }
 {
     let value = values::value(value_ext, 0, width, table, calls, names, marks, c);
@@ -79,7 +83,10 @@ fn prepare_shift(
     marks: &mut [u8],
     c: Counts,
 ) -> BuiltPrepared
-    ensures ran { λ r. ⌜ (n ≤ 64 → numberIn (now (fields .entry)) 1 ≤ 32 → Ran (preparedIn (pastIn (now (table .entry))) (now (fields .entry)) (netsIn (now (words .entry)) n at) signed) (now (calls .entry)) (now (names .entry)) (now (marks .entry)) c (now (calls .exit)) (now (names .exit)) (now (marks .exit)) (r .counts) (preparedOf (r .prepared))) ⌝ }
+    ensures ran { λ r. ⌜ (n ≤ 64 → numberIn (now (fields .entry)) 1 ≤ 32 →
+        Ran (preparedIn (pastIn (now (table .entry))) (now (fields .entry)) (netsIn (now (words .entry)) n at) signed)
+        (now (calls .entry)) (now (names .entry)) (now (marks .entry)) c (now (calls .exit)) (now (names .exit))
+        (now (marks .exit)) (r .counts) (preparedOf (r .prepared))) ⌝ }
     ensures narrow { λ r. ⌜ (n ≤ 64 → numberIn (now (fields .entry)) 1 ≤ 32 → r .prepared .width ≤ 64) ⌝ }
 {
     let m = cells::number_at(fields, 1);
@@ -103,7 +110,8 @@ fn prepare_shift(
     )
 }
 
-// Cell::Shl, Cell::UShr, Cell::SShr: the value is extended by 0 or by its sign, and one operation shifts its x and its y.
+// Cell::Shl, Cell::UShr, Cell::SShr: the value is extended by 0 or by its sign, and one operation shifts its x and its
+// y.
 fn shifted(
     fields: &[u32],
     signed: bool,
@@ -115,7 +123,9 @@ fn shifted(
     c: Counts,
 ) -> BuiltTrits
     ensures { λ r. ⌜ (numberIn (now (fields .entry)) 0 ≤ 63 → numberIn (now (fields .entry)) 1 ≤ 32
-        → RanTrits (shiftedBy (pastIn (now (table .entry))) (now (fields .entry)) (valueIn (now (fields .entry))) signed (binaryOf op) (binaryOf op)) (suc (numberIn (now (fields .entry)) 0 - 1))
+        → RanTrits
+        (shiftedBy (pastIn (now (table .entry))) (now (fields .entry)) (valueIn (now (fields .entry))) signed
+        (binaryOf op) (binaryOf op)) (suc (numberIn (now (fields .entry)) 0 - 1))
         (now (calls .entry)) (now (names .entry)) (now (marks .entry)) c
         (now (calls .exit)) (now (names .exit)) (now (marks .exit)) r) ⌝ }
 {
@@ -134,7 +144,10 @@ fn shifted_undef(
     c: Counts,
 ) -> BuiltTrits
     ensures { λ r. ⌜ (numberIn (now (fields .entry)) 0 ≤ 63 → numberIn (now (fields .entry)) 1 ≤ 32
-        → RanTrits (shiftedBy (pastIn (now (table .entry))) (now (fields .entry)) (valueIn (now (fields .entry)) ++ (constant t.Undef ∷ [])) true k.bvashr k.bvlshr) (suc (numberIn (now (fields .entry)) 0 - 1))
+        → RanTrits
+        (shiftedBy (pastIn (now (table .entry))) (now (fields .entry))
+        (valueIn (now (fields .entry)) ++ (constant t.Undef ∷ [])) true k.bvashr k.bvlshr)
+        (suc (numberIn (now (fields .entry)) 0 - 1))
         (now (calls .entry)) (now (names .entry)) (now (marks .entry)) c
         (now (calls .exit)) (now (names .exit)) (now (marks .exit)) r) ⌝ }
 {

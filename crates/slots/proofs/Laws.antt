@@ -1,5 +1,6 @@
--- The slot table of an accepted list tells of its design: the word at each slot is that of the cell which the slot belongs to,
--- the cell's place lies on the same side of the base's end as the slot, and the word's digits give back its parts. Assumes nothing.
+-- The slot table of an accepted list tells of its design: the word at each slot is that of the cell which the slot
+-- belongs to, the cell's place lies on the same side of the base's end as the slot, and the word's digits give back its
+-- parts. Assumes nothing.
 use mathlib.Core.Path.{_≡_, refl, sym, ap, _∙_, fun-ext}
 use mathlib.Core.Bool.{Bool, true, false, cond, _&&_}
 use mathlib.Core.List.{List, _++_}
@@ -13,14 +14,15 @@ use borrow.Author.Tests.{ltb-true, ltb-false, lt-ltb, le-ltb, ne-eqb}
 use Rattle.cell.specs.Cell.{outputLen, slotsOf, standing}
 use Rattle.cell.specs.Design.{Design, Placed, total}
 use Rattle.placing.specs.Slots.{covering, markOf, marks}
-use Rattle.placing.specs.Cover.{Walk, walk-total, table-at, takes-all, Narrow, walk-narrow}
+use Rattle.placing.specs.Cover.{Walk}
+use Rattle.placing.proofs.CoverLaws.{walk-total, table-at, takes-all, Narrow, walk-narrow}
 use Rattle.design_list.specs.Read.{read, accepted}
 use Rattle.design_list.specs.Table.{tableAfter}
-use Rattle.design_list.specs.Accepted.{accepted-read}
+use Rattle.design_list.proofs.AcceptedLaws.{accepted-read}
 use Rattle.working_out.specs.Reading.{role, isDff, cellOf, readsPast}
 use Rattle.working_out.specs.Laid.{Apart, Laid}
-use Rattle.working_out.specs.Layout.{Located, at, each-at, at-each}
-use Rattle.accepted.specs.Laid.{stages, accepted-laid, cell-takes}
+use Rattle.working_out.proofs.LayoutLaws.{Located, at, each-at, at-each}
+use Rattle.accepted.proofs.Laid.{stages, accepted-laid, cell-takes}
 use Rattle.nets.specs.Reads.{pastIn}
 use Rattle.slots.specs.Tells.{widthIn, standingOf, Tells}
 use Rattle.slots.proofs.Roles.{standing-role, standing-low, dff-stands}
@@ -101,10 +103,17 @@ module _ (w : List ℕ) {d : Design} {r p : ℕ} (accepts : read w ≡ accepted 
       go : Dec (i < total d) → pastIn (marks (d .base) (d .cells)) i ≡ readsPast d i
       go (yes low) =
           let apart = each-at (Apart d) (d .cells) 0 (total d) i (laid .run) (omega arith) low (laid .apart) in
-          rw (word-at i low, mark-past (d .base) (cellOf d i) (narrow i low), same-side d i (cellOf d i) (at d laid i low) apart)
+          rw (
+            word-at i low,
+            mark-past (d .base) (cellOf d i) (narrow i low),
+            same-side d i (cellOf d i) (at d laid i low) apart,
+          )
       go (no high) =
           let size : length (marks (d .base) (d .cells)) ≡ total d = table-length in
-          rw (List·getD-eq-default (marks (d .base) (d .cells)) 0 {n = i} (omega arith), le-ltb i (d .base) (omega arith))
+          rw (
+            List·getD-eq-default (marks (d .base) (d .cells)) 0 {n = i} (omega arith),
+            le-ltb i (d .base) (omega arith),
+          )
 
   width : (i : ℕ) → i < total d → widthIn (marks (d .base) (d .cells)) i ≡ outputLen (cellOf d i .cell)
   width i low = rw (word-at i low) (mark-width (d .base) (cellOf d i) (narrow i low))
@@ -116,14 +125,16 @@ module _ (w : List ℕ) {d : Design} {r p : ℕ} (accepts : read w ≡ accepted 
       let here = at d laid i low in
       let first : cellOf d i .slot ≤ i = here .low in
       let last : i < cellOf d i .slot + slotsOf (cellOf d i .cell) = here .high in
-      let same : cellOf d (cellOf d i .slot) ≡ cellOf d i = here .whole (cellOf d i .slot) (omega arith) (omega arith) in
+      let same : cellOf d (cellOf d i .slot) ≡ cellOf d i =
+      here .whole (cellOf d i .slot) (omega arith) (omega arith) in
       width (cellOf d i .slot) (omega arith) ∙ ap (λ (c : Placed). outputLen (c .cell)) same
 
   pub accepted-tells : Tells d (marks (d .base) (d .cells))
   accepted-tells = record {
     past = past;
     widths =
-        at-each (λ (c : Placed). widthIn (marks (d .base) (d .cells)) (c .slot) ≡ outputLen (c .cell)) (d .cells) 0 (total d)
+        at-each (λ (c : Placed). widthIn (marks (d .base) (d .cells)) (c .slot) ≡ outputLen (c .cell)) (d .cells) 0
+        (total d)
         (laid .run) (λ i first low. width-first i low);
     roles = λ i low. rw (word-at i low) (mark-standing (d .base) (cellOf d i) (narrow i low));
   }

@@ -1,5 +1,5 @@
--- The kind of a net replacement by the words of the table is the design's: numbers are equal where the nets are, and the words
--- give what the design's roles decide. Assumes nothing.
+-- The kind of a net replacement by the words of the table is the design's: numbers are equal where the nets are, and
+-- the words give what the design's roles decide. Assumes nothing.
 use mathlib.Core.Path.{_≡_, refl, sym, ap, _∙_}
 use mathlib.Core.Bool.{Bool, true, false, _&&_, false≢true}
 use mathlib.Core.List.{List}
@@ -7,7 +7,8 @@ use Prim.Native.Nat.{ℕ, _<_, _^_}
 use native.Mathlib.Omega.{arith}
 use lib.Dec.{eqb}
 use borrow.Author.Tests.{eqb-true, eqb-false, eq-eqb, ne-eqb}
-use Rattle.logic.specs.Net.{Net, constant, slot, netOf, driverOf, driverOfNet, payloadOfNet, driver-of-payload, payload-of-net}
+use Rattle.logic.specs.Net.{Net, constant, slot, netOf, driverOf, driverOfNet, payloadOfNet}
+use Rattle.logic.proofs.NetLaws.{driver-of-payload, payload-of-net}
 use Rattle.logic.specs.Trit.{tritNumber}
 use Rattle.logic.specs.declared.Trit.{Trit}
 use Rattle.logic.specs.declared.Trit.the-variants.{Zero, One, Undef}
@@ -46,7 +47,8 @@ same-number : (from to : ℕ) → eqb from to ≡ sameNet (netOf from) (netOf to
 same-number from to = go (eqb from to) refl (sameNet (netOf from) (netOf to)) refl
   where
     go : (a : Bool) → eqb from to ≡ a → (b : Bool) → sameNet (netOf from) (netOf to) ≡ b → a ≡ b
-    go true a b e = sym (itself (netOf to)) ∙ ap (λ (n : ℕ). sameNet (netOf n) (netOf to)) (sym (eqb-true from to a)) ∙ e
+    go true a b e = sym (itself (netOf to)) ∙ ap (λ (n : ℕ). sameNet (netOf n) (netOf to)) (sym (eqb-true from to a))
+        ∙ e
     go false a false e = refl
     go false a true e =
         let same : from ≡ to =
@@ -60,7 +62,8 @@ module _ {d : Design} {table : List ℕ} (tells : Tells d table) where
   standing-net (slot i) within = tells .roles i within
 
   standing-payload :
-      (p : ℕ) → p < 2 ^ 29 → Within (total d) (netOf p) → standingAt table (driverOf p) ≡ standingOf (netRole d (netOf p))
+      (p : ℕ) → p < 2 ^ 29 → Within (total d) (netOf p) → standingAt table (driverOf p)
+      ≡ standingOf (netRole d (netOf p))
   standing-payload p low within = ap (standingAt table) (driver-of-payload p low) ∙ standing-net (netOf p) within
 
   pub tells-pair :
@@ -89,7 +92,8 @@ is-kind {table} {from} {to} kind same = record {
 pub kind-equal : (table : List ℕ) (from to : ℕ) → from ≡ to → IsKind table from to Equal
 kind-equal table from to same = is-kind Equal (rw (eq-eqb from to same))
 
-module _ (table : List ℕ) (from to : ℕ) (apart : from ≡ to → ⊥) {a b : ℕ} (from-is : a ≡ standingAt table (driverOf from))
+module _ (table : List ℕ) (from to : ℕ) (apart : from ≡ to → ⊥) {a b : ℕ}
+    (from-is : a ≡ standingAt table (driverOf from))
     (to-is : b ≡ standingAt table (driverOf to)) where
   pub kind-void : a ≡ 0 → IsKind table from to OfVoid
   kind-void void = is-kind OfVoid (rw (ne-eqb from to apart, ← from-is, eq-eqb a 0 void))

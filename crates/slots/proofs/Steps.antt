@@ -1,5 +1,5 @@
--- The steps of the order of work, with the past reads that the table tells in place of the design's: by the one equation `tells-past`.
--- Assumes nothing.
+-- The steps of the order of work, with the past reads that the table tells in place of the design's: by the one
+-- equation `tells-past`. Assumes nothing.
 use mathlib.Core.Path.{_≡_, sym, ap}
 use mathlib.Core.Bool.{Bool, cond}
 use mathlib.Core.List.{List, [], _∷_}
@@ -28,5 +28,6 @@ module _ {d : Design} {table : List ℕ} (tells : Tells d table) where
       ∷ withNew past (p .slot) (outputLen (p .cell)) (newCellIn (d .cellReps) (p .slot))))
       (sym (tells-past tells))
 
-  pub tells-pair-steps : (p : NetPair) → pairSteps (readsPast d) (pairOf d p) p ≡ pairSteps (pastIn table) (pairOf d p) p
+  pub tells-pair-steps : (p : NetPair) → pairSteps (readsPast d) (pairOf d p) p
+      ≡ pairSteps (pastIn table) (pairOf d p) p
   tells-pair-steps p = ap (λ (past : ℕ → Bool). pairSteps past (pairOf d p) p) (sym (tells-past tells))

@@ -39,5 +39,6 @@ pairIn table from to =
 pub record IsKind (table : List ℕ) (from to : ℕ) (kind : Pair) : Type 0 where
   pub same : pairKind kind ≡ pairIn table from to
   pub told :
-      (d : Design) → Tells d table → from < 2 ^ 29 → to < 2 ^ 29 → Within (total d) (netOf from) → Within (total d) (netOf to) →
+      (d : Design) → Tells d table → from < 2 ^ 29 → to < 2 ^ 29 → Within (total d) (netOf from) →
+      Within (total d) (netOf to) →
       pairKind kind ≡ pairOf d (record { from = netOf from; to = netOf to })

@@ -1,4 +1,5 @@
--- What the words of the slot table say of a design: which slots read their past trit, how wide each cell is, and what stands at each slot.
+-- What the words of the slot table say of a design: which slots read their past trit, how wide each cell is, and what
+-- stands at each slot.
 use mathlib.Core.Path.{_≡_}
 use mathlib.Core.List.{List}
 use Prim.Native.Nat.{ℕ, _<_, _/_, _%_}
@@ -8,7 +9,8 @@ use Rattle.cell.specs.Design.{Design, Placed, total}
 use Rattle.working_out.specs.Reading.{Each, Role, void, given, dff, other, role, cellOf, readsPast}
 use Rattle.nets.specs.Reads.{pastIn}
 
--- The output width of a slot's cell, by the slot's word: what stands there + 4 × (0 base, 1 added) + 8 × output width + 1,024 × first slot.
+-- The output width of a slot's cell, by the slot's word: what stands there + 4 × (0 base, 1 added) + 8 × output width +
+-- 1,024 × first slot.
 abbrev pub widthIn : List ℕ → ℕ → ℕ
 widthIn table i = getD table i 0 / 8 % 128
 

@@ -16,42 +16,10 @@ use Rattle.engine.specs.Call.{BinaryOp, Compare}
 use Rattle.engine.specs.Call as c
 use Rattle.cell.specs.Cell.{Cell, Control, FlipFlop, Binary, Shift}
 use Rattle.cell.specs.Cell as cells
-use Rattle.smt.specs.Prog.{
-  Prog,
-  ret,
-  declare,
-  bind,
-  bind2,
-  _>>=_,
-  Age,
-  curr,
-  past,
-  Half,
-  isUndef,
-  isOne,
-  BitVec,
-  bv,
-  TritVec,
-  tv,
-  buildBoolLit,
-  buildBoolIte,
-  buildNot,
-  buildAnd,
-  buildBitvecEq,
-  buildCompare,
-  buildBitvecLit,
-  buildBitvecIte,
-  buildConcat,
-  buildExtract,
-  buildBvnot,
-  buildOp2,
-  buildBvand,
-  buildBvor,
-  buildBvxor,
-  buildBvadd,
-  buildBvcomp,
-  buildBvmul,
-}
+use Rattle.smt.specs.Prog.{Prog, ret, declare, bind, bind2, _>>=_, Age, curr, past, Half, isUndef, isOne, BitVec}
+use Rattle.smt.specs.Prog.{bv, TritVec, tv, buildBoolLit, buildBoolIte, buildNot, buildAnd, buildBitvecEq}
+use Rattle.smt.specs.Prog.{buildCompare, buildBitvecLit, buildBitvecIte, buildConcat, buildExtract, buildBvnot}
+use Rattle.smt.specs.Prog.{buildOp2, buildBvand, buildBvor, buildBvxor, buildBvadd, buildBvcomp, buildBvmul}
 
 -- ---- bit vectors
 
@@ -461,8 +429,10 @@ module _ (readsPast : ℕ → Bool) where
 
   unfoldable pub shifted : Shift → List Net → List Net → ℕ → Prog TritVec
   shifted cells.shl nets amount stride = prepareShift nets amount stride false >>= tvShift c.bvshl c.bvshl (length nets)
-  shifted cells.ushr nets amount stride = prepareShift nets amount stride false >>= tvShift c.bvlshr c.bvlshr (length nets)
-  shifted cells.sshr nets amount stride = prepareShift nets amount stride true >>= tvShift c.bvashr c.bvashr (length nets)
+  shifted cells.ushr nets amount stride =
+      prepareShift nets amount stride false >>= tvShift c.bvlshr c.bvlshr (length nets)
+  shifted cells.sshr nets amount stride =
+      prepareShift nets amount stride true >>= tvShift c.bvashr c.bvashr (length nets)
   shifted cells.xshr nets amount stride =
       prepareShift (nets ++ (constant Undef ∷ [])) amount stride true >>= tvShift c.bvashr c.bvlshr (length nets)
 

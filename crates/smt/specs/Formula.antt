@@ -4,8 +4,7 @@ use mathlib.Core.Bool.{Bool, true, false, not, cond, _&&_, _||_}
 use mathlib.Core.List.{List, [], _∷_, _++_, map}
 use Prim.Native.Nat.{ℕ, _-_}
 use lib.ListN.{getD}
-use Rattle.logic.specs.Table.{zipWith}
-use Rattle.logic.specs.Trit.{shows, xOf, yOf}
+use Rattle.logic.specs.Trit.{xOf, yOf}
 use Rattle.logic.specs.Net.{Net, constant, slot}
 use Rattle.logic.specs.declared.Trit.{Trit}
 use Rattle.bitvec.specs.Bits.{Bits}
@@ -26,14 +25,6 @@ pub record TritBits : Type 0 where
 
 abbrev pub tb : Bits → Bits → TritBits
 tb x y = record { x = x; y = y }
-
--- One trit.
-abbrev pub one : Bool → Bool → TritBits
-one x y = tb (x ∷ []) (y ∷ [])
-
--- The trits that they show.
-abbrev pub show : TritBits → List Trit
-show a = zipWith shows (a .x) (a .y)
 
 -- ---- nets
 

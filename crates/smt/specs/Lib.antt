@@ -3,10 +3,5 @@ pub mod Emit
 pub mod Builder
 pub mod Wp
 pub mod Formula
-pub mod Terms
 pub mod CellBits
-pub mod Shows
-pub mod ShowsNumber
-pub mod ShowsShift
 pub mod CellShows
-pub mod Refines

@@ -70,12 +70,6 @@ buildBitvecEq a b = op (c.equal (a .term) (b .term)) ret
 abbrev pub buildCompare : Compare → BitVec → BitVec → Prog ℕ
 buildCompare o a b = op (c.compare o (a .term) (b .term)) ret
 
-abbrev pub buildBvult : BitVec → BitVec → Prog ℕ
-buildBvult = buildCompare c.bvult
-
-abbrev pub buildBvslt : BitVec → BitVec → Prog ℕ
-buildBvslt = buildCompare c.bvslt
-
 -- ---- and with a bit vector
 
 -- A call whose result has width w.

@@ -1,1 +1,2 @@
-// The builder of solver calls (smt.rs, `SmtBuilder`): its model, and what the terms of its calls show, in specs/.
+// The builder of solver calls (smt.rs, `SmtBuilder`): its model in specs/, and what the
+// terms of its calls show in proofs/.

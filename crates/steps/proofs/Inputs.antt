@@ -1,4 +1,5 @@
--- A cell of the list is an Input exactly if its operation is; what adding an Input, and any other cell, leaves. Assumes nothing.
+-- A cell of the list is an Input exactly if its operation is; what adding an Input, and any other cell, leaves. Assumes
+-- nothing.
 use mathlib.Core.Path.{_≡_, refl, sym, subst, _∙_}
 use mathlib.Core.Bool.{Bool, true, false, cond}
 use mathlib.Core.List.{List, [], _∷_}
@@ -37,13 +38,16 @@ module _ (past : ℕ → Bool) (s w : ℕ) (fields : List ℕ) (op : Operation)
       → Ran (currValue (outputNets s w)) calls names marks c calls₁ names₁ marks₁ c₁ v
       → Did (addCell past s w (cellIn fields op 0) ∷ []) calls names marks c calls₁ names₁ marks₁ c₁ []
   did-input is {c₁} ran =
-      subst (λ (b : Bool). Did (cond b (declared (currValue (outputNets s w))) (asserted (claim past s w (cellIn fields op 0))) ∷ [])
+      subst (λ (b : Bool). Did
+      (cond b (declared (currValue (outputNets s w))) (asserted (claim past s w (cellIn fields op 0))) ∷ [])
       calls names marks c calls₁ names₁ marks₁ c₁ []) (sym (input-in fields op 0 ∙ is)) (did-declared ran)
 
   pub did-claim : isInputOf op ≡ false → {calls₂ : List ℕ} {c₂ : Counts} {made : Built}
-      → Ran (claim past s w (cellIn fields op 0)) calls names marks c calls₁ names₁ marks₁ (made .counts) (made .term .0)
+      → Ran (claim past s w (cellIn fields op 0)) calls names marks c calls₁ names₁ marks₁ (made .counts)
+      (made .term .0)
       → Asserts made calls₁ calls₂ c₂
       → Did (addCell past s w (cellIn fields op 0) ∷ []) calls names marks c calls₂ names₁ marks₁ c₂ []
   did-claim is {calls₂} {c₂} ran done =
-      subst (λ (b : Bool). Did (cond b (declared (currValue (outputNets s w))) (asserted (claim past s w (cellIn fields op 0))) ∷ [])
+      subst (λ (b : Bool). Did
+      (cond b (declared (currValue (outputNets s w))) (asserted (claim past s w (cellIn fields op 0))) ∷ [])
       calls names marks c calls₂ names₁ marks₁ c₂ []) (sym (input-in fields op 0 ∙ is)) (did-asserted ran done)

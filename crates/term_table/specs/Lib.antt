@@ -4,4 +4,3 @@ pub mod Near
 pub mod Sorted
 pub mod Placed
 pub mod NearLaws
-pub mod Sums

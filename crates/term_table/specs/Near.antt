@@ -1,5 +1,5 @@
--- Terms past the table of sorts: a ring has the sorts of the latest terms, and a table of places that of every `gap + 1`th term's record, from
--- which the record of a term after it is counted on.
+-- Terms past the table of sorts: a ring has the sorts of the latest terms, and a table of places that of every `gap +
+-- 1`th term's record, from which the record of a term after it is counted on.
 use mathlib.Core.Bool.{Bool, cond, _&&_}
 use mathlib.Core.List.{List}
 use Prim.Native.Nat.{ℕ, zero, suc, _+_, _-_, _/_, _%_}
@@ -22,7 +22,8 @@ placeNear places gap w k =
 abbrev pub isRecent : List ℕ → ℕ → ℕ → Bool
 isRecent recent terms k = ltb k terms && leb (terms - k) (length recent)
 
--- What is known of the sort of term k: from the table of the first terms or the ring of the latest its sort, else what its record says.
+-- What is known of the sort of term k: from the table of the first terms or the ring of the latest its sort, else what
+-- its record says.
 abbrev pub originNear : List ℕ → List ℕ → List ℕ → ℕ → List ℕ → ℕ → ℕ → Origin
 originNear sorts recent places gap w terms k =
     choose (ltb k (length sorts)) (Given (getD sorts k 0))
@@ -53,4 +54,5 @@ noteRecent sort sorts recent w at terms =
 -- The place of every `gap + 1`th term's record goes into the table of places.
 abbrev pub notePlace : List ℕ → ℕ → List ℕ → ℕ → ℕ → List ℕ
 notePlace places gap w at terms =
-    pickList (makesTerm (operationAt w at) && eqb (terms % (gap + 1)) 0) (set places (terms / (gap + 1)) (at % 4294967296)) places
+    pickList (makesTerm (operationAt w at) && eqb (terms % (gap + 1)) 0)
+    (set places (terms / (gap + 1)) (at % 4294967296)) places

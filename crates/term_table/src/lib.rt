@@ -1,5 +1,5 @@
-// The terms of a call list: what a record says of its term's sort, and a table with the sort and the place of the first terms, past which
-// a ring has the sorts of the latest, and the records of the others are searched.
+// The terms of a call list: what a record says of its term's sort, and a table with the sort and the place of the first
+// terms, past which a ring has the sorts of the latest, and the records of the others are searched.
 use call_list::Operation;
 use engine::BinaryOp;
 use engine::Origin;
@@ -185,8 +185,8 @@ fn term_origin(
     earlier_origin(k, origin_at(calls, near_place(calls, places, gap, k)))
 }
 
-// The sort of a term, through the terms that it goes by. Of a join the second is looked up and the first gone on with, so that
-// no calls nest deeper than joins do: in a well-formed list 63 times.
+// The sort of a term, through the terms that it goes by. Of a join the second is looked up and the first gone on with,
+// so that no calls nest deeper than joins do: in a well-formed list 63 times.
 fn sort_through(
     calls: &[u32],
     sorts: &[u8],
@@ -352,8 +352,8 @@ pub fn note_sort(
     }
 }
 
-// The place of the record that makes a term: from the table of the first terms' places, past it by the records. A table of words has the
-// places of a list of at most 2^32 words.
+// The place of the record that makes a term: from the table of the first terms' places, past it by the records. A table
+// of words has the places of a list of at most 2^32 words.
 pub fn term_place(calls: &[u32], places: &[u32], term: Term) -> usize
     ensures { λ r. ⌜ r ≡ placeBy (now (places .entry)) (now (calls .entry)) (term .0) ⌝ }
 {

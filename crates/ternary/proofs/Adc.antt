@@ -6,7 +6,8 @@ use Prim.Native.Nat.{ℕ, zero, suc, _<_}
 use native.Mathlib.Omega.{arith}
 use lib.ListN.{length}
 use Rattle.logic.specs.Net.{Net}
-use Rattle.logic.specs.Table.{tab, length-tab}
+use Rattle.logic.specs.Table.{tab}
+use Rattle.logic.proofs.TableLaws.{length-tab}
 use Rattle.smt.specs.Prog.{Prog, TritVec, _>>=_}
 use Rattle.smt.specs.Builder.{net, value, tvAdc, adcCell}
 

@@ -5,8 +5,9 @@ use Prim.Native.Nat.{ℕ, _+_, _-_, _/_, _%_, _<_, _≤_}
 use native.Mathlib.Omega.{arith}
 use lib.ListN.{length, set, length-set}
 use Rattle.engine.specs.Emit.{overwrite}
-use Rattle.text.specs.Bytes.{decimal, decimal-digit, decimal-more, length-one, length-more}
-use Rattle.text.specs.Write.{overwrite-none, overwrite-first}
+use Rattle.text.specs.Bytes.{decimal}
+use Rattle.text.proofs.BytesLaws.{decimal-digit, decimal-more, length-one, length-more}
+use Rattle.text.proofs.Write.{overwrite-none, overwrite-first}
 
 -- The number is written as what is left of it and then the digits stored, which stand from a place on.
 pub record Stored (text₀ : List ℕ) (at n : ℕ) (text : List ℕ) (left end : ℕ) : Type 0 where

@@ -1,1 +1,4 @@
 mod Digits
+pub mod BytesLaws
+pub mod NamesLaws
+pub mod Write

@@ -1,13 +1,11 @@
 -- Document 01, "Examples": how a declared name is spelled, and which names a recorded slice asks for.
 use mathlib.Core.Bool.{cond}
 use mathlib.Core.List.{List, [], _∷_, _++_}
-use Prim.Native.Nat.{ℕ, suc, _<_, _≤_, _^_}
-use native.Mathlib.Omega.{arith}
+use Prim.Native.Nat.{ℕ, suc}
 use lib.Dec.{eqb}
-use lib.ListN.{length, length-append}
 use Rattle.engine.specs.Call.{Name, Letter, Suffix}
 use Rattle.engine.specs.Call as c
-use Rattle.text.specs.Bytes.{ascii, decimal, decimal-length}
+use Rattle.text.specs.Bytes.{ascii, decimal}
 
 -- A letter and a suffix around an index in decimal.
 abbrev pub spelling : ℕ → ℕ → ℕ → List ℕ
@@ -44,9 +42,3 @@ askedFrom slot (mark ∷ marks) = namesOfMark slot mark ++ askedFrom (suc slot) 
 
 abbrev pub asked : List ℕ → List Name
 asked marks = askedFrom 0 marks
-
--- A name whose index is a machine word has at most 22 bytes.
-pub spelling-length : (letter index suffix : ℕ) → index < 2 ^ 64 → length (spelling letter index suffix) ≤ 22
-spelling-length letter index suffix low =
-    let few = decimal-length 19 index (omega arith) in
-    rw length-append (omega arith)

@@ -1,4 +1,5 @@
-// Bytes of a lent text: reading one, and writing bytes, texts and decimal numbers with the next place counted past the end.
+// Bytes of a lent text: reading one, and writing bytes, texts and decimal numbers with the next place counted past the
+// end.
 ghost use mathlib.Core.Path.{_≡_};
 ghost use mathlib.Core.List.{_∷_, []};
 ghost use Prim.Native.Nat.{_+_, _-_, _≤_, _<_, _^_};

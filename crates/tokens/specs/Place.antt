@@ -1,4 +1,5 @@
--- The reader goes from place to place of the text: the tokens from a place on, and what a step of the code says of them.
+-- The reader goes from place to place of the text: the tokens from a place on, and what a step of the code says of
+-- them.
 use mathlib.Core.Path.{_≡_}
 use mathlib.Core.Bool.{false}
 use mathlib.Core.List.{List, [], _∷_}

@@ -1,4 +1,5 @@
--- The tokens of an answer: ( and ), and the longest runs of other bytes between white space, each with the place of its first byte.
+-- The tokens of an answer: ( and ), and the longest runs of other bytes between white space, each with the place of its
+-- first byte.
 use mathlib.Core.Bool.{Bool, cond, _||_}
 use mathlib.Core.List.{List, [], _∷_}
 use Prim.Native.Nat.{ℕ, zero, suc}

@@ -1,26 +1,10 @@
 -- The reader accepts exactly the words of the valid designs: each as that design, and nothing else.
-use mathlib.Core.Path.{_≡_, refl}
+use mathlib.Core.Path.{_≡_}
 use mathlib.Core.List.{List}
 use Prim.Native.Nat.{ℕ, _≤_}
 use lib.ListN.{length}
 use Rattle.cell.specs.Design.{Design}
-use Rattle.design_list.specs.Read.{read, accepted}
-use Rattle.design_list.specs.Accepted.{accepted-read}
 use Rattle.valid.specs.Words.{wordsOf, replacementsAt, pairsAt}
-use Rattle.valid.specs.Stands.{stands-whole}
-use Rattle.valid.specs.Valid.{Valid}
-use Rattle.valid.specs.Stages.{stands-read}
-use Rattle.valid.specs.Converse.{accepted-valid}
-use Rattle.valid.specs.Lists.{accepted-same}
-
--- The reader does not refuse too much: every valid design has a list that is accepted, unless it is too long for one.
-pub valid-read :
-    (d : Design) → Valid d → length (wordsOf d) ≤ 16384 → read (wordsOf d) ≡ accepted d (replacementsAt d) (pairsAt d)
-valid-read d valid short = stands-read (wordsOf d) d valid short (stands-whole (wordsOf d)) refl
-
--- Nor too little: what is accepted stands for a valid design.
-pub read-valid : (w : List ℕ) {d : Design} {replacements pairs : ℕ} → read w ≡ accepted d replacements pairs → Valid d
-read-valid w e = accepted-valid w e
 
 -- And no other list stands for that design, nor has it other places.
 pub record IsWritten (w : List ℕ) (d : Design) (replacements pairs : ℕ) : Type 0 where
@@ -28,13 +12,3 @@ pub record IsWritten (w : List ℕ) (d : Design) (replacements pairs : ℕ) : Ty
   pub short : length (wordsOf d) ≤ 16384
   pub replacements-at : replacements ≡ replacementsAt d
   pub pairs-at : pairs ≡ pairsAt d
-
-pub read-written :
-    (w : List ℕ) {d : Design} {replacements pairs : ℕ} → read w ≡ accepted d replacements pairs →
-    IsWritten w d replacements pairs
-read-written w {d} {replacements} {pairs} e =
-    let same : w ≡ wordsOf d = accepted-same w e in
-    let short : length (wordsOf d) ≤ 16384 = rw same at (accepted-read w e .short) in
-    let again : read (wordsOf d) ≡ accepted d (replacementsAt d) (pairsAt d) = valid-read d (read-valid w e) short in
-    let once : read (wordsOf d) ≡ accepted d replacements pairs = rw same at e in
-    record { words = same; short = short; replacements-at = cc; pairs-at = cc }

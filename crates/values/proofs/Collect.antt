@@ -1,5 +1,5 @@
--- A loop that runs one program after the other (`collect`), front to back: its invariant is that if the rest is run from
--- here, then the whole was run from the start. Assumes nothing.
+-- A loop that runs one program after the other (`collect`), front to back: its invariant is that if the rest is run
+-- from here, then the whole was run from the start. Assumes nothing.
 use mathlib.Core.Path.{_≡_}
 use mathlib.Core.List.{List, [], _∷_, _++_, append-assoc, append-nil}
 use Prim.Native.Nat.{ℕ, suc, _+_, _<_, _≤_}

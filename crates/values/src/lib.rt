@@ -1,5 +1,5 @@
-// SmtBuilder of smt.rs: its functions that read the nets of a value (`curr_value`, `past_value`, `value`). A value is a run of net words, of the
-// list or of a table, or the output of a cell, by its first slot and its width.
+// SmtBuilder of smt.rs: its functions that read the nets of a value (`curr_value`, `past_value`, `value`). A value is a
+// run of net words, of the list or of a table, or the output of a cell, by its first slot and its width.
 use builder::BuiltTrits;
 use builder::Counts;
 use logic::Net;
@@ -45,7 +45,8 @@ fn net_terms(
     counts
 }
 
-// The value of n nets from a place of some words on, n at most 64: `curr_value`, `past_value` or `value`, by the reading.
+// The value of n nets from a place of some words on, n at most 64: `curr_value`, `past_value` or `value`, by the
+// reading.
 pub fn read_value(
     words: &[u32],
     at: u32,
@@ -57,7 +58,8 @@ pub fn read_value(
     marks: &mut [u8],
     c: Counts,
 ) -> BuiltTrits
-    ensures { λ r. ⌜ (n ≤ 64 → RanTrits (valueOf (reader reading (now (table .entry))) (netsIn (now (words .entry)) n at)) n
+    ensures { λ r.
+        ⌜ (n ≤ 64 → RanTrits (valueOf (reader reading (now (table .entry))) (netsIn (now (words .entry)) n at)) n
         (now (calls .entry)) (now (names .entry)) (now (marks .entry)) c
         (now (calls .exit)) (now (names .exit)) (now (marks .exit)) r) ⌝ }
 {

@@ -42,7 +42,8 @@ module _ (terms : List ℕ) (n : ℕ) where
   unfolding bvConcatOn
   bv-from-top = from-top bvConcatOn buildConcat (λ e. refl) (λ e f fs. refl) (bitAt terms) n
 
-  pub bv-from-turn : (i : ℕ) {calls₀ names marks calls calls₁ : List ℕ} {c₀ c c₁ : Counts} {v v₁ : BitVec} → 0 < i → i < n
+  pub bv-from-turn : (i : ℕ) {calls₀ names marks calls calls₁ : List ℕ} {c₀ c c₁ : Counts} {v v₁ : BitVec} → 0 < i →
+      i < n
       → Ran (from bvConcatOn (bitAt terms) n i) calls₀ names marks c₀ calls names marks c v
       → Ran (buildConcat v (bitAt terms (i - 1))) calls names marks c calls₁ names marks c₁ v₁
       → Ran (from bvConcatOn (bitAt terms) n (i - 1)) calls₀ names marks c₀ calls₁ names marks c₁ v₁
@@ -63,11 +64,13 @@ bv-concat-none terms n none calls names marks c = rw none (ran-none (bv 0 0) cal
 
 module _ (terms : List ℕ) (n : ℕ) where
   pub tv-from-top : 0 < n → (calls names marks : List ℕ) (c : Counts)
-      → Ran (from tvConcatOn (elementAt terms) n (n - 1)) calls names marks c calls names marks c (elementAt terms (n - 1))
+      → Ran (from tvConcatOn (elementAt terms) n (n - 1)) calls names marks c calls names marks c
+      (elementAt terms (n - 1))
   unfolding tvConcatOn tvJoin
   tv-from-top = from-top tvConcatOn tvJoin (λ e. refl) (λ e f fs. refl) (elementAt terms) n
 
-  pub tv-from-turn : (i : ℕ) {calls₀ names marks calls calls₁ : List ℕ} {c₀ c c₁ : Counts} {v v₁ : TritVec} → 0 < i → i < n
+  pub tv-from-turn : (i : ℕ) {calls₀ names marks calls calls₁ : List ℕ} {c₀ c c₁ : Counts} {v v₁ : TritVec} → 0 < i →
+      i < n
       → Ran (from tvConcatOn (elementAt terms) n i) calls₀ names marks c₀ calls names marks c v
       → Ran (tvJoin v (elementAt terms (i - 1))) calls names marks c calls₁ names marks c₁ v₁
       → Ran (from tvConcatOn (elementAt terms) n (i - 1)) calls₀ names marks c₀ calls₁ names marks c₁ v₁

@@ -7,7 +7,8 @@ use native.Mathlib.Numerals.{add-one}
 use native.Mathlib.Nat.{le-of-suc-le-suc}
 use lib.ListN.{length, set, drop, length-set}
 use lib.Seq.{getD-set-same, getD-set-other}
-use Rattle.logic.specs.Table.{tab, tab-ext}
+use Rattle.logic.specs.Table.{tab}
+use Rattle.logic.proofs.TableLaws.{tab-ext}
 use Rattle.smt.specs.Prog.{BitVec, bv, TritVec, tv}
 use Rattle.vectors.specs.Elements.{bitAt, bitElements, elementAt, elements}
 
@@ -73,7 +74,8 @@ pub bits-turn : (terms : List ℕ) (i t : ℕ) → i < length terms
     → bitElements (set terms i t) (i + 1) ≡ bitElements terms i ++ (bv t 1 ∷ [])
 unfolding bitElements
 bits-turn terms i t room =
-    rw (add-one i) (tab-snoc i (bitAt (set terms i t)) ∙ ap₂ (λ (l : List BitVec) (e : BitVec). l ++ (e ∷ [])) before here)
+    rw (add-one i)
+    (tab-snoc i (bitAt (set terms i t)) ∙ ap₂ (λ (l : List BitVec) (e : BitVec). l ++ (e ∷ [])) before here)
   where
     before : tab i (bitAt (set terms i t)) ≡ tab i (bitAt terms)
     before = tab-ext i _ _ λ j low. rw (getD-set-other terms i j t 0 (λ e. omega arith))

@@ -48,7 +48,8 @@ fn element_at(terms: &[u32], i: u32) -> TritVec
 
 // The terms of element i of a trit vector, stored.
 pub fn put_element(terms: &mut [u32], i: u32, value: TritVec)
-    ensures { λ _. ⌜ now (terms .exit) ≡ set (set (now (terms .entry)) (2 * i) (value .x .0)) (2 * i + 1) (value .y .0) ⌝ }
+    ensures { λ _.
+        ⌜ now (terms .exit) ≡ set (set (now (terms .entry)) (2 * i) (value .x .0)) (2 * i + 1) (value .y .0) ⌝ }
 {
     let at = 2 * (i as usize);
     logic::put(terms, at, value.x.0);

@@ -1,4 +1,5 @@
-// The program of document 01: the words of a design list on standard input, its script or its refusal on standard output.
+// The program of document 01: the words of a design list on standard input, its script or its refusal on standard
+// output.
 use libc::STDIN_FILENO;
 use libc::STDOUT_FILENO;
 

@@ -36,7 +36,8 @@ pub extern "C" fn vm_counts(list: &[u32], counts: &mut [u64]) -> u64
     packed::counts(list, counts)
 }
 
-// Checks a call list: the fault's number and place, or 0 and the number of terms; the numbers of terms and of declared names go into a slice.
+// Checks a call list: the fault's number and place, or 0 and the number of terms; the numbers of terms and of declared
+// names go into a slice.
 #[no_mangle]
 pub extern "C" fn vm_check(calls: &[u32], sizes: &mut [u64]) -> u64
     ensures { λ r. ⌜ PackedCheck (checkedOf (now (calls .entry))) (now (sizes .entry)) (now (sizes .exit)) r ⌝ }
@@ -57,11 +58,12 @@ pub extern "C" fn vm_check_with(
     packed_calls::check_with(calls, sizes, sorts, names)
 }
 
-// Evaluates a call list under the bits of its declared names into a slice: the fault's number and place, or 0 and the number of
-// false assertions.
+// Evaluates a call list under the bits of its declared names into a slice: the fault's number and place, or 0 and the
+// number of false assertions.
 #[no_mangle]
 pub extern "C" fn vm_evaluate(calls: &[u32], bits: &[u64], values: &mut [u64]) -> u64
-    ensures { λ r. ⌜ PackedEvaluation (now (calls .entry)) (now (bits .entry)) (now (values .entry)) (now (values .exit)) r ⌝ }
+    ensures { λ r.
+        ⌜ PackedEvaluation (now (calls .entry)) (now (bits .entry)) (now (values .entry)) (now (values .exit)) r ⌝ }
 {
     packed_calls::evaluate(calls, bits, values)
 }
@@ -75,7 +77,8 @@ pub extern "C" fn vm_evaluate_with(
     sorts: &mut [u8],
     names: &mut [u8],
 ) -> u64
-    ensures { λ r. ⌜ PackedEvaluation (now (calls .entry)) (now (bits .entry)) (now (values .entry)) (now (values .exit)) r ⌝ }
+    ensures { λ r.
+        ⌜ PackedEvaluation (now (calls .entry)) (now (bits .entry)) (now (values .entry)) (now (values .exit)) r ⌝ }
 {
     packed_calls::evaluate_with(calls, bits, values, sorts, names)
 }
@@ -83,7 +86,8 @@ pub extern "C" fn vm_evaluate_with(
 // Writes the script of a call list and its recorded marks: the fault's number and place, or 0 and the number of bytes.
 #[no_mangle]
 pub extern "C" fn vm_script(calls: &[u32], recorded: &[u8], text: &mut [u8]) -> u64
-    ensures { λ r. ⌜ PackedScript (now (calls .entry)) (now (recorded .entry)) (now (text .entry)) (now (text .exit)) r ⌝ }
+    ensures { λ r.
+        ⌜ PackedScript (now (calls .entry)) (now (recorded .entry)) (now (text .entry)) (now (text .exit)) r ⌝ }
 {
     packed_calls::script(calls, recorded, text)
 }
@@ -98,15 +102,18 @@ pub extern "C" fn vm_script_with(
     sorts: &mut [u8],
     names: &mut [u8],
 ) -> u64
-    ensures { λ r. ⌜ PackedScript (now (calls .entry)) (now (recorded .entry)) (now (text .entry)) (now (text .exit)) r ⌝ }
+    ensures { λ r.
+        ⌜ PackedScript (now (calls .entry)) (now (recorded .entry)) (now (text .entry)) (now (text .exit)) r ⌝ }
 {
     packed_calls::script_with(calls, recorded, text, places, sorts, names)
 }
 
-// Reads a solver's answer against the recorded marks into a table: the fault's number and place, or 0 for unsat and 1 for sat.
+// Reads a solver's answer against the recorded marks into a table: the fault's number and place, or 0 for unsat and 1
+// for sat.
 #[no_mangle]
 pub extern "C" fn vm_answer(text: &[u8], recorded: &[u8], trits: &mut [u8]) -> u64
-    ensures { λ r. ⌜ PackedAnswer (now (text .entry)) (now (recorded .entry)) (now (trits .entry)) (now (trits .exit)) r ⌝ }
+    ensures { λ r.
+        ⌜ PackedAnswer (now (text .entry)) (now (recorded .entry)) (now (trits .entry)) (now (trits .exit)) r ⌝ }
 {
     packed_calls::answer(text, recorded, trits)
 }

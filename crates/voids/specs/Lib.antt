@@ -1,3 +1,2 @@
 pub mod Voids
 pub mod Marks
-pub mod Laws

@@ -1,5 +1,5 @@
--- Document 01, "Faults and what stays", fault 10: "a net word other than a Dff clock or a replacement's from names a Void of the base".
--- "After the last word 10, in list order": a second pass over the cells, the new cells and the tos.
+-- Document 01, "Faults and what stays", fault 10: "a net word other than a Dff clock or a replacement's from names a
+-- Void of the base". "After the last word 10, in list order": a second pass over the cells, the new cells and the tos.
 use Prim.Native.Nat.{ℕ, _+_, _/_}
 use mathlib.Core.List.{List}
 use mathlib.Core.Bool.{Bool, false, cond}
@@ -28,7 +28,8 @@ namesVoid void net = voidDriver void (driverOf net)
 
 -- Whether the word at a place is a net or control word, not the clock, that names a Void.
 unfoldable pub offends : List ℕ → (ℕ → Bool) → ℕ → ℕ → Bool
-offends w void clock at = cond (leb (kindOf (getD w at 0)) 1) (cond (eqb at clock) false (namesVoid void (payloadOf (getD w at 0)))) false
+offends w void clock at =
+    cond (leb (kindOf (getD w at 0)) 1) (cond (eqb at clock) false (namesVoid void (payloadOf (getD w at 0)))) false
 
 unfoldable pub voidAt : List ℕ → (ℕ → Bool) → ℕ → ℕ → Scan
 voidAt w void clock at = cond (offends w void clock at) (Refused (fault 10 at)) (Clean (at + 1))

@@ -1,4 +1,5 @@
--- The loop over the cells: where it stands, and that the steps that are left complete those of all cells; and both loops together.
+-- The loop over the cells: where it stands, and that the steps that are left complete those of all cells; and both
+-- loops together.
 use mathlib.Core.Path.{_≡_}
 use mathlib.Core.Bool.{true}
 use mathlib.Core.List.{List}
@@ -21,37 +22,51 @@ use Rattle.walk.proofs.Cells.{Place, place-start, here-cell, here-new, 
 use Rattle.walk.proofs.Room.{obligations-few, kept-first}
 
 -- Along the cells.
-pub record Along (d : Design) (w table : List ℕ) (replacements pairs slot at rep : ℕ) (calls₀ names₀ marks₀ eqs₀ : List ℕ) (s₀ : Walked) (calls names marks eqs : List ℕ) (s : Walked) : Type 0 where
+pub record Along (d : Design) (w table : List ℕ) (replacements pairs slot at rep : ℕ)
+    (calls₀ names₀ marks₀ eqs₀ : List ℕ) (s₀ : Walked) (calls names marks eqs : List ℕ) (s : Walked) : Type 0 where
   pub place : Place d w table replacements pairs slot at rep
-  pub left : Left (eachCell d (d .cells)) (eachCell d (place .cells)) calls₀ names₀ marks₀ eqs₀ s₀ calls names marks eqs s
+  pub left : Left (eachCell d (d .cells)) (eachCell d (place .cells)) calls₀ names₀ marks₀ eqs₀ s₀ calls names marks eqs
+      s
 
-module _ (w : List ℕ) {table : List ℕ} {d : Design} {replacements pairs : ℕ} (accepts : read w ≡ accepted d replacements pairs) (tells : Tells d table) where
+module _ (w : List ℕ) {table : List ℕ} {d : Design} {replacements pairs : ℕ}
+    (accepts : read w ≡ accepted d replacements pairs) (tells : Tells d table) where
   pub along-start : (calls names marks eqs : List ℕ) (s : Walked)
       → Along d w table replacements pairs 0 4 replacements calls names marks eqs s calls names marks eqs s
   unfolding place-start
-  along-start calls names marks eqs s = record { place = place-start w accepts tells; left = left-start _ calls names marks eqs s }
+  along-start calls names marks eqs s =
+      record { place = place-start w accepts tells; left = left-start _ calls names marks eqs s }
 
-  pub along-turn : {slot at rep : ℕ} {calls₀ names₀ marks₀ eqs₀ calls names marks eqs calls₁ names₁ marks₁ eqs₁ : List ℕ} {s₀ s s₁ : Walked}
-      → Along d w table replacements pairs slot at rep calls₀ names₀ marks₀ eqs₀ s₀ calls names marks eqs s → slot < total d
-      → Does (stepsAt (pastIn table) slot (widthIn table slot) (cellAt w at) (newAt w pairs rep slot)) calls names marks eqs s calls₁ names₁ marks₁ eqs₁ s₁
+  pub along-turn : {slot at rep : ℕ}
+      {calls₀ names₀ marks₀ eqs₀ calls names marks eqs calls₁ names₁ marks₁ eqs₁ : List ℕ} {s₀ s s₁ : Walked}
+      → Along d w table replacements pairs slot at rep calls₀ names₀ marks₀ eqs₀ s₀ calls names marks eqs s →
+      slot < total d
+      → Does (stepsAt (pastIn table) slot (widthIn table slot) (cellAt w at) (newAt w pairs rep slot)) calls names marks
+      eqs s calls₁ names₁ marks₁ eqs₁ s₁
       → Along d w table replacements pairs (slot + max 1 (widthIn table slot)) (endAt w at) (repAfter w pairs rep slot)
       calls₀ names₀ marks₀ eqs₀ s₀ calls₁ names₁ marks₁ eqs₁ s₁
   along-turn {slot} {at} {rep} along inside does =
       let turn = cell-turn w accepts tells (along .place) inside in
       record {
         place = turn .next;
-        left = left-turn (stepsAt (pastIn table) slot (widthIn table slot) (cellAt w at) (newAt w pairs rep slot)) (eachCell d (turn .next .cells))
+        left = left-turn (stepsAt (pastIn table) slot (widthIn table slot) (cellAt w at) (newAt w pairs rep slot))
+            (eachCell d (turn .next .cells))
             (rw (turn .step) at (along .left)) does;
       }
 
   -- A turn in the code's terms: the slot's number is the index, and what each call answers.
-  pub along-step : {index number k at at₁ rep rep₁ : ℕ} {calls₀ names₀ marks₀ eqs₀ calls names marks eqs calls₁ names₁ marks₁ eqs₁ : List ℕ} {s₀ s s₁ : Walked}
-      → Along d w table replacements pairs index at rep calls₀ names₀ marks₀ eqs₀ s₀ calls names marks eqs s → index < total d → number ≡ index % 4294967296
-      → (Readable w at → (isNext w pairs rep number ≡ true → Readable w (rep + 1)) → widthIn table number ≤ 64 → number + widthIn table number + 1 < 536870911
-      → Does (stepsAt (pastIn table) number (widthIn table number) (cellAt w at) (newAt w pairs rep number)) calls names marks eqs s calls₁ names₁ marks₁ eqs₁ s₁)
+  pub along-step : {index number k at at₁ rep rep₁ : ℕ}
+      {calls₀ names₀ marks₀ eqs₀ calls names marks eqs calls₁ names₁ marks₁ eqs₁ : List ℕ} {s₀ s s₁ : Walked}
+      → Along d w table replacements pairs index at rep calls₀ names₀ marks₀ eqs₀ s₀ calls names marks eqs s →
+      index < total d → number ≡ index % 4294967296
+      → (Readable w at → (isNext w pairs rep number ≡ true → Readable w (rep + 1)) → widthIn table number ≤ 64 →
+      number + widthIn table number + 1 < 536870911
+      → Does (stepsAt (pastIn table) number (widthIn table number) (cellAt w at) (newAt w pairs rep number)) calls names
+      marks eqs s calls₁ names₁ marks₁ eqs₁ s₁)
       → (at < length w → at₁ ≡ endAt w at)
-      → ((isNext w pairs rep number ≡ true → Readable w (rep + 1)) → rep₁ ≡ repAfter w pairs rep number) → k ≡ max 1 (widthIn table number)
-      → Along d w table replacements pairs (index + k) at₁ rep₁ calls₀ names₀ marks₀ eqs₀ s₀ calls₁ names₁ marks₁ eqs₁ s₁
+      → ((isNext w pairs rep number ≡ true → Readable w (rep + 1)) → rep₁ ≡ repAfter w pairs rep number) → k
+      ≡ max 1 (widthIn table number)
+      → Along d w table replacements pairs (index + k) at₁ rep₁ calls₀ names₀ marks₀ eqs₀ s₀ calls₁ names₁ marks₁ eqs₁
+      s₁
   along-step {index} {number} {k} {at} {at₁} {rep} {rep₁} along inside same does next after size =
       let here = here-cell w accepts tells (along .place) inside in
       let last = here .after in
@@ -62,14 +77,17 @@ module _ (w : List ℕ) {table : List ℕ} {d : Design} {replacements pairs : �
       rw (rw is at size, next (here .readable .inside), rw is at (after (rw is new))) (along-turn along inside step)
 
   pub along-end : {slot at rep : ℕ} {calls₀ names₀ marks₀ eqs₀ calls names marks eqs : List ℕ} {s₀ s : Walked}
-      → Along d w table replacements pairs slot at rep calls₀ names₀ marks₀ eqs₀ s₀ calls names marks eqs s → total d ≤ slot
+      → Along d w table replacements pairs slot at rep calls₀ names₀ marks₀ eqs₀ s₀ calls names marks eqs s →
+      total d ≤ slot
       → Does (eachCell d (d .cells)) calls₀ names₀ marks₀ eqs₀ s₀ calls names marks eqs s
   along-end along past = left-end (rw (cells-end w accepts tells (along .place) past) at (along .left))
 
--- The cells and then the net replacements are the whole order of work, and the obligations' terms stand first in the table.
+-- The cells and then the net replacements are the whole order of work, and the obligations' terms stand first in the
+-- table.
 pub works : (w : List ℕ) {d : Design} {replacements pairs : ℕ} → read w ≡ accepted d replacements pairs
     → {calls names marks eqs calls₁ names₁ marks₁ eqs₁ calls₂ names₂ marks₂ eqs₂ : List ℕ} {c : Counts} {s₁ s₂ : Walked}
-    → Does (eachCell d (d .cells)) calls names marks eqs (record { counts = c; obligations = 0 }) calls₁ names₁ marks₁ eqs₁ s₁
+    → Does (eachCell d (d .cells)) calls names marks eqs (record { counts = c; obligations = 0 }) calls₁ names₁ marks₁
+    eqs₁ s₁
     → Does (eachPair d (d .netReps)) calls₁ names₁ marks₁ eqs₁ s₁ calls₂ names₂ marks₂ eqs₂ s₂
     → Works d calls names marks eqs c calls₂ names₂ marks₂ eqs₂ s₂
 works w {d} accepts {eqs = eqs} cells pairs =

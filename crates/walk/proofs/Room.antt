@@ -1,4 +1,5 @@
--- How many obligations an accepted list has: at most one for each cell and two for each net replacement, so at most 12,288.
+-- How many obligations an accepted list has: at most one for each cell and two for each net replacement, so at most
+-- 12,288.
 use mathlib.Core.Path.{_≡_, refl, ap, _∙_}
 use mathlib.Core.Bool.{Bool, true, false, cond}
 use mathlib.Core.Option.{Option, none, some}
@@ -13,16 +14,16 @@ use Rattle.cell.specs.Design.{Design, Placed, NetPair, total}
 use Rattle.fields.specs.declared.Number.{Number}
 use Rattle.fields.specs.declared.Number.the-variants as N
 use Rattle.fields.specs.Field.{numberAt}
-use Rattle.fields.specs.Accepted.{number-read}
+use Rattle.fields.proofs.AcceptedLaws.{number-read}
 use Rattle.items.specs.declared.Header.{Header}
 use Rattle.items.specs.declared.Opening.the-variants as O
 use Rattle.items.specs.Items.{onHeaderNumber, countsAt, headerAt, netPair, pairAt}
 use Rattle.design_list.specs.Read.{read, accepted}
-use Rattle.design_list.specs.Accepted.{accepted-read}
+use Rattle.design_list.proofs.AcceptedLaws.{accepted-read}
 use Rattle.working_out.specs.Reading.{Pair, equal, ofVoid, ofDffs, ordinary, readsPast, pairOf}
 use Rattle.working_out.specs.Laid.{Run}
-use Rattle.accepted.specs.Replacements.{climb-read, IsPair, pair-read}
-use Rattle.accepted.specs.Laid.{accepted-laid}
+use Rattle.accepted.proofs.Replacements.{climb-read, IsPair, pair-read}
+use Rattle.accepted.proofs.Laid.{accepted-laid}
 use Rattle.order.specs.Verify.{Step, addCell, withNew, cellSteps, pairSteps, eachCell, eachPair, steps, newCellIn}
 use Rattle.net_pairs.specs.Does.{obligedIn, Kept}
 use Rattle.walk.specs.Works.{mostObligations}
@@ -32,7 +33,8 @@ use Rattle.walk_cell.proofs.Steps.{added-none}
 
 -- ---- how many obligations
 
-cell-obliges : (past : ℕ → Bool) (slot width : ℕ) (a : Cell) (new : Option Cell) → obligedIn (stepsAt past slot width a new) ≤ 1
+cell-obliges : (past : ℕ → Bool) (slot width : ℕ) (a : Cell) (new : Option Cell) →
+    obligedIn (stepsAt past slot width a new) ≤ 1
 unfolding obligedIn
 cell-obliges past slot width a new = go (eqb width 0) new
   where
@@ -62,7 +64,8 @@ cells-oblige : (d : Design) (cells : List Placed) → obligedIn (eachCell d cell
 unfolding obligedIn eachCell
 cells-oblige d [] = omega arith
 cells-oblige d (p ∷ cells) =
-    let first = cell-obliges (readsPast d) (p .slot) (outputLen (p .cell)) (p .cell) (newCellIn (d .cellReps) (p .slot)) in
+    let first =
+    cell-obliges (readsPast d) (p .slot) (outputLen (p .cell)) (p .cell) (newCellIn (d .cellReps) (p .slot)) in
     let more = cells-oblige d cells in
     rw (obliged-append (cellSteps d p) (eachCell d cells)) (omega arith)
 
@@ -87,18 +90,22 @@ header-pairs w {h} read = base-read (numberAt w 4096 4 0) read
   where
     counts : (base added : ℕ) (n₁ n₂ : Number) → numberAt w 4096 4 3 ≡ n₂ →
         onHeaderNumber n₁ (λ (cellreps : ℕ). onHeaderNumber n₂ (λ (netreps : ℕ).
-        O.Read record { base = base; added = added; cellreps = cellreps; netreps = netreps })) ≡ O.Read h → h .netreps ≤ 4096
+        O.Read record { base = base; added = added; cellreps = cellreps; netreps = netreps })) ≡ O.Read h →
+        h .netreps ≤ 4096
     counts base added (N.Refused f) n₂ n e = let z : _≡_ {A = ℕ} 0 1 = cc in absurd (omega arith)
     counts base added (N.Value a b) (N.Refused f) n e = let z : _≡_ {A = ℕ} 0 1 = cc in absurd (omega arith)
     counts base added (N.Value a b) (N.Value k next) n e =
         let same : record { base = base; added = added; cellreps = a; netreps = k } ≡ h = cc in
         rw (← same) (number-read w 4096 4 3 n .bounded)
 
-    added-read : (base : ℕ) (n : Number) → onHeaderNumber n (λ (added : ℕ). countsAt w base added) ≡ O.Read h → h .netreps ≤ 4096
+    added-read : (base : ℕ) (n : Number) → onHeaderNumber n (λ (added : ℕ). countsAt w base added) ≡ O.Read h →
+        h .netreps ≤ 4096
     added-read base (N.Refused f) e = let z : _≡_ {A = ℕ} 0 1 = cc in absurd (omega arith)
     added-read base (N.Value added next) e = counts base added (numberAt w 4096 4 2) (numberAt w 4096 4 3) refl e
 
-    base-read : (n : Number) → onHeaderNumber n (λ (base : ℕ). onHeaderNumber (numberAt w (4096 - base) 4 1) (λ (added : ℕ). countsAt w base added)) ≡ O.Read h
+    base-read : (n : Number) →
+        onHeaderNumber n
+        (λ (base : ℕ). onHeaderNumber (numberAt w (4096 - base) 4 1) (λ (added : ℕ). countsAt w base added)) ≡ O.Read h
         → h .netreps ≤ 4096
     base-read (N.Refused f) e = let z : _≡_ {A = ℕ} 0 1 = cc in absurd (omega arith)
     base-read (N.Value base next) e = added-read base (numberAt w (4096 - base) 4 1) e
@@ -116,13 +123,16 @@ module _ (w : List ℕ) {d : Design} {replacements pairs : ℕ} (accepts : read 
   most-low =
       let is = accepted-read w accepts in
       let slots = is .low in
-      let run = climb-read (IsPair w (total d)) (netPair w) (pairAt w (total d)) (pair-read w (total d)) (is .header .netreps) 0 pairs (is .end) (is .pairs-read) in
+      let run =
+      climb-read (IsPair w (total d)) (netPair w) (pairAt w (total d)) (pair-read w (total d)) (is .header .netreps)
+      0 pairs (is .end) (is .pairs-read) in
       let few : length (d .netReps) ≡ is .header .netreps = ap length (is .pairs-are) ∙ run .many in
       let low = header-pairs w (is .header-read) in
       omega arith
 
 -- The terms kept from 0 on are the first words of the table.
-pub kept-first : {eqs terms eqs′ : List ℕ} {n : ℕ} → Kept eqs 0 terms eqs′ n → length terms ≤ length eqs → take n eqs′ ≡ terms
+pub kept-first : {eqs terms eqs′ : List ℕ} {n : ℕ} → Kept eqs 0 terms eqs′ n → length terms ≤ length eqs → take n eqs′
+    ≡ terms
 kept-first {eqs} {terms} {eqs′} {n} kept room =
     let many = kept .many in
     rw (kept .words, sets-eq terms eqs 0 (omega arith)) (take-at terms _ n (omega arith))

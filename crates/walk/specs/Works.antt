@@ -14,7 +14,8 @@ abbrev pub mostObligations : Design → ℕ
 mostObligations d = total d + 2 * length (d .netReps)
 
 -- With room for all obligations, their terms are the first words of the table.
-pub record Works (d : Design) (calls names marks eqs : List ℕ) (c : Counts) (calls′ names′ marks′ eqs′ : List ℕ) (s′ : Walked) : Type 0 where
+pub record Works (d : Design) (calls names marks eqs : List ℕ) (c : Counts) (calls′ names′ marks′ eqs′ : List ℕ)
+    (s′ : Walked) : Type 0 where
   pub terms : List ℕ
   pub did : Did (steps d) calls names marks c calls′ names′ marks′ (s′ .counts) terms
   pub first : mostObligations d ≤ length eqs → take (s′ .obligations) eqs′ ≡ terms

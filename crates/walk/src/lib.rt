@@ -1,5 +1,5 @@
-// `Design::verify` of design.rs: the order of work of an accepted list, as one walk over its words, cells first and then
-// net replacements.
+// `Design::verify` of design.rs: the order of work of an accepted list, as one walk over its words, cells first and
+// then net replacements.
 use builder::Counts;
 use logic::Slot;
 use net_pairs::Walked;
@@ -21,8 +21,8 @@ fn slots_at(table: &[u32], slot: Slot) -> u32
     if width < 1 { 1 } else { width }
 }
 
-// Every cell in slot order, and with it the next cell replacement where it is the cell's; the replacements end where the
-// net replacements begin.
+// Every cell in slot order, and with it the next cell replacement where it is the cell's; the replacements end where
+// the net replacements begin.
 fn verify_cells(
     list: &[u32],
     replacements: usize,

@@ -20,6 +20,7 @@ next-inside w end rep slot = go (ltb rep end) refl
     go false inside e = absurd (false≢true e)
 
 -- The cell of a record is that of the part of the list after its head.
-pub fields-in : (w : List ℕ) (at : ℕ) {op : Operation} → op ≡ opAt w at → cellIn (take (length w - (at + 1)) (drop (at + 1) w)) op 0 ≡ cellAt w at
+pub fields-in : (w : List ℕ) (at : ℕ) {op : Operation} → op ≡ opAt w at →
+    cellIn (take (length w - (at + 1)) (drop (at + 1) w)) op 0 ≡ cellAt w at
 unfolding cellAt
 fields-in w at same = rw (part-all w (at + 1), same) (cell-in w (at + 1) (opAt w at))

@@ -1,4 +1,5 @@
--- The steps of a cell: none at output width 0, else those of the cell and, where one is given, of the new cell. Assumes nothing.
+-- The steps of a cell: none at output width 0, else those of the cell and, where one is given, of the new cell. Assumes
+-- nothing.
 use mathlib.Core.Path.{_≡_, refl}
 use mathlib.Core.Bool.{Bool, true, false, cond}
 use mathlib.Core.Option.{Option, none, some}
@@ -33,9 +34,11 @@ module _ (past : ℕ → Bool) (slot : ℕ) (a : Cell) where
       → Does (stepsAt past slot width a none) calls names marks eqs s calls′ names′ marks′ eqs s′
   does-old width wide old = rw (ne-eqb width 0 wide) old
 
-  pub does-both : (width : ℕ) (b : Cell) {calls names marks eqs calls₁ names₁ marks₁ calls₂ names₂ marks₂ eqs₂ : List ℕ} {s s₁ s₂ : Walked} → (width ≡ 0 → ⊥)
+  pub does-both : (width : ℕ) (b : Cell) {calls names marks eqs calls₁ names₁ marks₁ calls₂ names₂ marks₂ eqs₂ : List ℕ}
+      {s s₁ s₂ : Walked} → (width ≡ 0 → ⊥)
       → Does (addCell past slot width a ∷ []) calls names marks eqs s calls₁ names₁ marks₁ eqs s₁
       → Does (obliged (newCell past slot width b) ∷ []) calls₁ names₁ marks₁ eqs s₁ calls₂ names₂ marks₂ eqs₂ s₂
       → Does (stepsAt past slot width a (some b)) calls names marks eqs s calls₂ names₂ marks₂ eqs₂ s₂
   does-both width b wide old new =
-      rw (ne-eqb width 0 wide) (does-append (addCell past slot width a ∷ []) (obliged (newCell past slot width b) ∷ []) old new)
+      rw (ne-eqb width 0 wide)
+      (does-append (addCell past slot width a ∷ []) (obliged (newCell past slot width b) ∷ []) old new)

@@ -1,4 +1,5 @@
--- The cell replacements go along with the cells: the place of the next one's #slot, and what it is to the cell at a slot.
+-- The cell replacements go along with the cells: the place of the next one's #slot, and what it is to the cell at a
+-- slot.
 use mathlib.Core.Bool.{Bool, false, cond}
 use mathlib.Core.Option.{Option, none, some}
 use mathlib.Core.List.{List, [], _∷_}
@@ -19,7 +20,8 @@ isNext w end rep slot = cond (ltb rep end) (eqb (numberIn w rep) slot) false
 abbrev pub newAt : List ℕ → ℕ → ℕ → ℕ → Option Cell
 newAt w end rep slot = cond (isNext w end rep slot) (some (cellAt w (rep + 1))) none
 
--- The place of the next replacement, after the cell at a slot: a cell of output width 0 is skipped with its replacement.
+-- The place of the next replacement, after the cell at a slot: a cell of output width 0 is skipped with its
+-- replacement.
 abbrev pub repAfter : List ℕ → ℕ → ℕ → ℕ → ℕ
 repAfter w end rep slot = cond (isNext w end rep slot) (endAt w (rep + 1)) rep
 
@@ -27,7 +29,8 @@ repAfter w end rep slot = cond (isNext w end rep slot) (endAt w (rep + 1)) rep
 abbrev pub stepsAt : (ℕ → Bool) → ℕ → ℕ → Cell → Option Cell → List Step
 stepsAt past slot width a new = cond (eqb width 0) [] (addCell past slot width a ∷ withNew past slot width new)
 
--- What is known of a record in the list: it ends within the list, and the cell that it stands for has its bounds and its shape.
+-- What is known of a record in the list: it ends within the list, and the cell that it stands for has its bounds and
+-- its shape.
 pub record Readable (w : List ℕ) (at : ℕ) : Type 0 where
   pub inside : at < length w
   pub ends : endAt w at ≤ length w

@@ -4,12 +4,6 @@ pub mod Equations
 pub mod WorkingOut
 pub mod Obligations
 pub mod Laid
-pub mod Solutions
-pub mod WorkedOut
-pub mod Judged
 pub mod Order
 pub mod Graph
 pub mod System
-pub mod Layout
-pub mod Replaced
-pub mod Nodes

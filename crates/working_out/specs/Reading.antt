@@ -3,7 +3,7 @@
 use mathlib.Core.Path.{_≡_}
 use mathlib.Core.Bool.{Bool, true, false, not, cond, _&&_}
 use mathlib.Core.Option.{Option, none, some}
-use mathlib.Core.List.{List, [], _∷_, _++_}
+use mathlib.Core.List.{List, [], _∷_}
 use Prim.Native.Nat.{ℕ, _+_}
 use lib.Dec.{eqb, ltb, leb}
 use Rattle.logic.specs.Trit.{tritNumber}
@@ -13,14 +13,6 @@ use Rattle.cell.specs.Cell as c
 use Rattle.cell.specs.Design.{Design, Placed, NetPair}
 use Rattle.rules.specs.CellRule.{Trits, ofNet}
 pub use Rattle.rules.specs.Width.{Each}
-
-pub each-map : {A : Type 0} {P Q : A → Type 0} (l : List A) → ((x : A) → P x → Q x) → Each P l → Each Q l
-each-map [] f h = tt
-each-map (x ∷ l) f h = (f x (h .0), each-map l f (h .1))
-
-pub each-append : {A : Type 0} (P : A → Type 0) (a b : List A) → Each P a → Each P b → Each P (a ++ b)
-each-append P [] b h k = k
-each-append P (x ∷ a) b h k = (h .0, each-append P a b (h .1) k)
 
 -- ---- The cell that a slot belongs to; a slot past the last cell counts as a Note's.
 abbrev pub isIn : Placed → ℕ → Bool

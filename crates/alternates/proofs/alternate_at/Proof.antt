@@ -1,5 +1,5 @@
--- `alternates::alternate_at` meets its contract: numbers of 32 bits have a product and a sum of 64; past the last number it is the
--- last. Assumes nothing.
+-- `alternates::alternate_at` meets its contract: numbers of 32 bits have a product and a sum of 64; past the last
+-- number it is the last. Assumes nothing.
 use borrow.Author.Needs.{needs}
 use native.Mathlib.Omega.{arith}
 use Rattle.alternates.proofs.Places.{product-fits}

@@ -1,5 +1,6 @@
--- `alternates::product` meets its contract. Invariant: the positions below `index` are compared, and what the model does from `index` on completes
--- its whole run (`ProductLeft`); each turn is one position. What is left of n positions falls. Assumes nothing.
+-- `alternates::product` meets its contract. Invariant: the positions below `index` are compared, and what the model
+-- does from `index` on completes its whole run (`ProductLeft`); each turn is one position. What is left of n positions
+-- falls. Assumes nothing.
 use borrow.Author.Needs.{needs}
 use mathlib.Core.Path.{_≡_, refl, _∙_}
 use Prim.Native.Nat.{_≤_, _+_, _-_}

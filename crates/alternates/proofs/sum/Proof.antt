@@ -1,5 +1,6 @@
--- `alternates::sum` meets its contract. Invariant: the alternates below i are summed, and what the model does from i on completes its whole run
--- (`SumLeft`); each turn is one alternate, whose place is exact within the premise. What is left of the alternates falls. Assumes nothing.
+-- `alternates::sum` meets its contract. Invariant: the alternates below i are summed, and what the model does from i on
+-- completes its whole run (`SumLeft`); each turn is one alternate, whose place is exact within the premise. What is
+-- left of the alternates falls. Assumes nothing.
 use borrow.Author.Needs.{needs}
 use mathlib.Core.Path.{_≡_, refl, ap, _∙_}
 use Prim.Native.Nat.{_≤_, _<_, _+_, _*_, _-_, _^_}
@@ -22,7 +23,8 @@ abbrev Inv-loop : tie.InvT-loop
 Inv-loop fields at n table calls₀ names₀ marks₀ alternates sum₀ i₀ calls names marks sum i =
     (i ≤ alternates) × (length calls ≡ length calls₀) × (length names ≡ length names₀) × (length marks ≡ length marks₀)
     × (at + 1 + alternates * n < 2 ^ 32
-    → SumLeft (pastIn table) (netsIn fields n 3) (tab alternates (λ j. tritsIn fields n (at + 1 + j * n))) (trits 1 (sum₀ .value))
+    → SumLeft (pastIn table) (netsIn fields n 3) (tab alternates (λ j. tritsIn fields n (at + 1 + j * n)))
+    (trits 1 (sum₀ .value))
     calls₀ names₀ marks₀ (sum₀ .counts) i (trits 1 (sum .value)) calls names marks (sum .counts))
 
 abbrev μ-loop : tie.MeasureT-loop
@@ -91,7 +93,8 @@ returns c =
     let fits = rw (← number) at room in
     rw (← number)
     (ran-bind _ (at-trit-lit .trit-lit .ensures _ _)
-    (sum-end (at-loop .loop .i) (drop-all (at-payload .payload .result) _ _ (c .loop-test .left)) (at-loop .loop .inv .4 fits)))
+    (sum-end (at-loop .loop .i) (drop-all (at-payload .payload .result) _ _ (c .loop-test .left))
+    (at-loop .loop .inv .4 fits)))
 
 pub sum-spec : {M : Type 1} → statement M
 sum-spec =

@@ -5,7 +5,7 @@ use Prim.Native.Nat.{_-_}
 use mathlib.Core.Path.{_≡_, refl, sym, _∙_}
 use lib.ListN.{length, drop}
 use Rattle.answer.specs.Reply.{badMark}
-use Rattle.answer.specs.Model.{mark-bad, mark-fine, marks-done}
+use Rattle.answer.proofs.ModelLaws.{mark-bad, mark-fine, marks-done}
 use Rattle.answer.proofs.bad_mark.Statement.{statement}
 use Rattle.answer.proofs.bad_mark.Tie as tie
 

@@ -2,7 +2,7 @@
 use borrow.Author.Needs.{needs}
 use mathlib.Core.List.{[]}
 use mathlib.Core.Path.{sym, _∙_}
-use Rattle.answer.specs.Model.{model-none, model-some, nothing-table}
+use Rattle.answer.proofs.ModelLaws.{model-none, model-some, nothing-table}
 use Rattle.answer.proofs.model_at.Statement.{statement}
 use Rattle.answer.proofs.model_at.Tie as tie
 

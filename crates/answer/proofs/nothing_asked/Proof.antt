@@ -6,7 +6,7 @@ use mathlib.Core.Path.{_≡_, refl, sym, ap, _∙_}
 use lib.ListN.{length, drop}
 use Rattle.text.specs.Names.{askedFrom}
 use Rattle.answer.specs.Entries.{nothing}
-use Rattle.answer.specs.Model.{asked-one, asked-two, asked-none, asked-done}
+use Rattle.answer.proofs.ModelLaws.{asked-one, asked-two, asked-none, asked-done}
 use Rattle.answer.proofs.nothing_asked.Statement.{statement}
 use Rattle.answer.proofs.nothing_asked.Tie as tie
 
@@ -32,7 +32,8 @@ returns-2 : tie.Need-returns-2 Inv-loop μ-loop
 returns-2 c =
     let tested = c .before .before .before in
     let looped = tested .before in
-    sym (ap nothing (looped .loop .inv) ∙ asked-two _ _ (tested .loop-test .taken) (c .before .if1 .left) (c .if2 .taken))
+    sym (ap nothing (looped .loop .inv)
+    ∙ asked-two _ _ (tested .loop-test .taken) (c .before .if1 .left) (c .if2 .taken))
 
 add-slot : tie.Need-add-slot Inv-loop μ-loop
 add-slot c = search needs

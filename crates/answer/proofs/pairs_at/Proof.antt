@@ -1,7 +1,8 @@
--- `answer::pairs_at` meets its contract: the entries, the closing parenthesis and the end of the text, in this order. Assumes nothing.
+-- `answer::pairs_at` meets its contract: the entries, the closing parenthesis and the end of the text, in this order.
+-- Assumes nothing.
 use borrow.Author.Needs.{needs}
 use mathlib.Core.List.{[]}
-use Rattle.answer.specs.Model.{scanned, scanned-fault}
+use Rattle.answer.proofs.ModelLaws.{scanned, scanned-fault}
 use Rattle.answer.proofs.pairs_at.Statement.{statement}
 use Rattle.answer.proofs.pairs_at.Tie as tie
 

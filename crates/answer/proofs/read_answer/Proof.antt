@@ -1,8 +1,8 @@
--- `answer::read_answer` meets its contract: the marks, the room and the text are tested in this order, and the table is written only
--- after all of the text was found good. Assumes nothing.
+-- `answer::read_answer` meets its contract: the marks, the room and the text are tested in this order, and the table is
+-- written only after all of the text was found good. Assumes nothing.
 use borrow.Author.Needs.{needs}
 use mathlib.Core.Path.{refl, sym, ap, _∙_}
-use Rattle.answer.specs.Model.{reply-marks, reply-room, reply-text, read-as, table-written}
+use Rattle.answer.proofs.ModelLaws.{reply-marks, reply-room, reply-text, read-as, table-written}
 use Rattle.reply.specs.Reply.{satisfied}
 use Rattle.text.specs.Names.{asked}
 use Rattle.answer.proofs.read_answer.Statement.{statement}
@@ -54,7 +54,8 @@ returns-2 c =
     let told = c .before in
     let marks = told .before .before in
     let start = marks .before .before .before .before in
-    read-as _ _ (start .args .trits .now) (reply-marks _ _ _ (sym (marks .bad-mark .ensures) ∙ told .slot .given .1)) refl
+    read-as _ _ (start .args .trits .now) (reply-marks _ _ _ (sym (marks .bad-mark .ensures) ∙ told .slot .given .1))
+    refl
 
 returns-3 : tie.Need-returns-3
 returns-3 c =

@@ -1,16 +1,18 @@
--- `answer::scan_entries` meets its contract. The loop's invariant: reading goes on from `slot` and `at` as it does from the start.
--- The measure is the number of marks left. Assumes nothing.
+-- `answer::scan_entries` meets its contract. The loop's invariant: reading goes on from `slot` and `at` as it does from
+-- the start. The measure is the number of marks left. Assumes nothing.
 use borrow.Author.Needs.{needs}
 use Prim.Native.Nat.{_-_}
 use mathlib.Core.Path.{_≡_, refl, ap, _∙_}
 use lib.ListN.{length, drop}
 use Rattle.tokens.specs.Place.{tokensFrom}
-use Rattle.answer.specs.Entries.{entries, forget, entries-turn, entries-fault, entries-done}
+use Rattle.answer.specs.Entries.{entries, forget}
+use Rattle.answer.proofs.EntriesLaws.{entries-turn, entries-fault, entries-done}
 use Rattle.answer.proofs.scan_entries.Statement.{statement}
 use Rattle.answer.proofs.scan_entries.Tie as tie
 
 abbrev Inv-loop : tie.InvT-loop
-Inv-loop text start recorded at₀ slot₀ at slot = forget (entries 0 recorded (tokensFrom text start)) ≡ forget (entries slot (drop slot recorded) (tokensFrom text at))
+Inv-loop text start recorded at₀ slot₀ at slot = forget (entries 0 recorded (tokensFrom text start))
+    ≡ forget (entries slot (drop slot recorded) (tokensFrom text at))
 
 abbrev μ-loop : tie.MeasureT-loop
 μ-loop text start recorded at₀ slot₀ at slot = length recorded - slot

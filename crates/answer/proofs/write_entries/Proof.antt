@@ -1,19 +1,21 @@
--- `answer::write_entries` meets its contract. The loop's invariant: what is left to write from `slot` on completes the table.
--- The measure is the number of marks left. Assumes nothing.
+-- `answer::write_entries` meets its contract. The loop's invariant: what is left to write from `slot` on completes the
+-- table. The measure is the number of marks left. Assumes nothing.
 use borrow.Author.Needs.{needs}
 use Prim.Native.Nat.{_-_}
 use mathlib.Core.Path.{_≡_, refl, sym, _∙_}
 use lib.ListN.{length, drop}
 use Rattle.engine.specs.Emit.{overwrite}
 use Rattle.tokens.specs.Place.{tokensFrom}
-use Rattle.answer.specs.Entries.{written, put-turn, put-fault, put-done}
+use Rattle.answer.specs.Entries.{written}
+use Rattle.answer.proofs.EntriesLaws.{put-turn, put-fault, put-done}
 use Rattle.answer.proofs.write_entries.Statement.{statement}
 use Rattle.answer.proofs.write_entries.Tie as tie
 
 abbrev Inv-loop : tie.InvT-loop
 Inv-loop text start recorded trits₀ at₀ slot₀ trits at slot =
     (length trits ≡ length trits₀)
-    × (overwrite trits₀ 0 (written 0 recorded (tokensFrom text start)) ≡ overwrite trits slot (written slot (drop slot recorded) (tokensFrom text at)))
+    × (overwrite trits₀ 0 (written 0 recorded (tokensFrom text start))
+    ≡ overwrite trits slot (written slot (drop slot recorded) (tokensFrom text at)))
 
 abbrev μ-loop : tie.MeasureT-loop
 μ-loop text start recorded trits₀ at₀ slot₀ trits at slot = length recorded - slot
@@ -64,7 +66,8 @@ loop-again c =
     let looped = tested .before in
     let entry = rw (told .number .given .1) at (entered .entry-at .ensures) in (
       stored .set-byte .kept .0 ∙ looped .loop .inv .0,
-      looped .loop .inv .1 ∙ put-turn _ _ (tested .loop-test .taken) _ (looped .loop .trits) entry (stored .set-byte .ensures),
+      looped .loop .inv .1
+          ∙ put-turn _ _ (tested .loop-test .taken) _ (looped .loop .trits) entry (stored .set-byte .ensures),
     )
 
 same-length-2 : tie.Need-same-length-2 Inv-loop μ-loop

@@ -1,4 +1,5 @@
--- `answer_test::find` meets its contract. The loop's invariant: the place lies between the start and the end. Assumes nothing.
+-- `answer_test::find` meets its contract. The loop's invariant: the place lies between the start and the end. Assumes
+-- nothing.
 use borrow.Author.Needs.{needs}
 use Prim.Native.Nat.{_-_, _≤_}
 use lib.ListN.{length}

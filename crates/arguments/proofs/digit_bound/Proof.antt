@@ -1,7 +1,7 @@
 -- `arguments::digit_bound` meets its contract: each way out has what the width leaves. Assumes nothing.
 use borrow.Author.Needs.{needs}
 use native.Mathlib.Omega.{arith}
-use Rattle.arguments.specs.Digits.{bound-none, bound-some, bound-all}
+use Rattle.arguments.proofs.Digits.{bound-none, bound-some, bound-all}
 use Rattle.arguments.proofs.digit_bound.Statement.{statement}
 use Rattle.arguments.proofs.digit_bound.Tie as tie
 

@@ -1,4 +1,5 @@
--- `arith::tv_binary` meets its contract: each arm is its function of the model, at the width of its result. Assumes nothing.
+-- `arith::tv_binary` meets its contract: each arm is its function of the model, at the width of its result. Assumes
+-- nothing.
 use borrow.Author.Needs.{needs}
 use Rattle.builder.proofs.Laws.{ran-bind}
 use Rattle.arith.proofs.tv_binary.Statement.{statement}
@@ -61,7 +62,11 @@ returns-7 c =
     let told = known .before .before in
     let n = told .before .before .before .args .n in
     let op = told .enum-told7 .given .1 in
-    λ low. (n, λ names marks. rw op (ran-bind _ (known .bv-no-x .ensures low n n names marks) (made .tv-mul .ensures low n names marks)))
+    λ low. (
+      n,
+      λ names marks. rw op
+          (ran-bind _ (known .bv-no-x .ensures low n n names marks) (made .tv-mul .ensures low n names marks)),
+    )
 
 pub tv-binary-spec : {M : Type 1} → statement M
 tv-binary-spec =

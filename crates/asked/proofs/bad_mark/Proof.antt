@@ -1,5 +1,5 @@
--- `asked::bad_mark` meets its contract. The loop's invariant: the first mark that does not stand is the first from `slot` on.
--- The measure is the number of marks left. Assumes nothing.
+-- `asked::bad_mark` meets its contract. The loop's invariant: the first mark that does not stand is the first from
+-- `slot` on. The measure is the number of marks left. Assumes nothing.
 use borrow.Author.Needs.{needs}
 use Prim.Native.Nat.{_-_}
 use mathlib.Core.Path.{_≡_, refl, sym, _∙_}
@@ -13,7 +13,8 @@ use Rattle.asked.proofs.bad_mark.Tie as tie
 
 abbrev Inv-loop : tie.InvT-loop
 Inv-loop calls names recorded slot₀ slot =
-    badBy (standsBy (declaredBy names (decode calls))) 0 recorded ≡ badBy (standsBy (declaredBy names (decode calls))) slot (drop slot recorded)
+    badBy (standsBy (declaredBy names (decode calls))) 0 recorded
+    ≡ badBy (standsBy (declaredBy names (decode calls))) slot (drop slot recorded)
 
 abbrev μ-loop : tie.MeasureT-loop
 μ-loop calls names recorded slot₀ slot = length recorded - slot
@@ -32,7 +33,8 @@ returns c =
     let tested = c .before in
     let turn = tested .before .before in
     let looped = turn .before in
-    sym (looped .loop .inv ∙ by-bad _ _ _ (turn .loop-test .taken) (sym (tested .mark-stands .ensures) ∙ not-true _ (c .if1 .taken)))
+    sym (looped .loop .inv
+    ∙ by-bad _ _ _ (turn .loop-test .taken) (sym (tested .mark-stands .ensures) ∙ not-true _ (c .if1 .taken)))
 
 add-slot : tie.Need-add-slot Inv-loop μ-loop
 add-slot c = search needs
@@ -45,7 +47,8 @@ loop-again c =
     let tested = c .before in
     let turn = tested .before .before in
     let looped = turn .before in
-    looped .loop .inv ∙ by-fine _ _ _ (turn .loop-test .taken) (sym (tested .mark-stands .ensures) ∙ not-false _ (c .if1 .left))
+    looped .loop .inv
+    ∙ by-fine _ _ _ (turn .loop-test .taken) (sym (tested .mark-stands .ensures) ∙ not-false _ (c .if1 .left))
 
 returns-2 : tie.Need-returns-2 Inv-loop μ-loop
 returns-2 c = sym (c .before .loop .inv ∙ by-done _ _ _ (c .loop-test .left))

@@ -12,7 +12,8 @@ use Rattle.asked.proofs.is_declared.Statement.{statement}
 use Rattle.asked.proofs.is_declared.Tie as tie
 
 abbrev Inv-loop : tie.InvT-loop
-Inv-loop calls letter index suffix head₀ head = (records terms : ℕ) × NoneOf (declaresName letter index suffix) calls records head terms
+Inv-loop calls letter index suffix head₀ head = (records terms : ℕ)
+    × NoneOf (declaresName letter index suffix) calls records head terms
 
 abbrev μ-loop : tie.MeasureT-loop
 μ-loop calls letter index suffix head₀ head = length calls - head
@@ -28,7 +29,8 @@ returns c =
     let tested = c .before in
     let turn = tested .before in
     let looped = turn .before in
-    sym (some-here (looped .loop .inv .2) (turn .loop-test .taken) (sym (tested .declares-here .ensures) ∙ c .if1 .taken))
+    sym (some-here (looped .loop .inv .2) (turn .loop-test .taken)
+    (sym (tested .declares-here .ensures) ∙ c .if1 .taken))
 
 next-record-requires : tie.Need-next-record-requires Inv-loop μ-loop
 next-record-requires c κs = search needs
@@ -48,7 +50,8 @@ loop-again c =
     let start = looped .before .before in
     let inside = turn .loop-test .taken in
     let short = start .good .0 in
-    let next : nextAt (start .args .calls .now) (looped .loop .head) ≡ c .next-record .result = omega (arith, inside, c .next-record .ensures) in
+    let next : nextAt (start .args .calls .now) (looped .loop .head) ≡ c .next-record .result =
+    omega (arith, inside, c .next-record .ensures) in
     let step = none-next (looped .loop .inv .2) inside (sym (tested .declares-here .ensures) ∙ other .if1 .left) in
     (_, _, rw next at step)
 

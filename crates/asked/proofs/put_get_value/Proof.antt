@@ -3,7 +3,7 @@ use borrow.Author.Needs.{needs}
 use borrow.Author.Tests.{eq-eqb, ne-eqb}
 use native.Mathlib.Omega.{arith}
 use Rattle.engine.specs.Call as call
-use Rattle.engine.specs.Emit.{wrote-none}
+use Rattle.engine.proofs.EmitLaws.{wrote-none}
 use Rattle.asked.proofs.Ending.{value-none, value-some}
 use Rattle.asked.proofs.put_get_value.Statement.{statement}
 use Rattle.asked.proofs.put_get_value.Tie as tie
@@ -26,7 +26,8 @@ returns c =
     let current = written .before .before in
     let inside = current .before .before in
     let first = inside .before in
-    rw (value-some call.n (first .first-asked .ensures) (inside .if1 .taken) (rw (eq-eqb _ 1 (current .if2 .taken)))) (written .put-values .ensures)
+    rw (value-some call.n (first .first-asked .ensures) (inside .if1 .taken) (rw (eq-eqb _ 1 (current .if2 .taken))))
+    (written .put-values .ensures)
 
 put-values-requires-2 : tie.Need-put-values-requires-2
 put-values-requires-2 c κs = search needs
@@ -41,7 +42,8 @@ returns-2 c =
     let inside = current .before .before in
     let first = inside .before in
     let past = first .first-asked .ensures .asks (inside .if1 .taken) (current .if2 .left) in
-    rw (value-some call.p (first .first-asked .ensures) (inside .if1 .taken) (rw (ne-eqb _ 1 (current .if2 .left), eq-eqb _ 2 past))) (written .put-values2 .ensures)
+    rw (value-some call.p (first .first-asked .ensures) (inside .if1 .taken)
+    (rw (ne-eqb _ 1 (current .if2 .left), eq-eqb _ 2 past))) (written .put-values2 .ensures)
 
 returns-3 : tie.Need-returns-3
 returns-3 c =

@@ -4,7 +4,7 @@ use borrow.Author.Tests.{eq-eqb, ne-eqb}
 use native.Mathlib.Omega.{arith}
 use Rattle.engine.specs.Call as call
 use Rattle.pieces.specs.Text.{spaced}
-use Rattle.engine.specs.Emit.{wrote-none}
+use Rattle.engine.proofs.EmitLaws.{wrote-none}
 use Rattle.asked.proofs.Ending.{spaced-both}
 use Rattle.asked.proofs.put_mark_names.Statement.{statement}
 use Rattle.asked.proofs.put_mark_names.Tie as tie
@@ -31,7 +31,8 @@ returns-2 : tie.Need-returns-2
 returns-2 c =
     let w = c .before .before in
     let t = w .before .before in
-    rw (ne-eqb _ 1 (t .before .if1 .left), eq-eqb _ 2 (t .if2 .taken), spaced-both call.p) (w .put-spaced-pair2 .ensures)
+    rw (ne-eqb _ 1 (t .before .if1 .left), eq-eqb _ 2 (t .if2 .taken), spaced-both call.p)
+    (w .put-spaced-pair2 .ensures)
 
 returns-3 : tie.Need-returns-3
 unfolding spaced

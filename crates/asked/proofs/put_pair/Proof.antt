@@ -1,6 +1,6 @@
 -- `asked::put_pair` meets its contract: the x name, then the y name. Assumes nothing.
 use borrow.Author.Needs.{needs}
-use Rattle.engine.specs.Emit.{wrote-then}
+use Rattle.engine.proofs.EmitLaws.{wrote-then}
 use Rattle.asked.proofs.put_pair.Statement.{statement}
 use Rattle.asked.proofs.put_pair.Tie as tie
 

@@ -1,6 +1,6 @@
 -- `asked::put_second` meets its contract: a space, then the name. Assumes nothing.
 use borrow.Author.Needs.{needs}
-use Rattle.engine.specs.Emit.{wrote-then}
+use Rattle.engine.proofs.EmitLaws.{wrote-then}
 use Rattle.asked.proofs.put_second.Statement.{statement}
 use Rattle.asked.proofs.put_second.Tie as tie
 

@@ -1,6 +1,6 @@
 -- `asked::put_spaced_pair` meets its contract: a space, then the names. Assumes nothing.
 use borrow.Author.Needs.{needs}
-use Rattle.engine.specs.Emit.{wrote-then}
+use Rattle.engine.proofs.EmitLaws.{wrote-then}
 use Rattle.asked.proofs.put_spaced_pair.Statement.{statement}
 use Rattle.asked.proofs.put_spaced_pair.Tie as tie
 

@@ -1,6 +1,6 @@
 -- `asked::put_values` meets its contract: the pieces in their order. Assumes nothing.
 use borrow.Author.Needs.{needs}
-use Rattle.engine.specs.Emit.{wrote-then}
+use Rattle.engine.proofs.EmitLaws.{wrote-then}
 use Rattle.asked.proofs.put_values.Statement.{statement}
 use Rattle.asked.proofs.put_values.Tie as tie
 

@@ -9,7 +9,8 @@ returns c =
     let at-made = c in
     let at-assert-term = at-made .before .before .before in
     let at-build-eq = at-assert-term .before .before .before .before in
-    called-two _ _ (at-build-eq .before .before .before .good .0 .0) (at-build-eq .build-eq .ensures) (at-assert-term .assert-term .ensures) (at-made .made .ensures)
+    called-two _ _ (at-build-eq .before .before .before .good .0 .0) (at-build-eq .build-eq .ensures)
+    (at-assert-term .assert-term .ensures) (at-made .made .ensures)
 
 pub assert-eq-spec : {M : Type 1} → statement M
 assert-eq-spec =

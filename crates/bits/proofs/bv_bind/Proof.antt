@@ -10,7 +10,8 @@ returns c =
     let at-assert-eq = c .before .before .before .before in
     let at-next-temporary = at-assert-eq .before .before in
     let at-declare-temporary = at-next-temporary .before .before .before in
-    ran-bv-bind _ _ _ (at-declare-temporary .declare-temporary .ensures) (at-next-temporary .next-temporary .ensures) (at-assert-eq .assert-eq .ensures)
+    ran-bv-bind _ _ _ (at-declare-temporary .declare-temporary .ensures) (at-next-temporary .next-temporary .ensures)
+    (at-assert-eq .assert-eq .ensures)
 
 pub bv-bind-spec : {M : Type 1} → statement M
 bv-bind-spec =

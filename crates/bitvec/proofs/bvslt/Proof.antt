@@ -22,7 +22,8 @@ returns c =
     let signs = test .before in
     let a = signs .before .before .args in
     c .bvult .ensures
-    ∙ word-bvslt (a .width) (a .s) (a .t) _ _ true (signs .before .msb .ensures) (signs .msb2 .ensures) (test .if1 .taken)
+    ∙ word-bvslt (a .width) (a .s) (a .t) _ _ true (signs .before .msb .ensures) (signs .msb2 .ensures)
+    (test .if1 .taken)
 
 returns-2 : tie.Need-returns-2
 returns-2 c =

@@ -1,7 +1,7 @@
 -- `bitvec::equal` meets its contract: at one width vectors are equal where their numbers are. Assumes nothing.
 use borrow.Author.Needs.{needs}
 use mathlib.Core.Path.{sym}
-use Rattle.bitvec.specs.WordLaws.{too-narrow, too-wide, holds-none}
+use Rattle.bitvec.proofs.WordLaws.{too-narrow, too-wide, holds-none}
 use Rattle.bitvec.proofs.Lemmas.{word-equal}
 use Rattle.bitvec.proofs.equal.Statement.{statement}
 use Rattle.bitvec.proofs.equal.Tie as tie

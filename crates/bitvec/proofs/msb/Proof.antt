@@ -1,7 +1,7 @@
 -- `bitvec::msb` meets its contract: bit width - 1 of the word is the top bit of the vector. Assumes nothing.
 use borrow.Author.Needs.{needs}
 use mathlib.Core.Path.{sym, _∙_}
-use Rattle.bitvec.specs.WordLaws.{too-narrow, too-wide, holds-none, holds-width}
+use Rattle.bitvec.proofs.WordLaws.{too-narrow, too-wide, holds-none, holds-width}
 use Rattle.bitvec.proofs.Lemmas.{word-msb}
 use Rattle.bitvec.proofs.msb.Statement.{statement}
 use Rattle.bitvec.proofs.msb.Tie as tie

@@ -4,7 +4,7 @@ use borrow.Author.Needs.{needs}
 use native.Mathlib.Omega.{arith}
 use mathlib.Core.Path.{sym}
 use lib.Pow.{pow-pos}
-use Rattle.bitvec.specs.WordLaws.{reduced, at-none, too-wide}
+use Rattle.bitvec.proofs.WordLaws.{reduced, at-none, too-wide}
 use Rattle.bitvec.proofs.Arithmetic.{one-shl}
 use Rattle.bitvec.proofs.Lemmas.{whole}
 use Rattle.bitvec.proofs.reduce.Statement.{statement}

@@ -1,6 +1,6 @@
 -- `call_list::operation_of` meets its contract: an arm or a test for each case. Assumes nothing.
 use Rattle.engine.specs.Encode.{opOf}
-use Rattle.call_list.specs.Operations.{no-operation}
+use Rattle.call_list.proofs.OperationsLaws.{no-operation}
 use Rattle.call_list.proofs.operation_of.Statement.{statement}
 use Rattle.call_list.proofs.operation_of.Tie as tie
 

@@ -1,5 +1,5 @@
--- `call_list::place_from` meets its contract: from each record on, the scan finds the place that it finds from the first.
--- The measure is how many words are left. Assumes nothing.
+-- `call_list::place_from` meets its contract: from each record on, the scan finds the place that it finds from the
+-- first. The measure is how many words are left. Assumes nothing.
 use Prim.Native.Nat.{ℕ, _+_, _-_, _≤_}
 use mathlib.Core.Path.{_≡_, refl, sym, ap, _∙_}
 use borrow.Author.Needs.{needs}
@@ -7,7 +7,7 @@ use native.Mathlib.Omega.{arith}
 use lib.ListN.{length}
 use Rattle.engine.specs.Encode.{makesTerm, nextAt}
 use Rattle.engine.specs.Structure.{termPlace}
-use Rattle.engine.specs.StructureLaws.{place-end, place-here, place-next, place-skip}
+use Rattle.engine.proofs.StructureLaws.{place-end, place-here, place-next, place-skip}
 use Rattle.call_list.proofs.place_from.Statement.{statement}
 use Rattle.call_list.proofs.place_from.Tie as tie
 
@@ -34,8 +34,10 @@ returns c =
     let state = turn .before .loop in
     let w = turn .before .before .before .args .calls .now in
     let inv = state .inv in
-    let makes = sym (made .makes-term .ensures ∙ ap makesTerm (made .before .operation-at .ensures)) ∙ c .before .if1 .taken in
-    sym (inv .2 ∙ place-here w (state .at) (state .more) (turn .loop-test .taken) (inv .0) (omega arith) makes (c .if2 .taken))
+    let makes = sym (made .makes-term .ensures ∙ ap makesTerm (made .before .operation-at .ensures))
+    ∙ c .before .if1 .taken in
+    sym (inv .2
+    ∙ place-here w (state .at) (state .more) (turn .loop-test .taken) (inv .0) (omega arith) makes (c .if2 .taken))
 
 sub-more : tie.Need-sub-more Inv-loop μ-loop
 sub-more c = search needs
@@ -53,11 +55,14 @@ loop-again c =
     let state = turn .before .loop in
     let w = turn .before .before .before .args .calls .now in
     let inv = state .inv in
-    let makes = sym (made .makes-term .ensures ∙ ap makesTerm (made .before .operation-at .ensures)) ∙ c .before .before .if1 .taken in
-    let next : c .next-record .result ≡ nextAt w (state .at) = omega (arith, c .next-record .ensures, turn .loop-test .taken) in (
+    let makes = sym (made .makes-term .ensures ∙ ap makesTerm (made .before .operation-at .ensures))
+    ∙ c .before .before .if1 .taken in
+    let next : c .next-record .result ≡ nextAt w (state .at) =
+    omega (arith, c .next-record .ensures, turn .loop-test .taken) in (
       inv .0 - 1,
       omega arith,
-      inv .2 ∙ place-next w (state .at) (state .more) (turn .loop-test .taken) (inv .0) (omega arith) makes (c .before .if2 .left)
+      inv .2 ∙ place-next w (state .at) (state .more) (turn .loop-test .taken) (inv .0) (omega arith) makes
+          (c .before .if2 .left)
           ∙ ap (λ (k : ℕ). termPlace (inv .0 - 1) w k (state .more - 1)) (sym next),
     )
 
@@ -74,8 +79,10 @@ loop-again-2 c =
     let state = turn .before .loop in
     let w = turn .before .before .before .args .calls .now in
     let inv = state .inv in
-    let makes = sym (made .makes-term .ensures ∙ ap makesTerm (made .before .operation-at .ensures)) ∙ c .before .if1 .left in
-    let next : c .next-record2 .result ≡ nextAt w (state .at) = omega (arith, c .next-record2 .ensures, turn .loop-test .taken) in (
+    let makes = sym (made .makes-term .ensures ∙ ap makesTerm (made .before .operation-at .ensures))
+    ∙ c .before .if1 .left in
+    let next : c .next-record2 .result ≡ nextAt w (state .at) =
+    omega (arith, c .next-record2 .ensures, turn .loop-test .taken) in (
       inv .0 - 1,
       omega arith,
       inv .2 ∙ place-skip w (state .at) (state .more) (turn .loop-test .taken) (inv .0) (omega arith) makes
@@ -86,7 +93,9 @@ returns-2 : tie.Need-returns-2 Inv-loop μ-loop
 returns-2 c =
     let state = c .before .loop in
     let inv = state .inv in
-    sym (inv .2 ∙ place-end (inv .0) (c .before .before .before .args .calls .now) (state .at) (state .more) (c .loop-test .left))
+    sym (inv .2
+    ∙ place-end (inv .0) (c .before .before .before .args .calls .now) (state .at) (state .more)
+    (c .loop-test .left))
 
 pub place-from-spec : {M : Type 1} → statement M
 place-from-spec =

@@ -1,7 +1,7 @@
 -- `call_list::terms_after` meets its contract: a record makes one term or none. Assumes nothing.
 use borrow.Author.Needs.{needs}
 use native.Mathlib.Omega.{arith}
-use Rattle.call_list.specs.Records.{made-at}
+use Rattle.call_list.proofs.RecordsLaws.{made-at}
 use Rattle.call_list.proofs.terms_after.Statement.{statement}
 use Rattle.call_list.proofs.terms_after.Tie as tie
 

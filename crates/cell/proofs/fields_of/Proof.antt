@@ -1,4 +1,5 @@
--- `cell::fields_of` meets its contract: the fields of the layout of the operation are those of the definition. Assumes nothing.
+-- `cell::fields_of` meets its contract: the fields of the layout of the operation are those of the definition. Assumes
+-- nothing.
 use borrow.Author.Needs.{needs}
 use Rattle.cell.proofs.fields_of.Statement.{statement}
 use Rattle.cell.proofs.fields_of.Tie as tie

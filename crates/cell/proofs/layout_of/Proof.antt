@@ -1,4 +1,5 @@
--- `cell::layout_of` meets its contract: in each arm the operation is known, and the definition computes. Assumes nothing.
+-- `cell::layout_of` meets its contract: in each arm the operation is known, and the definition computes. Assumes
+-- nothing.
 use borrow.Author.Needs.{needs}
 use Rattle.cell.proofs.layout_of.Statement.{statement}
 use Rattle.cell.proofs.layout_of.Tie as tie

@@ -1,5 +1,5 @@
--- `cell::operation_of` meets its contract. Each arm is the table at its number; a number that is none of them is past the table's end.
--- Assumes nothing.
+-- `cell::operation_of` meets its contract. Each arm is the table at its number; a number that is none of them is past
+-- the table's end. Assumes nothing.
 use mathlib.Core.Path.{_≡_, sym}
 use mathlib.Core.List.{map}
 use Prim.Native.Nat.{ℕ, zero, suc, _≤_}

@@ -1,4 +1,5 @@
--- `cell_reader::record_at` meets its contract: each answer rewrites the definition by the tests and calls that lead to it. Assumes nothing.
+-- `cell_reader::record_at` meets its contract: each answer rewrites the definition by the tests and calls that lead to
+-- it. Assumes nothing.
 use Rattle.cell_reader.specs.Record.{recordAt}
 use borrow.Author.Needs.{needs}
 use Rattle.cell_reader.proofs.record_at.Statement.{statement}

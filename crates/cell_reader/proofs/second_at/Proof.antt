@@ -1,4 +1,5 @@
--- `cell_reader::second_at` meets its contract: each answer rewrites the definition by the tests and calls that lead to it. Assumes nothing.
+-- `cell_reader::second_at` meets its contract: each answer rewrites the definition by the tests and calls that lead to
+-- it. Assumes nothing.
 use borrow.Author.Tests.{eq-eqb, ne-eqb}
 use Rattle.cell_reader.specs.Record.{secondAt}
 use borrow.Author.Needs.{needs}

@@ -18,7 +18,8 @@ returns c =
     let at-enum-told = at-no-terms .before in
     λ bounded shaped wide low.
     let op = at-enum-told .enum-told .given .1 in
-    rw (op, at-no-terms .no-terms .ensures .1) (0, ran-as (ran-none _ _ _ _ _) (sym (at-no-terms .no-terms .ensures .0)))
+    rw (op, at-no-terms .no-terms .ensures .1)
+    (0, ran-as (ran-none _ _ _ _ _) (sym (at-no-terms .no-terms .ensures .0)))
 
 returns-2 : tie.Need-returns-2
 unfolding cell
@@ -27,7 +28,8 @@ returns-2 c =
     let at-enum-told2 = at-no-terms2 .before in
     λ bounded shaped wide low.
     let op = at-enum-told2 .enum-told2 .given .1 in
-    rw (op, at-no-terms2 .no-terms2 .ensures .1) (0, ran-as (ran-none _ _ _ _ _) (sym (at-no-terms2 .no-terms2 .ensures .0)))
+    rw (op, at-no-terms2 .no-terms2 .ensures .1)
+    (0, ran-as (ran-none _ _ _ _ _) (sym (at-no-terms2 .no-terms2 .ensures .0)))
 
 returns-3 : tie.Need-returns-3
 returns-3 c =
@@ -44,7 +46,8 @@ returns-4 c =
     let at-enum-told4 = at-no-terms3 .before in
     λ bounded shaped wide low.
     let op = at-enum-told4 .enum-told4 .given .1 in
-    rw (op, at-no-terms3 .no-terms3 .ensures .1) (0, ran-as (ran-none _ _ _ _ _) (sym (at-no-terms3 .no-terms3 .ensures .0)))
+    rw (op, at-no-terms3 .no-terms3 .ensures .1)
+    (0, ran-as (ran-none _ _ _ _ _) (sym (at-no-terms3 .no-terms3 .ensures .0)))
 
 returns-5 : tie.Need-returns-5
 returns-5 c =

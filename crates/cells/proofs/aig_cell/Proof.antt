@@ -10,20 +10,23 @@ same-length : tie.Need-same-length
 same-length c =
     let at-tv-and = c .before .before in
     let at-control-at2 = at-tv-and .before .before .before .before .before .before .before .before in
-    let at-control-at = at-control-at2 .before .before .before .before .before .before .before .before .before .before in
+    let at-control-at =
+    at-control-at2 .before .before .before .before .before .before .before .before .before .before in
     at-tv-and .tv-and .kept .0 ∙ at-control-at2 .control-at2 .kept .1 .1 .1 .0 ∙
     at-control-at .control-at .kept .1 .1 .1 .0
 
 same-length-2 : tie.Need-same-length-2
 same-length-2 c =
     let at-control-at2 = c .before .before .before .before .before .before .before .before .before .before in
-    let at-control-at = at-control-at2 .before .before .before .before .before .before .before .before .before .before in
+    let at-control-at =
+    at-control-at2 .before .before .before .before .before .before .before .before .before .before in
     at-control-at2 .control-at2 .kept .1 .1 .1 .1 .0 ∙ at-control-at .control-at .kept .1 .1 .1 .1 .0
 
 same-length-3 : tie.Need-same-length-3
 same-length-3 c =
     let at-control-at2 = c .before .before .before .before .before .before .before .before .before .before in
-    let at-control-at = at-control-at2 .before .before .before .before .before .before .before .before .before .before in
+    let at-control-at =
+    at-control-at2 .before .before .before .before .before .before .before .before .before .before in
     at-control-at2 .control-at2 .kept .1 .1 .1 .1 .1 .0 ∙ at-control-at .control-at .kept .1 .1 .1 .1 .1 .0
 
 returns : tie.Need-returns
@@ -31,7 +34,8 @@ unfolding cell
 returns c =
     let at-tv-and = c .before .before in
     let at-control-at2 = at-tv-and .before .before .before .before .before .before .before .before in
-    let at-control-at = at-control-at2 .before .before .before .before .before .before .before .before .before .before in
+    let at-control-at =
+    at-control-at2 .before .before .before .before .before .before .before .before .before .before in
     λ slot width. (
       1,
       ran-bind _ (at-control-at .control-at .ensures)

@@ -4,7 +4,7 @@ use mathlib.Core.Path.{_∙_}
 use Prim.Native.Nat.{_≤_}
 use native.Mathlib.Omega.{arith}
 use Rattle.builder.proofs.Laws.{ran-bind}
-use Rattle.logic.specs.Table.{length-tab}
+use Rattle.logic.proofs.TableLaws.{length-tab}
 use Rattle.smt.specs.Builder.{cell}
 use Rattle.cells.proofs.binary_cell.Statement.{statement}
 use Rattle.cells.proofs.binary_cell.Tie as tie

@@ -37,7 +37,8 @@ returns-2 c =
     λ slot width low.
     let n = at-number-at .number-at .result in
     let small : n ≤ 64 = omega (arith, number, low) in
-    rw (at-enum-told2 .enum-told2 .given .1, ← number) (n, ran-bind _ (at-value .value .ensures small) (at-tv-not .tv-not .ensures n _ _))
+    rw (at-enum-told2 .enum-told2 .given .1, ← number)
+    (n, ran-bind _ (at-value .value .ensures small) (at-tv-not .tv-not .ensures n _ _))
 
 pub unary-cell-spec : {M : Type 1} → statement M
 unary-cell-spec =

@@ -26,4 +26,5 @@ emit-cells-spec =
     tie.close
     (tie.spec
     Inv-loop μ-loop (λ c. (refl, refl, refl)) (λ c κs. search needs) (λ c κs. search needs) (λ c κs. search needs)
-    (λ c. search needs) (λ c. omega arith) loop-again same-length (λ c. search needs) (λ c. search needs) (λ c. search needs))
+    (λ c. search needs) (λ c. omega arith) loop-again same-length (λ c. search needs) (λ c. search needs)
+    (λ c. search needs))

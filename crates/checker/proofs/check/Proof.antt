@@ -1,7 +1,8 @@
--- `checker::check` meets its contract: the table of names starts as zeros, and the answer is that of the check with it. Assumes nothing.
+-- `checker::check` meets its contract: the table of names starts as zeros, and the answer is that of the check with it.
+-- Assumes nothing.
 use borrow.Author.Needs.{needs}
 use native.Mathlib.Nat.{le-refl}
-use Rattle.checker.specs.Checking.{zeros-all}
+use Rattle.checker.proofs.CheckingLaws.{zeros-all}
 use Rattle.checker.proofs.check.Statement.{statement}
 use Rattle.checker.proofs.check.Tie as tie
 

@@ -1,35 +1,28 @@
--- `checker::check_records` meets its contract: between two records the tables and counts are those of the calls so far, and the answer
--- from there is the answer. The measure is how many words are left. Assumes nothing.
+-- `checker::check_records` meets its contract: between two records the tables and counts are those of the calls so far,
+-- and the answer from there is the answer. The measure is how many words are left. Assumes nothing.
 use borrow.Author.Needs.{needs}
 use Prim.Native.Nat.{_-_}
 use mathlib.Core.Path.{_≡_, refl, sym, ap, _∙_}
 use Rattle.call_list.specs.declared.Cursor.{Cursor}
-use Rattle.call_list.specs.Cursors.{passed-next}
+use Rattle.call_list.proofs.CursorsLaws.{passed-next}
 use native.Mathlib.Omega.{arith}
 use lib.ListN.{length}
 use Rattle.term_table.specs.Near.{sortNear}
 use Rattle.checker.specs.Tables.{faultBy}
-use Rattle.checker.specs.Checking.{
-  Checking,
-  checking-start,
-  checked-fault,
-  record-wrong,
-  record-right,
-  checked-end,
-  checked-wrong,
-  wrong-at,
-  wrong-none,
-}
+use Rattle.checker.proofs.CheckingLaws.{Checking, checking-start, checked-fault, record-wrong, record-right}
+use Rattle.checker.proofs.CheckingLaws.{checked-end, checked-wrong, wrong-at, wrong-none}
 use Rattle.checker.proofs.check_records.Statement.{statement}
 use Rattle.checker.proofs.check_records.Tie as tie
 
 abbrev Inv-loop : tie.InvT-loop
 Inv-loop calls places₀ gap sorts₀ recent₀ names₀ tops₀ seen₀ checked₀ places sorts recent names tops seen checked =
     (length places ≡ length places₀) × (length sorts ≡ length sorts₀) × (length recent ≡ length recent₀)
-    × (length names ≡ length names₀) × (length tops ≡ length tops₀) × Checking gap calls places sorts recent names tops seen checked
+    × (length names ≡ length names₀) × (length tops ≡ length tops₀)
+    × Checking gap calls places sorts recent names tops seen checked
 
 abbrev μ-loop : tie.MeasureT-loop
-μ-loop calls places₀ gap sorts₀ recent₀ names₀ tops₀ seen₀ checked₀ places sorts recent names tops seen checked = length calls - seen .at
+μ-loop calls places₀ gap sorts₀ recent₀ names₀ tops₀ seen₀ checked₀ places sorts recent names tops seen checked =
+    length calls - seen .at
 
 loop-holds : tie.Need-loop-holds Inv-loop μ-loop
 loop-holds c =
@@ -37,7 +30,8 @@ loop-holds c =
     let start = entry .before .before .before in
     let args = start .args in
     let first =
-    checking-start (args .gap) (args .calls .now) (args .places .now) (args .sorts .now) (args .recent .now) (args .names .now)
+    checking-start (args .gap) (args .calls .now) (args .places .now) (args .sorts .now) (args .recent .now)
+    (args .names .now)
     (args .tops .now) (start .pre .0) (start .pre .1) in
     (refl, refl, refl, refl, refl, first)
 
@@ -127,7 +121,8 @@ returns-2 c =
     let state = looped .loop in
     let entry = looped .before .before .before in
     let args = entry .before .before .before .before .args in
-    let sort = sortNear (state .sorts) (state .recent) (state .places) (args .gap) (args .calls .now) (state .seen .terms) in
+    let sort =
+    sortNear (state .sorts) (state .recent) (state .places) (args .gap) (args .calls .now) (state .seen .terms) in
     let fault = faultBy sort (state .names) (state .tops) (args .calls .now) (state .seen .terms) (state .seen .at) in
     let wrong = wrong-at fault (sym (asked .record-fault .ensures) ∙ c .before .place .given .1) in
     checked-wrong (record-wrong (state .inv .5) (inside .if1 .taken) (unchecked .if2 .left) _ wrong)
@@ -206,7 +201,8 @@ loop-again c =
     let next =
     passed-next (args .calls .now) (state .seen) (c .next .ensures) (omega (arith, within, start))
     (omega (arith, within, few-terms, start)) (omega (arith, within, few-names, start)) in
-    let sort = sortNear (state .sorts) (state .recent) (state .places) (args .gap) (args .calls .now) (state .seen .terms) in
+    let sort =
+    sortNear (state .sorts) (state .recent) (state .places) (args .gap) (args .calls .now) (state .seen .terms) in
     let fault = faultBy sort (state .names) (state .tops) (args .calls .now) (state .seen .terms) (state .seen .at) in
     let right = wrong-none fault (sym (asked .record-fault .ensures) ∙ told .enum-told .given .1) in (
       placed .note-place .kept .1 .0 ∙ state .inv .0,

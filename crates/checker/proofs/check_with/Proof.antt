@@ -1,6 +1,6 @@
 -- `checker::check_with` meets its contract: with no gap the table of places has every term. Assumes nothing.
 use borrow.Author.Needs.{needs}
-use Rattle.checker.specs.Checking.{checked-whole}
+use Rattle.checker.proofs.CheckingLaws.{checked-whole}
 use Rattle.checker.proofs.check_with.Statement.{statement}
 use Rattle.checker.proofs.check_with.Tie as tie
 

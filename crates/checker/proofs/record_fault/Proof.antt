@@ -2,7 +2,7 @@
 use borrow.Author.Needs.{needs}
 use mathlib.Core.Path.{sym, _∙_}
 use native.Mathlib.Omega.{arith}
-use Rattle.checker.specs.TableLaws.{head-whole}
+use Rattle.checker.proofs.TableLaws.{head-whole}
 use Rattle.checker.proofs.record_fault.Statement.{statement}
 use Rattle.checker.proofs.record_fault.Tie as tie
 
@@ -25,7 +25,8 @@ wrong-from-requires c κs =
     let known = operation .before .before .before in
     let args = known .before .before .before .before .args in
     let whole =
-    head-whole (args .names .now) (args .tops .now) (args .calls .now) (args .at) (sym (head .head-stands .ensures) ∙ c .if1 .taken) in
+    head-whole (args .names .now) (args .tops .now) (args .calls .now) (args .at)
+    (sym (head .head-stands .ensures) ∙ c .if1 .taken) in
     (omega (arith, whole, head .before .count-at .ensures), operation .operation-at .ensures)
 
 returns : tie.Need-returns

@@ -1,5 +1,5 @@
--- `checker::wrong_from` meets its contract: from each argument on, the scan finds what it finds from the first; the word before and
--- its sort are kept from turn to turn. The measure is how many arguments are left. Assumes nothing.
+-- `checker::wrong_from` meets its contract: from each argument on, the scan finds what it finds from the first; the
+-- word before and its sort are kept from turn to turn. The measure is how many arguments are left. Assumes nothing.
 use borrow.Author.Needs.{needs}
 use Prim.Native.Nat.{ℕ, _+_, _-_, _≤_}
 use mathlib.Core.Path.{_≡_, sym, ap, _∙_}
@@ -7,18 +7,19 @@ use native.Mathlib.Omega.{arith}
 use lib.ListN.{getD}
 use Rattle.engine.specs.Encode.{Op}
 use Rattle.engine.specs.WellFormed.{firstFailing, argumentOf}
-use Rattle.engine.specs.Steps.{failing-none, failing-turn, failing-here}
+use Rattle.engine.proofs.Steps.{failing-none, failing-turn, failing-here}
 use Rattle.checker.specs.Tables.{wordSort, standsBy, wrongAs, onWrong}
 use mathlib.Core.Option.{Option}
 use Rattle.checker.specs.declared.Wrong.the-variants.{At}
 use Rattle.term_table.specs.Near.{sortNear}
-use Rattle.checker.specs.TableLaws.{stands-is}
+use Rattle.checker.proofs.TableLaws.{stands-is}
 use Rattle.checker.proofs.wrong_from.Statement.{statement}
 use Rattle.checker.proofs.wrong_from.Tie as tie
 
 abbrev Inv-loop : tie.InvT-loop
 Inv-loop calls sorts recent places gap terms at operation n first before₀ sort-before₀ i₀ before sort-before i =
-    (i ≤ n) × (before ≡ getD calls (at + i) 0) × (sort-before ≡ wordSort (sortNear sorts recent places gap calls terms) terms before)
+    (i ≤ n) × (before ≡ getD calls (at + i) 0)
+    × (sort-before ≡ wordSort (sortNear sorts recent places gap calls terms) terms before)
     × (firstFailing (standsBy (sortNear sorts recent places gap calls terms) calls terms at) 0 n
     ≡ firstFailing (standsBy (sortNear sorts recent places gap calls terms) calls terms at) i (n - i))
 
@@ -81,10 +82,12 @@ loop-again c =
     (turn .before .before .before .before .argument-word .ensures)
     (inv .1) (read .before .argument-word2 .ensures) (inv .2) (read .word-sort2 .ensures) (tested .admitted .ensures) in (
       omega arith,
-      read .before .argument-word2 .ensures ∙ ap (λ (j : ℕ). getD w j 0) (let e : args .at + 1 + state .i ≡ args .at + (state .i + 1) = omega arith in e),
+      read .before .argument-word2 .ensures
+          ∙ ap (λ (j : ℕ). getD w j 0) (let e : args .at + 1 + state .i ≡ args .at + (state .i + 1) = omega arith in e),
       read .word-sort2 .ensures,
       inv .3 ∙ failing-turn test (state .i) (args .n - state .i) (omega arith) (sym stands ∙ c .if1 .taken)
-          ∙ ap (firstFailing test (state .i + 1)) (let e : args .n - state .i - 1 ≡ args .n - (state .i + 1) = omega arith in e),
+          ∙ ap (firstFailing test (state .i + 1))
+          (let e : args .n - state .i - 1 ≡ args .n - (state .i + 1) = omega arith in e),
     )
 
 argument-place-requires : tie.Need-argument-place-requires Inv-loop μ-loop
@@ -108,9 +111,11 @@ returns c =
     (tested .before .argument .ensures ∙ ap (λ (op : Op). argumentOf op (state .i)) (start .pre .1))
     (turn .before .before .before .before .argument-word .ensures)
     (inv .1) (read .before .argument-word2 .ensures) (inv .2) (read .word-sort2 .ensures) (tested .admitted .ensures) in
-    let place : c .argument-place .result ≡ args .at + 1 + state .i = omega (arith, c .argument-place .ensures, start .pre .0, turn .loop-test .taken) in
+    let place : c .argument-place .result ≡ args .at + 1 + state .i =
+    omega (arith, c .argument-place .ensures, start .pre .0, turn .loop-test .taken) in
     ap At place
-    ∙ sym (ap (λ (o : Option ℕ). wrongAs (onWrong o (λ i. args .at + 1 + i))) (inv .3 ∙ failing-here test (state .i) (args .n - state .i) (omega arith) (sym stands ∙ other .if1 .left)))
+    ∙ sym (ap (λ (o : Option ℕ). wrongAs (onWrong o (λ i. args .at + 1 + i)))
+    (inv .3 ∙ failing-here test (state .i) (args .n - state .i) (omega arith) (sym stands ∙ other .if1 .left)))
 
 returns-2 : tie.Need-returns-2 Inv-loop μ-loop
 returns-2 c =

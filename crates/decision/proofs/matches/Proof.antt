@@ -1,5 +1,6 @@
--- `decision::matches` meets its contract. Invariant: `place` is that of pattern i (`Reached`), the terms of the patterns below i are stored, and if
--- the rest of the patterns is run from here, all of them were run from the start (`Left`). What is left of k patterns falls. Assumes nothing.
+-- `decision::matches` meets its contract. Invariant: `place` is that of pattern i (`Reached`), the terms of the
+-- patterns below i are stored, and if the rest of the patterns is run from here, all of them were run from the start
+-- (`Left`). What is left of k patterns falls. Assumes nothing.
 use borrow.Author.Needs.{needs}
 use mathlib.Core.Path.{_≡_, refl, ap, _∙_}
 use Prim.Native.Nat.{_≤_, _<_, _+_, _*_, _-_, _^_}
@@ -12,7 +13,8 @@ use Rattle.nets.specs.Reads.{pastIn}
 use Rattle.vectors.specs.Elements.{elements}
 use Rattle.vectors.proofs.Tables.{no-elements, elements-turn}
 use Rattle.values.proofs.Collect.{Left, left-start, left-turn, left-end}
-use Rattle.decision.proofs.Patterns.{Few, Reached, reached-start, reached-room, reached-next, reached-turn, reached-end}
+use Rattle.decision.proofs.Patterns.{Few, Reached, reached-start, reached-room, reached-next, reached-turn}
+use Rattle.decision.proofs.Patterns.{reached-end}
 use Rattle.decision.proofs.matches.Statement.{statement}
 use Rattle.decision.proofs.matches.Tie as tie
 

@@ -1,19 +1,20 @@
--- `design::clear` meets its contract. The invariant: storing the rest from here gives what storing all from the start does. The measure is what is
--- left to store. Assumes nothing.
+-- `design::clear` meets its contract. The invariant: storing the rest from here gives what storing all from the start
+-- does. The measure is what is left to store. Assumes nothing.
 use borrow.Author.Needs.{needs}
 use Prim.Native.Nat.{_-_}
 use mathlib.Core.Path.{_≡_, refl, sym, _∙_}
 use lib.ListN.{length, replicate, length-set}
 use lib.Seq.{sets}
 use native.Mathlib.Omega.{arith}
-use Rattle.placing.specs.Laws.{fill-none, fill-turn}
+use Rattle.placing.proofs.Laws.{fill-none, fill-turn}
 use Rattle.design.proofs.Verifies.{all-zeros}
 use Rattle.design.proofs.clear.Statement.{statement}
 use Rattle.design.proofs.clear.Tie as tie
 
 abbrev Inv-loop : tie.InvT-loop
 Inv-loop marks₀ at₀ marks at =
-    (sets marks₀ at₀ (replicate (length marks₀ - at₀) 0) ≡ sets marks at (replicate (length marks₀ - at) 0)) × (length marks ≡ length marks₀)
+    (sets marks₀ at₀ (replicate (length marks₀ - at₀) 0) ≡ sets marks at (replicate (length marks₀ - at) 0))
+    × (length marks ≡ length marks₀)
 
 abbrev μ-loop : tie.MeasureT-loop
 μ-loop marks₀ at₀ marks at = length marks₀ - at
@@ -32,9 +33,11 @@ returns : tie.Need-returns Inv-loop μ-loop
 returns c =
     let end = c .before .loop in
     let start = c .before .before .args .marks .now in
-    sym (fill-none (end .marks) (end .at) (length start) _ (omega (arith, c .loop-test .left, end .inv .1))) ∙ sym (end .inv .0) ∙ all-zeros start
+    sym (fill-none (end .marks) (end .at) (length start) _ (omega (arith, c .loop-test .left, end .inv .1)))
+    ∙ sym (end .inv .0) ∙ all-zeros start
 
 pub clear-spec : {M : Type 1} → statement M
 clear-spec =
     tie.close
-    (tie.spec Inv-loop μ-loop loop-holds (λ c. search needs) (λ c. search needs) (λ c. search needs) loop-again (λ c. search needs) returns)
+    (tie.spec Inv-loop μ-loop loop-holds (λ c. search needs) (λ c. search needs) (λ c. search needs) loop-again
+    (λ c. search needs) returns)

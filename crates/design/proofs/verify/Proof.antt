@@ -1,4 +1,5 @@
--- `design::verify` meets its contract: what `slot_table` refuses is refused, and an accepted list is verified with its table. Assumes nothing.
+-- `design::verify` meets its contract: what `slot_table` refuses is refused, and an accepted list is verified with its
+-- table. Assumes nothing.
 use borrow.Author.Needs.{needs}
 use mathlib.Core.Path.{_∙_}
 use native.Mathlib.Omega.{arith}
@@ -39,18 +40,21 @@ verify-read-requires : tie.Need-verify-read-requires
 verify-read-requires c κs =
     let filled = c .before .before .before .before .before in
     let tabled = filled .before .before .before in
-    ready-of _ (length-replicate {A = ℕ} 4096 0) (tabled .slot-table .ensures) (filled .x .given .1) (tabled .slot-table .kept .1 .0 ∙ length-replicate {A = ℕ} 4096 0)
+    ready-of _ (length-replicate {A = ℕ} 4096 0) (tabled .slot-table .ensures) (filled .x .given .1)
+    (tabled .slot-table .kept .1 .0 ∙ length-replicate {A = ℕ} 4096 0)
 
 returns : tie.Need-returns
 returns c =
     let refused = c .before in
     let tabled = refused .before .before .before in
     let start = tabled .before .before .before .before .before in
-    refused-of _ (length-replicate {A = ℕ} 4096 0) (tabled .slot-table .ensures) (start .args .calls .now) (start .args .recorded .now) (refused .f .given .1)
+    refused-of _ (length-replicate {A = ℕ} 4096 0) (tabled .slot-table .ensures) (start .args .calls .now)
+    (start .args .recorded .now) (refused .f .given .1)
 
 pub verify-spec : {M : Type 1} → statement M
 verify-spec =
     tie.close
     (tie.spec
-    (λ c. search needs) (λ c κs. search needs) (λ c. search needs) (λ c. search needs) add-slots slots-fit slots-count verify-read-requires returns
+    (λ c. search needs) (λ c κs. search needs) (λ c. search needs) (λ c. search needs) add-slots slots-fit slots-count
+    verify-read-requires returns
     (λ c. search needs) (λ c. search needs) (λ c. search needs))

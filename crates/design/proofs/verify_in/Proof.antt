@@ -1,5 +1,5 @@
--- `design::verify_in` meets its contract: the room first, then the pass over what fits, in tables cleared again. Assumes
--- nothing.
+-- `design::verify_in` meets its contract: the room first, then the pass over what fits, in tables cleared again.
+-- Assumes nothing.
 use borrow.Author.Needs.{needs}
 use mathlib.Core.Path.{sym, _∙_}
 use native.Mathlib.Omega.{arith}
@@ -48,7 +48,8 @@ returns-3 c =
     let first = fits .before in
     let counted = first .before .before .before .before .before .before .before in
     let start = counted .before .before .before .before .before .before .before .before .before .before .before in
-    let kept = passed .pass .kept .1 .1 .1 .1 .1 .0 ∙ unmarked .clear .kept .0 ∙ sym (taken-count _ _ (fits .if2 .left)) in
+    let kept = passed .pass .kept .1 .1 .1 .1 .1 .0 ∙ unmarked .clear .kept .0
+    ∙ sym (taken-count _ _ (fits .if2 .left)) in
     let room = room-is (start .pre .0) (counted .dry-run .ensures (start .pre .0)) in
     rw (c .told .ensures)
     (both-fit (start .pre .0) (start .args .calls .now) (start .args .recorded .now) room (first .if1 .left)

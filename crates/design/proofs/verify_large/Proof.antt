@@ -1,4 +1,5 @@
--- `design::verify_large` meets its contract: the tables hold the names and the obligations of every accepted list. Assumes nothing.
+-- `design::verify_large` meets its contract: the tables hold the names and the obligations of every accepted list.
+-- Assumes nothing.
 use borrow.Author.Needs.{needs}
 use Prim.Native.Nat.{ℕ, _*_}
 use native.Mathlib.Omega.{arith}
@@ -16,7 +17,8 @@ names-count c =
     part-count (4 * length (start .args .table .now)) 16384 0 (omega (arith, table-low (start .pre)))
 
 marks-fit : tie.Need-array-borrow-prefix-marks
-marks-fit c = let start = c .before .before .before .before .before .before .before in omega (arith, table-low (start .pre))
+marks-fit c = let start = c .before .before .before .before .before .before .before in
+    omega (arith, table-low (start .pre))
 
 marks-count : tie.Need-slice-aggregate-verify-in-2
 marks-count c =

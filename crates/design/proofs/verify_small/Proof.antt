@@ -1,4 +1,5 @@
--- `design::verify_small` meets its contract: the tables hold the names and the obligations of a small design. Assumes nothing.
+-- `design::verify_small` meets its contract: the tables hold the names and the obligations of a small design. Assumes
+-- nothing.
 use borrow.Author.Needs.{needs}
 use Prim.Native.Nat.{ℕ, _*_}
 use native.Mathlib.Omega.{arith}

@@ -1,11 +1,11 @@
--- `design_list::copy` meets its contract. The invariant: storing the rest from here gives what storing all from the start does. The measure is what is
--- left to store. Assumes nothing.
+-- `design_list::copy` meets its contract. The invariant: storing the rest from here gives what storing all from the
+-- start does. The measure is what is left to store. Assumes nothing.
 use borrow.Author.Needs.{needs}
 use Prim.Native.Nat.{_-_}
 use mathlib.Core.Path.{_≡_, refl, sym, _∙_}
 use lib.ListN.{length, take, drop, length-set}
 use lib.Seq.{sets}
-use Rattle.design_list.specs.Table.{copy-turn, copy-done}
+use Rattle.design_list.proofs.TableLaws.{copy-turn, copy-done}
 use Rattle.design_list.proofs.copy.Statement.{statement}
 use Rattle.design_list.proofs.copy.Tie as tie
 
@@ -38,7 +38,8 @@ same-length c = c .before .loop .inv .1
 returns : tie.Need-returns Inv-loop μ-loop
 returns c =
     let start = c .before .before .before .before in
-    sym (c .before .loop .inv .0 ∙ copy-done (c .before .loop .out) (start .args .table .now) (c .before .loop .i) _ (c .loop-test .left))
+    sym (c .before .loop .inv .0
+    ∙ copy-done (c .before .loop .out) (start .args .table .now) (c .before .loop .i) _ (c .loop-test .left))
 
 pub copy-spec : {M : Type 1} → statement M
 copy-spec =

@@ -1,4 +1,5 @@
--- `design_list::read_cell_reps` meets its contract: each answer rewrites the definition by the tests and calls that lead to it. Assumes nothing.
+-- `design_list::read_cell_reps` meets its contract: each answer rewrites the definition by the tests and calls that
+-- lead to it. Assumes nothing.
 use Rattle.design_list.specs.Answers.{cellRepsAnswer}
 use borrow.Author.Needs.{needs}
 use Rattle.design_list.proofs.read_cell_reps.Statement.{statement}

@@ -1,7 +1,7 @@
--- `design_list::read_cells` meets its contract: after the cells the table holds the word of every slot, so what follows is told by it what the definition
--- is told by the cells. Assumes nothing.
+-- `design_list::read_cells` meets its contract: after the cells the table holds the word of every slot, so what follows
+-- is told by it what the definition is told by the cells. Assumes nothing.
 use mathlib.Core.Path.{sym, _∙_}
-use Rattle.design_list.specs.Answers.{cells-answer, cells-refused}
+use Rattle.design_list.proofs.AnswersLaws.{cells-answer, cells-refused}
 use borrow.Author.Needs.{needs}
 use Rattle.design_list.proofs.read_cells.Statement.{statement}
 use Rattle.design_list.proofs.read_cells.Tie as tie
@@ -19,7 +19,8 @@ returns-2 c =
     let start = lent .before .before .before in (
       c .read-cell-reps .ensures ∙
           rw (call .cells-at .ensures .1)
-          (cells-answer _ _ (start .args .table .now) (start .pre .1) (sym (told .count .given .1) ∙ call .cells-at .ensures .0)),
+          (cells-answer _ _ (start .args .table .now) (start .pre .1)
+          (sym (told .count .given .1) ∙ call .cells-at .ensures .0)),
       call .cells-at .ensures .1,
     )
 
@@ -27,5 +28,6 @@ pub read-cells-spec : {M : Type 1} → statement M
 read-cells-spec =
     tie.close
     (tie.spec
-    (λ c. search needs) (λ c. search needs) (λ c κs. search needs) (λ c. search needs) (λ c. search needs) (λ c κs. search needs)
+    (λ c. search needs) (λ c. search needs) (λ c κs. search needs) (λ c. search needs) (λ c. search needs)
+    (λ c κs. search needs)
     (λ c. search needs) returns (λ c. search needs) returns-2)

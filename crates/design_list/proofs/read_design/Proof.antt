@@ -1,5 +1,6 @@
--- `design_list::read_design` meets its contract: its answer is that of `read_into`, and so has its number and value. Assumes nothing.
-use Rattle.design_list.specs.Read.{answered}
+-- `design_list::read_design` meets its contract: its answer is that of `read_into`, and so has its number and value.
+-- Assumes nothing.
+use Rattle.design_list.proofs.ReadLaws.{answered}
 use borrow.Author.Needs.{needs}
 use Rattle.design_list.proofs.read_design.Statement.{statement}
 use Rattle.design_list.proofs.read_design.Tie as tie

@@ -1,10 +1,12 @@
--- `design_list::read_into` meets its contract: it follows the definition; a header that was read has at most 4,096 slots. Assumes nothing.
+-- `design_list::read_into` meets its contract: it follows the definition; a header that was read has at most 4,096
+-- slots. Assumes nothing.
 use borrow.Author.Tests.{lt-ltb, le-ltb}
 use mathlib.Core.Path.{refl, sym, _∙_}
 use native.Mathlib.Omega.{arith}
 use Rattle.design_list.specs.Read.{read}
-use Rattle.design_list.specs.Table.{Stored, stored-cells}
-use Rattle.items.specs.Laws.{header-read}
+use Rattle.design_list.specs.Table.{Stored}
+use Rattle.design_list.proofs.TableLaws.{stored-cells}
+use Rattle.items.proofs.Laws.{header-read}
 use borrow.Author.Needs.{needs}
 use Rattle.design_list.proofs.read_into.Statement.{statement}
 use Rattle.design_list.proofs.read_into.Tie as tie
@@ -29,8 +31,12 @@ unfolding read Stored
 returns-3 c =
     let call = c .before .before .before in
     let long = call .before in
-    rw
-    (le-ltb _ _ (long .before .if1 .left), le-ltb _ _ (long .if2 .left), ← call .header-at .ensures, c .before .f .given .1)
+    rw (
+      le-ltb _ _ (long .before .if1 .left),
+      le-ltb _ _ (long .if2 .left),
+      ← call .header-at .ensures,
+      c .before .f .given .1,
+    )
     (refl, tt)
 
 returns-4 : tie.Need-returns-4
@@ -40,8 +46,12 @@ returns-4 c =
     let told = read-all .before .before .before in
     let call = told .before .before in
     let long = call .before in
-    rw
-    (le-ltb _ _ (long .before .if1 .left), le-ltb _ _ (long .if2 .left), ← call .header-at .ensures, told .header .given .1)
+    rw (
+      le-ltb _ _ (long .before .if1 .left),
+      le-ltb _ _ (long .if2 .left),
+      ← call .header-at .ensures,
+      told .header .given .1,
+    )
     (read-all .read-cells .ensures .0, stored-cells _ _ _ _ (read-all .read-cells .ensures .1))
 
 pub read-into-spec : {M : Type 1} → statement M

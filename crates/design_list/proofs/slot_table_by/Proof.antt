@@ -1,9 +1,9 @@
--- `design_list::slot_table_by` meets its contract: an accepted list leaves the words of its slots in the table, and they are copied where they fit.
--- Assumes nothing.
+-- `design_list::slot_table_by` meets its contract: an accepted list leaves the words of its slots in the table, and
+-- they are copied where they fit. Assumes nothing.
 use borrow.Author.Tests.{lt-ltb, le-ltb}
 use mathlib.Core.Path.{sym, _∙_}
 use native.Mathlib.Omega.{arith}
-use Rattle.design_list.specs.Table.{tabled, table-low, table-refused, table-short, table-filled}
+use Rattle.design_list.proofs.TableLaws.{tabled, table-low, table-refused, table-short, table-filled}
 use borrow.Author.Needs.{needs}
 use Rattle.design_list.proofs.slot_table_by.Statement.{statement}
 use Rattle.design_list.proofs.slot_table_by.Tie as tie
@@ -54,7 +54,8 @@ returns-3 c =
     let same = sym (call .read-into .ensures .0) ∙ told .extent .given .1 in
     tabled _ (rw (same, le-ltb _ _ (enough .if1 .left)))
     (copied .copy .ensures ∙
-    table-filled _ same (start .args .table .now) _ (start .args .out .now) (call .read-into .ensures .1) (start .pre) (enough .if1 .left))
+    table-filled _ same (start .args .table .now) _ (start .args .out .now) (call .read-into .ensures .1) (start .pre)
+    (enough .if1 .left))
 
 pub slot-table-by-spec : {M : Type 1} → statement M
 slot-table-by-spec =

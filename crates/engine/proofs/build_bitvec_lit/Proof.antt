@@ -1,8 +1,9 @@
--- `engine::build_bitvec_lit` meets its contract: the digits of the reduced number follow the head and the width. Assumes nothing.
+-- `engine::build_bitvec_lit` meets its contract: the digits of the reduced number follow the head and the width.
+-- Assumes nothing.
 use borrow.Author.Needs.{needs}
 use Prim.Native.Nat.{_≤_}
 use native.Mathlib.Omega.{arith}
-use Rattle.engine.specs.Emit.{wrote-then, literal-record}
+use Rattle.engine.proofs.EmitLaws.{wrote-then, literal-record}
 use Rattle.engine.proofs.build_bitvec_lit.Statement.{statement}
 use Rattle.engine.proofs.build_bitvec_lit.Tie as tie
 

@@ -22,7 +22,8 @@ returns : tie.Need-returns
 returns c =
     let made = c .before .before in
     let words = made .before in
-    rw (words .before .before .number-word .ensures, words .before .number-word2 .ensures, words .term-word .ensures) at (made .record3 .ensures)
+    rw (words .before .before .number-word .ensures, words .before .number-word2 .ensures, words .term-word .ensures)
+    at (made .record3 .ensures)
 
 pub build-extract-spec : {M : Type 1} → statement M
 build-extract-spec =

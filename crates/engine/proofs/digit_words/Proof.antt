@@ -1,5 +1,5 @@
--- `engine::digit_words` meets its contract: what is written, with the digits left of the rest, are the digits of the number.
--- The measure is how many digits are left. Assumes nothing.
+-- `engine::digit_words` meets its contract: what is written, with the digits left of the rest, are the digits of the
+-- number. The measure is how many digits are left. Assumes nothing.
 use Prim.Native.Nat.{_<_, _^_}
 use mathlib.Core.Path.{_≡_, refl, sym, ap, _∙_}
 use mathlib.Core.List.{List, [], _++_, map, append-assoc, append-nil}
@@ -9,7 +9,8 @@ use Prim.Native.Nat.{ℕ}
 use lib.ListN.{length}
 use Rattle.logic.specs.Word.{numberWord}
 use Rattle.engine.specs.Encode.{digits}
-use Rattle.engine.specs.Emit.{Wrote, wrote-none, wrote-then, no-digits, first-digit}
+use Rattle.engine.specs.Emit.{Wrote}
+use Rattle.engine.proofs.EmitLaws.{wrote-none, wrote-then, no-digits, first-digit}
 use Rattle.engine.proofs.digit_words.Statement.{statement}
 use Rattle.engine.proofs.digit_words.Tie as tie
 
@@ -50,7 +51,12 @@ loop-again c =
     let step = first-digit (turn .before .loop .left) (turn .before .loop .rest) (turn .loop-test .taken) in (
       omega arith,
       made .push .kept .0 ∙ inv .1,
-      (_, wrote-then (inv .2 .1) one short, append-assoc (inv .2 .0) _ _ ∙ ap (λ (l : List ℕ). inv .2 .0 ++ l) (sym step) ∙ inv .2 .2),
+      (
+        _,
+        wrote-then (inv .2 .1) one short,
+        append-assoc (inv .2 .0) _ _
+            ∙ ap (λ (l : List ℕ). inv .2 .0 ++ l) (sym step) ∙ inv .2 .2,
+      ),
     )
 
 same-length : tie.Need-same-length Inv-loop μ-loop

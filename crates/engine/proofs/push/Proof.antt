@@ -1,4 +1,5 @@
--- `engine::push` meets its contract: the word is stored by `put`, and the count stops at its largest number. Assumes nothing.
+-- `engine::push` meets its contract: the word is stored by `put`, and the count stops at its largest number. Assumes
+-- nothing.
 use borrow.Author.Needs.{needs}
 use native.Mathlib.Omega.{arith}
 use Rattle.engine.specs.Emit.{overwrite}

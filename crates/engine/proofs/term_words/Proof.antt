@@ -1,5 +1,5 @@
--- `engine::term_words` meets its contract: after i turns the references of the first i terms are written. The measure is how
--- many terms are left. Assumes nothing.
+-- `engine::term_words` meets its contract: after i turns the references of the first i terms are written. The measure
+-- is how many terms are left. Assumes nothing.
 use Prim.Native.Nat.{_≤_, _-_, _<_, _^_}
 use mathlib.Core.Path.{_≡_, refl, _∙_}
 use mathlib.Core.List.{map}
@@ -8,7 +8,8 @@ use native.Mathlib.Omega.{arith}
 use lib.ListN.{length, take}
 use lib.Seq.{take-all}
 use Rattle.logic.specs.Word.{termWord}
-use Rattle.engine.specs.Emit.{Wrote, wrote-none, wrote-then, more-words}
+use Rattle.engine.specs.Emit.{Wrote}
+use Rattle.engine.proofs.EmitLaws.{wrote-none, wrote-then, more-words}
 use Rattle.engine.proofs.term_words.Statement.{statement}
 use Rattle.engine.proofs.term_words.Tie as tie
 
@@ -50,7 +51,8 @@ loop-again c =
     let short : length (start .args .calls .now) < 2 ^ 64 = omega arith in (
       omega arith,
       made .push .kept .0 ∙ inv .1,
-      rw (more-words termWord (start .args .terms .now) (turn .before .loop .i) (turn .loop-test .taken)) at (wrote-then (inv .2) one short),
+      rw (more-words termWord (start .args .terms .now) (turn .before .loop .i) (turn .loop-test .taken))
+          at (wrote-then (inv .2) one short),
     )
 
 same-length : tie.Need-same-length Inv-loop μ-loop
@@ -59,7 +61,8 @@ same-length c = c .before .loop .inv .1
 returns : tie.Need-returns Inv-loop μ-loop
 returns c =
     let inv = c .before .loop .inv in
-    rw (take-all (c .before .loop .i) (c .before .before .before .before .args .terms .now) (c .loop-test .left)) at (inv .2)
+    rw (take-all (c .before .loop .i) (c .before .before .before .before .args .terms .now) (c .loop-test .left))
+    at (inv .2)
 
 pub term-words-spec : {M : Type 1} → statement M
 term-words-spec =

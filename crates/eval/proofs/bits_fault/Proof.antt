@@ -1,5 +1,5 @@
--- `eval::bits_fault` meets its contract: between two records the fault is what the records left say. The measure is how many words
--- are left. Assumes nothing.
+-- `eval::bits_fault` meets its contract: between two records the fault is what the records left say. The measure is how
+-- many words are left. Assumes nothing.
 use borrow.Author.Needs.{needs}
 use Prim.Native.Nat.{_-_}
 use mathlib.Core.Path.{sym, ap, _∙_}
@@ -7,8 +7,8 @@ use native.Mathlib.Omega.{arith}
 use lib.ListN.{length}
 use Rattle.checker.specs.Tables.{wrongAs}
 use Rattle.call_list.specs.declared.Cursor.{Cursor}
-use Rattle.call_list.specs.Cursors.{passed-next}
-use Rattle.eval.specs.RecordLaws.{BitsTo, bits-start, bits-here, bits-next, bits-end}
+use Rattle.call_list.proofs.CursorsLaws.{passed-next}
+use Rattle.eval.proofs.RecordLaws.{BitsTo, bits-start, bits-here, bits-next, bits-end}
 use Rattle.eval.proofs.bits_fault.Statement.{statement}
 use Rattle.eval.proofs.bits_fault.Tie as tie
 

@@ -1,10 +1,10 @@
--- `eval::evaluate_by` meets its contract: fault 19 of the list, fault 20 of the bits, fault 20 of the room, in this order; with none the
--- records are evaluated. Assumes nothing.
+-- `eval::evaluate_by` meets its contract: fault 19 of the list, fault 20 of the bits, fault 20 of the room, in this
+-- order; with none the records are evaluated. Assumes nothing.
 use borrow.Author.Needs.{needs}
 use mathlib.Core.Path.{refl, sym, ap, _∙_}
 use lib.ListN.{length}
 use Rattle.eval.specs.declared.Evaluation.the-variants.{Evaluated}
-use Rattle.eval.specs.Answers.{answer-malformed, answer-bits, answer-short, answer-whole, evaluable}
+use Rattle.eval.proofs.Answers.{answer-malformed, answer-bits, answer-short, answer-whole, evaluable}
 use Rattle.eval.proofs.evaluate_by.Statement.{statement}
 use Rattle.eval.proofs.evaluate_by.Tie as tie
 
@@ -47,7 +47,8 @@ evaluate-records-requires c κs =
     let args = opened .before .before .before .before .args in
     let well = sym (well-told .terms .given .1) ∙ checked .check-by .ensures .is in
     let fit = sym (told .enum-told .given .1) ∙ faulted .bits-fault .ensures in
-    evaluable (args .calls .now) (args .bits .now) (length (args .values .now)) _ _ well fit (args .gap) (args .values .now) _ _ _ refl (enough .if1 .taken)
+    evaluable (args .calls .now) (args .bits .now) (length (args .values .now)) _ _ well fit (args .gap)
+    (args .values .now) _ _ _ refl (enough .if1 .taken)
     (λ y e. checked .check-by .ensures .tabled y e)
 
 refusal-requires-3 : tie.Need-refusal-requires-3
@@ -75,8 +76,11 @@ returns c =
     let entry = checked .before .before .before .before in
     let opened = entry .before .before .before .before in
     let args = opened .before .before .before .before .args in
-    let bad = sym (told .at .given .1) ∙ checked .check-by .ensures .is in
-    (c .refusal .ensures ∙ sym (answer-malformed (args .calls .now) (args .bits .now) (length (args .values .now)) _ bad), rw (c .refusal .ensures))
+    let bad = sym (told .at .given .1) ∙ checked .check-by .ensures .is in (
+      c .refusal .ensures
+          ∙ sym (answer-malformed (args .calls .now) (args .bits .now) (length (args .values .now)) _ bad),
+      rw (c .refusal .ensures),
+    )
 
 same-length-5 : tie.Need-same-length-5
 same-length-5 c = search needs
@@ -103,8 +107,11 @@ returns-2 c =
     let opened = entry .before .before .before .before in
     let args = opened .before .before .before .before .args in
     let well = sym (well-told .terms .given .1) ∙ checked .check-by .ensures .is in
-    let wrong = sym (told .k .given .1) ∙ faulted .bits-fault .ensures in
-    (c .refusal2 .ensures ∙ sym (answer-bits (args .calls .now) (args .bits .now) (length (args .values .now)) _ _ well _ wrong), rw (c .refusal2 .ensures))
+    let wrong = sym (told .k .given .1) ∙ faulted .bits-fault .ensures in (
+      c .refusal2 .ensures
+          ∙ sym (answer-bits (args .calls .now) (args .bits .now) (length (args .values .now)) _ _ well _ wrong),
+      rw (c .refusal2 .ensures),
+    )
 
 same-length-9 : tie.Need-same-length-9
 same-length-9 c = search needs
@@ -138,7 +145,9 @@ returns-3 c =
     let args = opened .before .before .before .before .args in
     let well = sym (well-told .terms .given .1) ∙ checked .check-by .ensures .is in
     let fit = sym (told .enum-told .given .1) ∙ faulted .bits-fault .ensures in (
-      ap Evaluated (done .evaluate-records .ensures .1) ∙ sym (answer-whole (args .calls .now) (args .bits .now) (length (args .values .now)) _ _ well fit (enough .if1 .taken)),
+      ap Evaluated (done .evaluate-records .ensures .1)
+          ∙ sym (answer-whole (args .calls .now) (args .bits .now) (length (args .values .now)) _ _ well fit
+          (enough .if1 .taken)),
       done .evaluate-records .ensures .0,
     )
 
@@ -168,8 +177,12 @@ returns-4 c =
     let opened = entry .before .before .before .before in
     let args = opened .before .before .before .before .args in
     let well = sym (well-told .terms .given .1) ∙ checked .check-by .ensures .is in
-    let fit = sym (told .enum-told .given .1) ∙ faulted .bits-fault .ensures in
-    (c .refusal3 .ensures ∙ sym (answer-short (args .calls .now) (args .bits .now) (length (args .values .now)) _ _ well fit (short .if1 .left)), rw (c .refusal3 .ensures))
+    let fit = sym (told .enum-told .given .1) ∙ faulted .bits-fault .ensures in (
+      c .refusal3 .ensures
+          ∙ sym (answer-short (args .calls .now) (args .bits .now) (length (args .values .now)) _ _ well fit
+          (short .if1 .left)),
+      rw (c .refusal3 .ensures),
+    )
 
 pub evaluate-by-spec : {M : Type 1} → statement M
 evaluate-by-spec =

@@ -1,5 +1,5 @@
--- `eval::evaluate_records` meets its contract: between two records what is written and counted is that of the calls so far. The
--- measure is how many words are left. Assumes nothing.
+-- `eval::evaluate_records` meets its contract: between two records what is written and counted is that of the calls so
+-- far. The measure is how many words are left. Assumes nothing.
 use borrow.Author.Needs.{needs}
 use Prim.Native.Nat.{_-_}
 use mathlib.Core.Path.{_≡_, refl, ap, _∙_}
@@ -7,14 +7,15 @@ use native.Mathlib.Omega.{arith}
 use lib.ListN.{length}
 use Rattle.call_list.specs.Operations.{opFrom}
 use Rattle.call_list.specs.declared.Cursor.{Cursor}
-use Rattle.call_list.specs.Cursors.{passed-next}
-use Rattle.eval.specs.RecordLaws.{false-low, EvaluatedTo, evaluated-start, evaluated-next, evaluated-end}
+use Rattle.call_list.proofs.CursorsLaws.{passed-next}
+use Rattle.eval.proofs.RecordLaws.{false-low, EvaluatedTo, evaluated-start, evaluated-next, evaluated-end}
 use Rattle.eval.proofs.evaluate_records.Statement.{statement}
 use Rattle.eval.proofs.evaluate_records.Tie as tie
 
 abbrev Inv-loop : tie.InvT-loop
 Inv-loop calls bits values₀ sorts recent₀ places gap done₀ falses₀ values recent done falses =
-    (length values ≡ length values₀) × (length recent ≡ length recent₀) × EvaluatedTo gap calls bits values₀ sorts places values recent done falses
+    (length values ≡ length values₀) × (length recent ≡ length recent₀)
+    × EvaluatedTo gap calls bits values₀ sorts places values recent done falses
 
 abbrev μ-loop : tie.MeasureT-loop
 μ-loop calls bits values₀ sorts recent₀ places gap done₀ falses₀ values recent done falses = length calls - done .at

@@ -1,4 +1,5 @@
--- `eval::evaluate_with` meets its contract: it is the evaluation with small tables of its own for the rest. Assumes nothing.
+-- `eval::evaluate_with` meets its contract: it is the evaluation with small tables of its own for the rest. Assumes
+-- nothing.
 use borrow.Author.Needs.{needs}
 use Rattle.eval.proofs.evaluate_with.Statement.{statement}
 use Rattle.eval.proofs.evaluate_with.Tie as tie

@@ -25,12 +25,14 @@ returns c =
     let put = c .before .before in
     let valued = put .before .before in
     let told = valued .before .before in
-    let makes = sym (told .before .makes-term .ensures ∙ ap makesTerm (told .before .before .operation-at .ensures)) ∙ told .if1 .taken in
+    let makes = sym (told .before .makes-term .ensures ∙ ap makesTerm (told .before .before .operation-at .ensures))
+    ∙ told .if1 .taken in
     rw (makes, put .put-number .ensures, valued .record-value .ensures)
 
 returns-2 : tie.Need-returns-2
 returns-2 c =
-    let makes = sym (c .before .makes-term .ensures ∙ ap makesTerm (c .before .before .operation-at .ensures)) ∙ c .if1 .left in
+    let makes = sym (c .before .makes-term .ensures ∙ ap makesTerm (c .before .before .operation-at .ensures))
+    ∙ c .if1 .left in
     rw makes
 
 pub write-value-spec : {M : Type 1} → statement M

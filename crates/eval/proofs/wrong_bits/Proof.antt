@@ -29,26 +29,42 @@ returns c =
     let fit = c .before in
     let asked = fit .before .before .before in
     let told = asked .before in
-    let declares = sym (told .before .is-declare .ensures ∙ ap isDeclare (told .before .before .operation-at .ensures)) ∙ told .if1 .taken in
-    rw (declares, lt-ltb _ _ (asked .if2 .taken), ← fit .before .argument-at .ensures, ← fit .fits-width .ensures, c .if3 .taken)
+    let declares = sym (told .before .is-declare .ensures ∙ ap isDeclare (told .before .before .operation-at .ensures))
+    ∙ told .if1 .taken in
+    rw (
+      declares,
+      lt-ltb _ _ (asked .if2 .taken),
+      ← fit .before .argument-at .ensures,
+      ← fit .fits-width .ensures,
+      c .if3 .taken,
+    )
 
 returns-2 : tie.Need-returns-2
 returns-2 c =
     let fit = c .before in
     let asked = fit .before .before .before in
     let told = asked .before in
-    let declares = sym (told .before .is-declare .ensures ∙ ap isDeclare (told .before .before .operation-at .ensures)) ∙ told .if1 .taken in
-    rw (declares, lt-ltb _ _ (asked .if2 .taken), ← fit .before .argument-at .ensures, ← fit .fits-width .ensures, c .if3 .left)
+    let declares = sym (told .before .is-declare .ensures ∙ ap isDeclare (told .before .before .operation-at .ensures))
+    ∙ told .if1 .taken in
+    rw (
+      declares,
+      lt-ltb _ _ (asked .if2 .taken),
+      ← fit .before .argument-at .ensures,
+      ← fit .fits-width .ensures,
+      c .if3 .left,
+    )
 
 returns-3 : tie.Need-returns-3
 returns-3 c =
     let told = c .before in
-    let declares = sym (told .before .is-declare .ensures ∙ ap isDeclare (told .before .before .operation-at .ensures)) ∙ told .if1 .taken in
+    let declares = sym (told .before .is-declare .ensures ∙ ap isDeclare (told .before .before .operation-at .ensures))
+    ∙ told .if1 .taken in
     rw (declares, le-ltb _ _ (c .if2 .left))
 
 returns-4 : tie.Need-returns-4
 returns-4 c =
-    let declares = sym (c .before .is-declare .ensures ∙ ap isDeclare (c .before .before .operation-at .ensures)) ∙ c .if1 .left in
+    let declares = sym (c .before .is-declare .ensures ∙ ap isDeclare (c .before .before .operation-at .ensures))
+    ∙ c .if1 .left in
     rw declares
 
 pub wrong-bits-spec : {M : Type 1} → statement M

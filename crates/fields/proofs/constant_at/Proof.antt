@@ -1,4 +1,5 @@
--- `fields::constant_at` meets its contract: each answer rewrites the definition by the tests and calls that lead to it. Assumes nothing.
+-- `fields::constant_at` meets its contract: each answer rewrites the definition by the tests and calls that lead to it.
+-- Assumes nothing.
 use Rattle.fields.specs.Field.{constantAt}
 use borrow.Author.Needs.{needs}
 use Rattle.fields.proofs.constant_at.Statement.{statement}

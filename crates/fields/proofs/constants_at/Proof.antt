@@ -1,10 +1,10 @@
--- `fields::constants_at` meets its contract. The invariant: the scan from here answers what the scan from the start does. The measure is what is left.
--- Assumes nothing.
+-- `fields::constants_at` meets its contract. The invariant: the scan from here answers what the scan from the start
+-- does. The measure is what is left. Assumes nothing.
 use borrow.Author.Needs.{needs}
 use mathlib.Core.Path.{_≡_, refl, sym, _∙_}
 use native.Mathlib.Omega.{arith}
 use Rattle.fields.specs.Field.{constantsAt}
-use Rattle.fields.specs.Laws.{many-none, many-turn, many-fault}
+use Rattle.fields.proofs.Laws.{many-none, many-turn, many-fault}
 use Rattle.fields.proofs.constants_at.Statement.{statement}
 use Rattle.fields.proofs.constants_at.Tie as tie
 

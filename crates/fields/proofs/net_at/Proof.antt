@@ -1,4 +1,5 @@
--- `fields::net_at` meets its contract: each answer rewrites the definition by the tests and calls that lead to it. Assumes nothing.
+-- `fields::net_at` meets its contract: each answer rewrites the definition by the tests and calls that lead to it.
+-- Assumes nothing.
 use borrow.Author.Tests.{lt-ltb, le-ltb, le-leb, lt-leb}
 use Rattle.fields.specs.Field.{netAt}
 use borrow.Author.Needs.{needs}

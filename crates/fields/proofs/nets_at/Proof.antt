@@ -1,15 +1,16 @@
--- `fields::nets_at` meets its contract. The invariant: the scan from here answers what the scan from the start does. The measure is what is left.
--- Assumes nothing.
+-- `fields::nets_at` meets its contract. The invariant: the scan from here answers what the scan from the start does.
+-- The measure is what is left. Assumes nothing.
 use borrow.Author.Needs.{needs}
 use mathlib.Core.Path.{_≡_, refl, sym, _∙_}
 use native.Mathlib.Omega.{arith}
 use Rattle.fields.specs.Field.{netsAt}
-use Rattle.fields.specs.Laws.{many-none, many-turn, many-fault}
+use Rattle.fields.proofs.Laws.{many-none, many-turn, many-fault}
 use Rattle.fields.proofs.nets_at.Statement.{statement}
 use Rattle.fields.proofs.nets_at.Tie as tie
 
 abbrev Inv-loop : tie.InvT-loop
-Inv-loop list total most end n start at₀ left₀ at left = netsAt list total most end n start ≡ netsAt list total most end left at
+Inv-loop list total most end n start at₀ left₀ at left = netsAt list total most end n start
+    ≡ netsAt list total most end left at
 
 abbrev μ-loop : tie.MeasureT-loop
 μ-loop list total most end n start at₀ left₀ at left = left

@@ -1,10 +1,12 @@
--- `fields::patterns_at` meets its contract. Each loop's invariant: the scan of what is left, from here, answers what the whole scan does; its measure
--- is what it counts down. The label is left at a word that is no constant, where the scan of what is left answers fault 8. Assumes nothing.
+-- `fields::patterns_at` meets its contract. Each loop's invariant: the scan of what is left, from here, answers what
+-- the whole scan does; its measure is what it counts down. The label is left at a word that is no constant, where the
+-- scan of what is left answers fault 8. Assumes nothing.
 use borrow.Author.Needs.{needs}
 use mathlib.Core.Path.{_≡_, refl, sym, _∙_}
 use native.Mathlib.Omega.{arith}
 use Rattle.fields.specs.Pattern.{patternsAt}
-use Rattle.fields.specs.Laws.{inPattern, inAlternate, no-pattern, pattern-fault, pattern-begins, pattern-ends, alternate-begins, alternate-ends, word-turn, word-other, word-fault}
+use Rattle.fields.proofs.Laws.{inPattern, inAlternate, no-pattern, pattern-fault, pattern-begins, pattern-ends}
+use Rattle.fields.proofs.Laws.{alternate-begins, alternate-ends, word-turn, word-other, word-fault}
 use Rattle.fields.proofs.patterns_at.Statement.{statement}
 use Rattle.fields.proofs.patterns_at.Tie as tie
 
@@ -23,7 +25,8 @@ abbrev μ-loop : tie.MeasureT-loop
 μ-loop list n end k start at₀ pattern alternates first alternate₀ at alternate = alternate
 
 abbrev Inv-patterns : tie.InvT-patterns
-Inv-patterns list n end k start at₀ pattern₀ at pattern = patternsAt list n end k start ≡ patternsAt list n end pattern at
+Inv-patterns list n end k start at₀ pattern₀ at pattern = patternsAt list n end k start
+    ≡ patternsAt list n end pattern at
 
 abbrev μ-patterns : tie.MeasureT-patterns
 μ-patterns list n end k start at₀ pattern₀ at pattern = pattern

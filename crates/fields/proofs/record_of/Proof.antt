@@ -1,4 +1,5 @@
--- `fields::record_of` meets its contract: the two tests are the one test of the definition, without a sum that could wrap. Assumes nothing.
+-- `fields::record_of` meets its contract: the two tests are the one test of the definition, without a sum that could
+-- wrap. Assumes nothing.
 use borrow.Author.Tests.{le-leb, lt-leb}
 use borrow.Author.Needs.{needs}
 use native.Mathlib.Omega.{arith}

@@ -1,10 +1,10 @@
--- `flip_flop::clear_value` meets its contract: the constants at the place of the clear value are packed into a literal. Assumes
--- nothing.
+-- `flip_flop::clear_value` meets its contract: the constants at the place of the clear value are packed into a literal.
+-- Assumes nothing.
 use borrow.Author.Needs.{needs}
 use mathlib.Core.Path.{_≡_, ap, _∙_}
 use Prim.Native.Nat.{_≤_}
 use native.Mathlib.Omega.{arith}
-use Rattle.logic.specs.Table.{length-tab}
+use Rattle.logic.proofs.TableLaws.{length-tab}
 use Rattle.logic.specs.Word.{payloadOf}
 use Rattle.builder.proofs.Laws.{ran-as}
 use Rattle.flip_flop.proofs.clear_value.Statement.{statement}

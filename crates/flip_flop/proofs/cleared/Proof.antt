@@ -18,7 +18,8 @@ returns c =
     let at-control-of = at-has-clear .before in
     let at-word-at = at-control-of .before in
     let args = at-word-at .before .before .before .args in
-    let has = rw (at-control-of .control-of .ensures, at-word-at .word-at .ensures) at (at-has-clear .has-clear .ensures) in
+    let has = rw (at-control-of .control-of .ensures, at-word-at .word-at .ensures)
+    at (at-has-clear .has-clear .ensures) in
     let asked : hasClear (flipFlopIn (args .fields .now)) ≡ true = sym has ∙ at-test .if1 .taken in
     λ small readsPast names marks.
     rw asked
@@ -33,7 +34,8 @@ returns-2 c =
     let at-control-of = at-has-clear .before in
     let at-word-at = at-control-of .before in
     let args = at-word-at .before .before .before .args in
-    let has = rw (at-control-of .control-of .ensures, at-word-at .word-at .ensures) at (at-has-clear .has-clear .ensures) in
+    let has = rw (at-control-of .control-of .ensures, at-word-at .word-at .ensures)
+    at (at-has-clear .has-clear .ensures) in
     let asked : hasClear (flipFlopIn (args .fields .now)) ≡ false = sym has ∙ at-test .if1 .left in
     λ small readsPast names marks. rw asked (ran-none _ _ names marks _)
 

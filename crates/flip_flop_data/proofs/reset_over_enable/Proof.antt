@@ -15,7 +15,8 @@ returns c =
     let at-reset-to = c .before .before in
     let at-enabled = at-reset-to .before .before .before .before .before .before .before .before in
     let args = at-enabled .before .before .before .before .before .before .before .before .before .args in
-    let over = resetTo (pastIn (args .table .now)) (flipFlopIn (args .fields .now)) (args .width) (trits 1 (args .reset)) in
+    let over =
+    resetTo (pastIn (args .table .now)) (flipFlopIn (args .fields .now)) (args .width) (trits 1 (args .reset)) in
     ran-bind over (at-enabled .enabled .ensures narrow low (args .fields .now) i)
     (at-reset-to .reset-to .ensures small (pastIn (args .table .now)) (args .width) _ _)
 

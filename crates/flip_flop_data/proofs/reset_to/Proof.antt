@@ -1,4 +1,5 @@
--- `flip_flop_data::reset_to` meets its contract: its calls are those of the model, one after the other. Assumes nothing.
+-- `flip_flop_data::reset_to` meets its contract: its calls are those of the model, one after the other. Assumes
+-- nothing.
 use borrow.Author.Needs.{needs}
 use Rattle.builder.proofs.Laws.{ran-bind}
 use Rattle.smt.specs.Builder.{resetTo}

@@ -1,10 +1,10 @@
--- `flip_flop_data::reset_value` meets its contract: the constants at the place of the reset value are packed into a literal. Assumes
--- nothing.
+-- `flip_flop_data::reset_value` meets its contract: the constants at the place of the reset value are packed into a
+-- literal. Assumes nothing.
 use borrow.Author.Needs.{needs}
 use mathlib.Core.Path.{_≡_, ap, _∙_}
 use Prim.Native.Nat.{_≤_}
 use native.Mathlib.Omega.{arith}
-use Rattle.logic.specs.Table.{length-tab}
+use Rattle.logic.proofs.TableLaws.{length-tab}
 use Rattle.logic.specs.Word.{payloadOf}
 use Rattle.builder.proofs.Laws.{ran-as}
 use Rattle.flip_flop_data.proofs.reset_value.Statement.{statement}

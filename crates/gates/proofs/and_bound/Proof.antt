@@ -12,7 +12,8 @@ same-length c =
     let at-build-binary = at-undecided .before .before .before .before in
     let at-tv-is02 = at-build-binary .before .before .before .before in
     let at-tv-is0 = at-tv-is02 .before .before .before .before in
-    at-undecided .undecided .kept .0 ∙ at-build-binary .build-binary .kept .0 ∙ at-tv-is02 .tv-is02 .kept .0 ∙ at-tv-is0 .tv-is0 .kept .0
+    at-undecided .undecided .kept .0 ∙ at-build-binary .build-binary .kept .0 ∙ at-tv-is02 .tv-is02 .kept .0
+    ∙ at-tv-is0 .tv-is0 .kept .0
 
 returns : tie.Need-returns
 unfolding andBound
@@ -30,4 +31,5 @@ returns c =
 pub and-bound-spec : {M : Type 1} → statement M
 and-bound-spec =
     tie.close
-    (tie.spec (λ c κs. search needs) (λ c κs. search needs) (λ c κs. search needs) (λ c κs. search needs) same-length returns)
+    (tie.spec (λ c κs. search needs) (λ c κs. search needs) (λ c κs. search needs) (λ c κs. search needs) same-length
+    returns)

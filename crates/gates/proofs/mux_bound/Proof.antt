@@ -13,7 +13,8 @@ same-length c =
     let at-bv-to-bool = at-bv-to-bool2 .before .before .before .before in
     let at-tv-is1 = at-bv-to-bool .before .before .before .before in
     let at-tv-is0 = at-tv-is1 .before .before .before .before in
-    at-mux-x .mux-x .kept .0 ∙ at-bv-to-bool2 .bv-to-bool2 .kept .0 ∙ at-bv-to-bool .bv-to-bool .kept .0 ∙ at-tv-is1 .tv-is1 .kept .0 ∙ at-tv-is0 .tv-is0 .kept .0
+    at-mux-x .mux-x .kept .0 ∙ at-bv-to-bool2 .bv-to-bool2 .kept .0 ∙ at-bv-to-bool .bv-to-bool .kept .0
+    ∙ at-tv-is1 .tv-is1 .kept .0 ∙ at-tv-is0 .tv-is0 .kept .0
 
 returns : tie.Need-returns
 unfolding muxBound
@@ -33,4 +34,5 @@ returns c =
 pub mux-bound-spec : {M : Type 1} → statement M
 mux-bound-spec =
     tie.close
-    (tie.spec (λ c κs. search needs) (λ c κs. search needs) (λ c κs. search needs) (λ c κs. search needs) (λ c κs. search needs) same-length returns)
+    (tie.spec (λ c κs. search needs) (λ c κs. search needs) (λ c κs. search needs) (λ c κs. search needs)
+    (λ c κs. search needs) same-length returns)

@@ -14,7 +14,9 @@ same-length c =
     let at-build-binary3 = at-build-bitvec-ite .before .before .before .before in
     let at-build-binary2 = at-build-binary3 .before .before .before .before in
     let at-build-binary = at-build-binary2 .before .before .before .before in
-    at-mux-y .mux-y .kept .0 ∙ at-build-bitvec-ite2 .build-bitvec-ite2 .kept .0 ∙ at-build-bitvec-ite .build-bitvec-ite .kept .0 ∙ at-build-binary3 .build-binary3 .kept .0 ∙ at-build-binary2 .build-binary2 .kept .0 ∙ at-build-binary .build-binary .kept .0
+    at-mux-y .mux-y .kept .0 ∙ at-build-bitvec-ite2 .build-bitvec-ite2 .kept .0
+    ∙ at-build-bitvec-ite .build-bitvec-ite .kept .0 ∙ at-build-binary3 .build-binary3 .kept .0
+    ∙ at-build-binary2 .build-binary2 .kept .0 ∙ at-build-binary .build-binary .kept .0
 
 returns : tie.Need-returns
 unfolding muxX
@@ -36,4 +38,5 @@ returns c =
 pub mux-x-spec : {M : Type 1} → statement M
 mux-x-spec =
     tie.close
-    (tie.spec (λ c κs. search needs) (λ c κs. search needs) (λ c κs. search needs) (λ c κs. search needs) (λ c κs. search needs) (λ c κs. search needs) same-length returns)
+    (tie.spec (λ c κs. search needs) (λ c κs. search needs) (λ c κs. search needs) (λ c κs. search needs)
+    (λ c κs. search needs) (λ c κs. search needs) same-length returns)

@@ -12,7 +12,8 @@ same-length c =
     let at-build-bitvec-ite2 = at-trits .before .before .before in
     let at-build-bitvec-ite = at-build-bitvec-ite2 .before .before .before .before in
     let at-build-binary = at-build-bitvec-ite .before .before .before .before in
-    at-build-bitvec-ite2 .build-bitvec-ite2 .kept .0 ∙ at-build-bitvec-ite .build-bitvec-ite .kept .0 ∙ at-build-binary .build-binary .kept .0
+    at-build-bitvec-ite2 .build-bitvec-ite2 .kept .0 ∙ at-build-bitvec-ite .build-bitvec-ite .kept .0
+    ∙ at-build-binary .build-binary .kept .0
 
 returns : tie.Need-returns
 unfolding muxY
@@ -29,4 +30,5 @@ returns c =
 pub mux-y-spec : {M : Type 1} → statement M
 mux-y-spec =
     tie.close
-    (tie.spec (λ c κs. search needs) (λ c κs. search needs) (λ c κs. search needs) (λ c κs. search needs) same-length returns)
+    (tie.spec (λ c κs. search needs) (λ c κs. search needs) (λ c κs. search needs) (λ c κs. search needs) same-length
+    returns)

@@ -12,7 +12,8 @@ same-length c =
     let at-build-binary = at-undecided .before .before .before .before in
     let at-tv-is12 = at-build-binary .before .before .before .before in
     let at-tv-is1 = at-tv-is12 .before .before .before .before in
-    at-undecided .undecided .kept .0 ∙ at-build-binary .build-binary .kept .0 ∙ at-tv-is12 .tv-is12 .kept .0 ∙ at-tv-is1 .tv-is1 .kept .0
+    at-undecided .undecided .kept .0 ∙ at-build-binary .build-binary .kept .0 ∙ at-tv-is12 .tv-is12 .kept .0
+    ∙ at-tv-is1 .tv-is1 .kept .0
 
 returns : tie.Need-returns
 unfolding orBound
@@ -30,4 +31,5 @@ returns c =
 pub or-bound-spec : {M : Type 1} → statement M
 or-bound-spec =
     tie.close
-    (tie.spec (λ c κs. search needs) (λ c κs. search needs) (λ c κs. search needs) (λ c κs. search needs) same-length returns)
+    (tie.spec (λ c κs. search needs) (λ c κs. search needs) (λ c κs. search needs) (λ c κs. search needs) same-length
+    returns)

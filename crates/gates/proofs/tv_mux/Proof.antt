@@ -13,7 +13,8 @@ same-length c =
     let at-tv-bind3 = at-mux-bound .before .before .before .before in
     let at-tv-bind2 = at-tv-bind3 .before .before .before .before in
     let at-tv-bind = at-tv-bind2 .before .before .before .before in
-    at-mux-bound .mux-bound .kept .0 ∙ at-tv-bind3 .tv-bind3 .kept .0 ∙ at-tv-bind2 .tv-bind2 .kept .0 ∙ at-tv-bind .tv-bind .kept .0
+    at-mux-bound .mux-bound .kept .0 ∙ at-tv-bind3 .tv-bind3 .kept .0 ∙ at-tv-bind2 .tv-bind2 .kept .0
+    ∙ at-tv-bind .tv-bind .kept .0
 
 returns : tie.Need-returns
 unfolding tvMux muxBound muxX muxY
@@ -31,4 +32,5 @@ returns c =
 pub tv-mux-spec : {M : Type 1} → statement M
 tv-mux-spec =
     tie.close
-    (tie.spec (λ c κs. search needs) (λ c κs. search needs) (λ c κs. search needs) (λ c κs. search needs) same-length returns)
+    (tie.spec (λ c κs. search needs) (λ c κs. search needs) (λ c κs. search needs) (λ c κs. search needs) same-length
+    returns)

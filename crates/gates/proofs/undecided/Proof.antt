@@ -12,7 +12,8 @@ same-length c =
     let at-build-bvnot = at-build-binary3 .before .before .before .before in
     let at-build-binary2 = at-build-bvnot .before .before .before .before in
     let at-build-binary = at-build-binary2 .before .before .before .before in
-    at-build-binary3 .build-binary3 .kept .0 ∙ at-build-bvnot .build-bvnot .kept .0 ∙ at-build-binary2 .build-binary2 .kept .0 ∙ at-build-binary .build-binary .kept .0
+    at-build-binary3 .build-binary3 .kept .0 ∙ at-build-bvnot .build-bvnot .kept .0
+    ∙ at-build-binary2 .build-binary2 .kept .0 ∙ at-build-binary .build-binary .kept .0
 
 returns : tie.Need-returns
 unfolding undecided
@@ -30,4 +31,5 @@ returns c =
 pub undecided-spec : {M : Type 1} → statement M
 undecided-spec =
     tie.close
-    (tie.spec (λ c κs. search needs) (λ c κs. search needs) (λ c κs. search needs) (λ c κs. search needs) same-length returns)
+    (tie.spec (λ c κs. search needs) (λ c κs. search needs) (λ c κs. search needs) (λ c κs. search needs) same-length
+    returns)

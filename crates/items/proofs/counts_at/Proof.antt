@@ -1,4 +1,5 @@
--- `items::counts_at` meets its contract: each answer rewrites the definition by the tests and calls that lead to it. Assumes nothing.
+-- `items::counts_at` meets its contract: each answer rewrites the definition by the tests and calls that lead to it.
+-- Assumes nothing.
 use Rattle.items.specs.Items.{countsAt}
 use borrow.Author.Needs.{needs}
 use Rattle.items.proofs.counts_at.Statement.{statement}

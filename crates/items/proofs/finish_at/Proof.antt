@@ -1,4 +1,5 @@
--- `items::finish_at` meets its contract: each answer rewrites the definition by the tests and calls that lead to it. Assumes nothing.
+-- `items::finish_at` meets its contract: each answer rewrites the definition by the tests and calls that lead to it.
+-- Assumes nothing.
 use borrow.Author.Tests.{eq-eqb, ne-eqb}
 use Rattle.items.specs.Items.{finishAt}
 use Rattle.items.proofs.finish_at.Statement.{statement}

@@ -1,7 +1,8 @@
--- `items::header_at` meets its contract: it follows the definition; a base that was read is at most 4,096. Assumes nothing.
+-- `items::header_at` meets its contract: it follows the definition; a base that was read is at most 4,096. Assumes
+-- nothing.
 use native.Mathlib.Omega.{arith}
 use mathlib.Core.Path.{sym, _∙_}
-use Rattle.fields.specs.Accepted.{number-read}
+use Rattle.fields.proofs.AcceptedLaws.{number-read}
 use Rattle.items.specs.Items.{headerAt}
 use borrow.Author.Needs.{needs}
 use Rattle.items.proofs.header_at.Statement.{statement}

@@ -1,4 +1,5 @@
--- `items::heads` meets its contract: each answer rewrites the definition by the tests and calls that lead to it. Assumes nothing.
+-- `items::heads` meets its contract: each answer rewrites the definition by the tests and calls that lead to it.
+-- Assumes nothing.
 use borrow.Author.Tests.{lt-ltb, le-ltb, eq-eqb, ne-eqb}
 use Rattle.items.specs.Marks.{headsIn}
 use borrow.Author.Needs.{needs}

@@ -1,11 +1,11 @@
--- `items::net_reps_at` meets its contract. The invariant: reading on from here answers what reading from the start does. The measure is what is left.
--- Assumes nothing.
+-- `items::net_reps_at` meets its contract. The invariant: reading on from here answers what reading from the start
+-- does. The measure is what is left. Assumes nothing.
 use borrow.Author.Needs.{needs}
 use mathlib.Core.Path.{_≡_, refl, sym, _∙_}
 use native.Mathlib.Omega.{arith}
 use Rattle.items.specs.Items.{netRepsFrom}
-use Rattle.items.specs.Step.{net-read, net-refused}
-use Rattle.items.specs.Laws.{ascending-none, ascending-turn, ascending-fault}
+use Rattle.items.proofs.StepLaws.{net-read, net-refused}
+use Rattle.items.proofs.Laws.{ascending-none, ascending-turn, ascending-fault}
 use Rattle.items.proofs.net_reps_at.Statement.{statement}
 use Rattle.items.proofs.net_reps_at.Tie as tie
 
@@ -25,7 +25,8 @@ returns c =
     let in-loop = call .before in
     sym
     (in-loop .before .loop .inv ∙
-    ascending-fault _ _ _ _ _ (in-loop .loop-test .taken) (net-refused _ (sym (call .pair-at .ensures) ∙ c .before .f .given .1)))
+    ascending-fault _ _ _ _ _ (in-loop .loop-test .taken)
+    (net-refused _ (sym (call .pair-at .ensures) ∙ c .before .f .given .1)))
 
 sub-left : tie.Need-sub-left Inv-loop μ-loop
 sub-left c = omega arith
@@ -38,7 +39,8 @@ loop-again c =
     let call = c .before .before .before in
     let in-loop = call .before in
     in-loop .before .loop .inv ∙
-    ascending-turn _ _ _ _ _ (in-loop .loop-test .taken) (net-read _ (sym (call .pair-at .ensures) ∙ c .before .above .given .1))
+    ascending-turn _ _ _ _ _ (in-loop .loop-test .taken)
+    (net-read _ (sym (call .pair-at .ensures) ∙ c .before .above .given .1))
 
 returns-2 : tie.Need-returns-2 Inv-loop μ-loop
 returns-2 c = sym (c .before .loop .inv ∙ ascending-none _ _ _ _ _ (c .loop-test .left))

@@ -1,4 +1,5 @@
--- `items::pair_at` meets its contract: each answer rewrites the definition by the tests and calls that lead to it. Assumes nothing.
+-- `items::pair_at` meets its contract: each answer rewrites the definition by the tests and calls that lead to it.
+-- Assumes nothing.
 use native.Mathlib.Omega.{arith}
 use borrow.Author.Tests.{le-leb, lt-leb}
 use Rattle.items.specs.Items.{pairAt}

@@ -1,8 +1,9 @@
--- `items::replacement_at` meets its contract: each answer rewrites the definition by the tests and calls that lead to it. Assumes nothing.
+-- `items::replacement_at` meets its contract: each answer rewrites the definition by the tests and calls that lead to
+-- it. Assumes nothing.
 use mathlib.Core.Path.{sym, _∙_}
 use native.Mathlib.Omega.{arith}
 use Rattle.items.specs.Items.{replacementAt}
-use Rattle.items.specs.Laws.{listed-low}
+use Rattle.items.proofs.Laws.{listed-low}
 use borrow.Author.Needs.{needs}
 use Rattle.items.proofs.replacement_at.Statement.{statement}
 use Rattle.items.proofs.replacement_at.Tie as tie

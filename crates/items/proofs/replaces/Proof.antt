@@ -1,4 +1,5 @@
--- `items::replaces` meets its contract: each answer rewrites the definition by the tests and calls that lead to it. Assumes nothing.
+-- `items::replaces` meets its contract: each answer rewrites the definition by the tests and calls that lead to it.
+-- Assumes nothing.
 use borrow.Author.Tests.{le-leb, lt-leb}
 use Rattle.items.specs.Items.{replaces}
 use borrow.Author.Needs.{needs}

@@ -1,5 +1,5 @@
--- `logic::driver_of` meets its contract: its tests are those of `driverOf`, in the same order; a number that passes them all is
--- at least 2. Assumes nothing.
+-- `logic::driver_of` meets its contract: its tests are those of `driverOf`, in the same order; a number that passes
+-- them all is at least 2. Assumes nothing.
 use borrow.Author.Tests.{lt-ltb, le-ltb, eq-eqb, ne-eqb}
 use borrow.Author.Needs.{needs}
 use Rattle.logic.proofs.driver_of.Statement.{statement}

@@ -1,4 +1,5 @@
--- `logic::word_at` meets its contract: inside the list it is the word there, past the end `getD`'s default. Assumes nothing.
+-- `logic::word_at` meets its contract: inside the list it is the word there, past the end `getD`'s default. Assumes
+-- nothing.
 use borrow.Author.Needs.{needs}
 use lib.ListN.{List·getD-eq-default}
 use Rattle.logic.proofs.word_at.Statement.{statement}

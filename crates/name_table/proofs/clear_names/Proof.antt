@@ -1,11 +1,11 @@
--- `name_table::clear_names` meets its contract. The loop's invariant: every byte before `at` is 0. The measure is what is left of the table.
--- Assumes nothing.
+-- `name_table::clear_names` meets its contract. The loop's invariant: every byte before `at` is 0. The measure is what
+-- is left of the table. Assumes nothing.
 use borrow.Author.Needs.{needs}
 use Prim.Native.Nat.{ℕ, _-_, _<_}
 use mathlib.Core.Path.{_≡_, refl, _∙_}
 use native.Mathlib.Omega.{arith}
 use lib.ListN.{length, getD, length-set}
-use Rattle.name_table.specs.Named.{zeros-more, zeros-all}
+use Rattle.name_table.proofs.NamedLaws.{zeros-more, zeros-all}
 use Rattle.name_table.proofs.clear_names.Statement.{statement}
 use Rattle.name_table.proofs.clear_names.Tie as tie
 

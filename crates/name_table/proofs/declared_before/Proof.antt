@@ -1,5 +1,5 @@
--- `name_table::declared_before` meets its contract: from each record on, the scan answers what it answers from the first.
--- The measure is how many words are left. Assumes nothing.
+-- `name_table::declared_before` meets its contract: from each record on, the scan answers what it answers from the
+-- first. The measure is how many words are left. Assumes nothing.
 use Prim.Native.Nat.{ℕ, _+_, _-_, _≤_, min}
 use mathlib.Core.Path.{_≡_, refl, sym, ap, _∙_}
 use borrow.Author.Needs.{needs}
@@ -7,7 +7,7 @@ use native.Mathlib.Omega.{arith}
 use lib.ListN.{length}
 use Rattle.engine.specs.Encode.{nextAt}
 use Rattle.engine.specs.Structure.{declaredFrom}
-use Rattle.engine.specs.StructureLaws.{declared-end, declared-here, declared-next}
+use Rattle.engine.proofs.StructureLaws.{declared-end, declared-here, declared-next}
 use Rattle.name_table.proofs.declared_before.Statement.{statement}
 use Rattle.name_table.proofs.declared_before.Tie as tie
 
@@ -46,7 +46,8 @@ returns-2 c =
     let end = min (args .end) (length w) in
     let found = sym (c .before .declares-at .ensures) ∙ c .if2 .taken in
     sym (inv .2
-    ∙ declared-here w end (args .letter) (args .index) (args .suffix) (inv .0) (state .at) (omega arith) (omega arith) found)
+    ∙ declared-here w end (args .letter) (args .index) (args .suffix) (inv .0) (state .at) (omega arith) (omega arith)
+    found)
 
 next-record-requires : tie.Need-next-record-requires Inv-loop μ-loop
 next-record-requires c κs = search needs
@@ -68,7 +69,8 @@ loop-again c =
       inv .0 - 1,
       omega arith,
       inv .2
-          ∙ declared-next w end (args .letter) (args .index) (args .suffix) (inv .0) (state .at) (omega arith) (omega arith) other
+          ∙ declared-next w end (args .letter) (args .index) (args .suffix) (inv .0) (state .at) (omega arith)
+          (omega arith) other
           ∙ ap (λ (k : ℕ). declaredFrom (inv .0 - 1) w k end (args .letter) (args .index) (args .suffix)) (sym next),
     )
 

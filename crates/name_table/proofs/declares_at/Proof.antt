@@ -1,7 +1,7 @@
 -- `name_table::declares_at` meets its contract: its tests are those of the three words, left to right. Assumes nothing.
 use borrow.Author.Tests.{eq-eqb, ne-eqb}
 use borrow.Author.Needs.{needs}
-use Rattle.name_table.specs.Named.{declares-words}
+use Rattle.name_table.proofs.NamedLaws.{declares-words}
 use Rattle.name_table.proofs.declares_at.Statement.{statement}
 use Rattle.name_table.proofs.declares_at.Tie as tie
 
@@ -70,7 +70,8 @@ returns-3 c =
     )
 
 returns-4 : tie.Need-returns-4
-returns-4 c = rw (declares-words, ← c .before .before .operation-at .ensures, ← c .before .is-declare .ensures, c .if1 .left)
+returns-4 c =
+    rw (declares-words, ← c .before .before .operation-at .ensures, ← c .before .is-declare .ensures, c .if1 .left)
 
 pub declares-at-spec : {M : Type 1} → statement M
 declares-at-spec =

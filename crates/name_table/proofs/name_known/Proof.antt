@@ -41,7 +41,8 @@ returns c =
       ← c .before .before .name-entry .ensures,
       eq-eqb _ _ (c .before .if2 .taken),
     )
-    (rw (← at-payload .payload .ensures, ← at-payload2 .payload2 .ensures, ← at-payload3 .payload3 .ensures) at (c .is-searched .ensures))
+    (rw (← at-payload .payload .ensures, ← at-payload2 .payload2 .ensures, ← at-payload3 .payload3 .ensures)
+    at (c .is-searched .ensures))
 
 returns-2 : tie.Need-returns-2
 returns-2 c =

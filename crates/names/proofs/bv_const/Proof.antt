@@ -1,5 +1,5 @@
--- `names::bv_const` meets its contract: the slot is marked first; then the word of the name's place is 0 and the name is
--- declared, or it is one more than the name's term. Assumes nothing.
+-- `names::bv_const` meets its contract: the slot is marked first; then the word of the name's place is 0 and the name
+-- is declared, or it is one more than the name's term. Assumes nothing.
 use borrow.Author.Needs.{needs}
 use mathlib.Core.Path.{_≡_, sym, _∙_}
 use Prim.Native.Nat.{suc, _-_}

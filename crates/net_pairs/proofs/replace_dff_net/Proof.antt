@@ -1,4 +1,5 @@
--- `net_pairs::replace_dff_net` meets its contract: the join is asserted, and the term of the one obligation pushed. Assumes nothing.
+-- `net_pairs::replace_dff_net` meets its contract: the join is asserted, and the term of the one obligation pushed.
+-- Assumes nothing.
 use borrow.Author.Needs.{needs}
 use mathlib.Core.Path.{refl}
 use Rattle.net_pairs.specs.Does.{obligedIn}
@@ -17,4 +18,5 @@ returns c =
 pub replace-dff-net-spec : {M : Type 1} → statement M
 replace-dff-net-spec =
     tie.close
-    (tie.spec (λ c κs. search needs) (λ c κs. search needs) (λ c. search needs) (λ c. search needs) (λ c. search needs) (λ c. search needs) returns)
+    (tie.spec (λ c κs. search needs) (λ c κs. search needs) (λ c. search needs) (λ c. search needs) (λ c. search needs)
+    (λ c. search needs) returns)

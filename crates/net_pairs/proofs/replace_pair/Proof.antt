@@ -1,4 +1,5 @@
--- `net_pairs::replace_pair` meets its contract: what each kind of net replacement makes, the kind being that of the words. Assumes nothing.
+-- `net_pairs::replace_pair` meets its contract: what each kind of net replacement makes, the kind being that of the
+-- words. Assumes nothing.
 use borrow.Author.Needs.{needs}
 use mathlib.Core.Path.{sym, ap, _∙_}
 use mathlib.Core.List.{[], _∷_}
@@ -30,7 +31,8 @@ returns-3 c =
     let same = sym (at-told .before .before .pair-of .ensures .same) ∙ ap pairKind (at-told .enum-told3 .given .1) in
     λ low high.
     rw same
-    (does-append (replaceDffNet _ _) (_ ∷ []) (at-replace-dff-net .replace-dff-net .ensures low high) (at-replace-net .replace-net .ensures low high))
+    (does-append (replaceDffNet _ _) (_ ∷ []) (at-replace-dff-net .replace-dff-net .ensures low high)
+    (at-replace-net .replace-net .ensures low high))
 
 returns-4 : tie.Need-returns-4
 returns-4 c =
@@ -42,7 +44,9 @@ returns-4 c =
 pub replace-pair-spec : {M : Type 1} → statement M
 replace-pair-spec =
     tie.close
-    (tie.spec (λ c κs. search needs) (λ c. search needs) (λ c. search needs) (λ c κs. search needs) (λ c. search needs) (λ c κs. search needs)
-    (λ c κs. search needs) (λ c. search needs) (λ c κs. search needs) returns (λ c. search needs) (λ c. search needs) (λ c. search needs)
+    (tie.spec (λ c κs. search needs) (λ c. search needs) (λ c. search needs) (λ c κs. search needs) (λ c. search needs)
+    (λ c κs. search needs)
+    (λ c κs. search needs) (λ c. search needs) (λ c κs. search needs) returns (λ c. search needs) (λ c. search needs)
+    (λ c. search needs)
     returns-2 (λ c. search needs) (λ c. search needs) (λ c. search needs) (λ c. search needs) returns-3
     (λ c. search needs) (λ c. search needs) (λ c. search needs) (λ c. search needs) returns-4)

@@ -1,5 +1,5 @@
--- `net_pairs::replace_pairs` meets its contract: along the net replacements (`AlongPairs`), each turn does the steps of one pair, and at the last word none is
--- left. Assumes nothing.
+-- `net_pairs::replace_pairs` meets its contract: along the net replacements (`AlongPairs`), each turn does the steps of
+-- one pair, and at the last word none is left. Assumes nothing.
 use borrow.Author.Needs.{needs}
 use mathlib.Core.Path.{_≡_, refl, _∙_}
 use Prim.Native.Nat.{ℕ, _-_}
@@ -14,7 +14,8 @@ use Rattle.net_pairs.proofs.replace_pairs.Tie as tie
 
 abbrev Inv-loop : tie.InvT-loop
 Inv-loop list pairs table calls₀ names₀ marks₀ eqs₀ s₀ at₀ calls names marks eqs s at =
-    (length calls ≡ length calls₀) × (length names ≡ length names₀) × (length marks ≡ length marks₀) × (length eqs ≡ length eqs₀)
+    (length calls ≡ length calls₀) × (length names ≡ length names₀) × (length marks ≡ length marks₀)
+    × (length eqs ≡ length eqs₀)
     × ((d : Design) (replacements : ℕ) → read list ≡ accepted d replacements pairs → Tells d table
     → AlongPairs d list at calls₀ names₀ marks₀ eqs₀ s₀ calls names marks eqs s)
 
@@ -42,15 +43,20 @@ loop-again c =
       kept .1 .1 .1 .0 ∙ inv .2,
       kept .1 .1 .1 .1 .0 ∙ inv .3,
       λ d replacements accepts tells.
-          pairs-turn tells (inv .4 d replacements accepts tells) (turn .loop-test .taken) (at-to .before .net-at .ensures) (at-to .net-at2 .ensures)
+          pairs-turn tells (inv .4 d replacements accepts tells) (turn .loop-test .taken)
+          (at-to .before .net-at .ensures) (at-to .net-at2 .ensures)
           (at-replace-pair .replace-pair .ensures),
     )
 
 returns : tie.Need-returns Inv-loop μ-loop
-returns c = λ d replacements accepts tells. pairs-done (c .before .loop .inv .4 d replacements accepts tells) (c .loop-test .left)
+returns c =
+    λ d replacements accepts tells. pairs-done (c .before .loop .inv .4 d replacements accepts tells)
+    (c .loop-test .left)
 
 pub replace-pairs-spec : {M : Type 1} → statement M
 replace-pairs-spec =
     tie.close
-    (tie.spec Inv-loop μ-loop loop-holds (λ c κs. search needs) (λ c. search needs) (λ c κs. search needs) (λ c κs. search needs) (λ c. search needs)
-    loop-less loop-again (λ c. c .before .loop .inv .0) (λ c. c .before .loop .inv .1) (λ c. c .before .loop .inv .2) (λ c. c .before .loop .inv .3) returns)
+    (tie.spec Inv-loop μ-loop loop-holds (λ c κs. search needs) (λ c. search needs) (λ c κs. search needs)
+    (λ c κs. search needs) (λ c. search needs)
+    loop-less loop-again (λ c. c .before .loop .inv .0) (λ c. c .before .loop .inv .1) (λ c. c .before .loop .inv .2)
+    (λ c. c .before .loop .inv .3) returns)

@@ -13,17 +13,22 @@ same-length c =
     let at-tv-eq = at-assert-claim .before .before .before .before in
     let at-past-net2 = at-tv-eq .before .before .before .before .before .before .before .before in
     let at-past-net = at-past-net2 .before .before .before .before .before .before .before .before .before .before in
-    at-assert-claim .assert-claim .kept .0 ∙ at-tv-eq .tv-eq .kept .0 ∙ at-past-net2 .past-net2 .kept .0 ∙ at-past-net .past-net .kept .0
+    at-assert-claim .assert-claim .kept .0 ∙ at-tv-eq .tv-eq .kept .0 ∙ at-past-net2 .past-net2 .kept .0
+    ∙ at-past-net .past-net .kept .0
 
 same-length-2 : tie.Need-same-length-2
 same-length-2 c =
-    let at-past-net2 = c .before .before .before .before .before .before .before .before .before .before .before .before .before .before in
+    let at-past-net2 =
+    c .before .before .before .before .before .before .before .before .before .before .before .before .before
+    .before in
     let at-past-net = at-past-net2 .before .before .before .before .before .before .before .before .before .before in
     at-past-net2 .past-net2 .kept .1 .0 ∙ at-past-net .past-net .kept .1 .0
 
 same-length-3 : tie.Need-same-length-3
 same-length-3 c =
-    let at-past-net2 = c .before .before .before .before .before .before .before .before .before .before .before .before .before .before in
+    let at-past-net2 =
+    c .before .before .before .before .before .before .before .before .before .before .before .before .before
+    .before in
     let at-past-net = at-past-net2 .before .before .before .before .before .before .before .before .before .before in
     at-past-net2 .past-net2 .kept .1 .1 .0 ∙ at-past-net .past-net .kept .1 .1 .0
 
@@ -42,4 +47,5 @@ returns c =
 pub join-pasts-spec : {M : Type 1} → statement M
 join-pasts-spec =
     tie.close
-    (tie.spec (λ c κs. search needs) (λ c κs. search needs) (λ c κs. search needs) (λ c κs. search needs) same-length same-length-2 same-length-3 returns)
+    (tie.spec (λ c κs. search needs) (λ c κs. search needs) (λ c κs. search needs) (λ c κs. search needs) same-length
+    same-length-2 same-length-3 returns)

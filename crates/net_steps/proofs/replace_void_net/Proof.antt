@@ -1,4 +1,5 @@
--- `net_steps::replace_void_net` meets its contract: its calls are those of the model, one after the other. Assumes nothing.
+-- `net_steps::replace_void_net` meets its contract: its calls are those of the model, one after the other. Assumes
+-- nothing.
 use borrow.Author.Needs.{needs}
 use mathlib.Core.Path.{_∙_}
 use Rattle.builder.proofs.Laws.{ran-bind}
@@ -13,17 +14,22 @@ same-length c =
     let at-tv-eq = at-assert-claim .before .before .before .before in
     let at-net = at-tv-eq .before .before .before .before .before .before .before .before in
     let at-curr-net = at-net .before .before .before .before .before .before .before .before .before .before in
-    at-assert-claim .assert-claim .kept .0 ∙ at-tv-eq .tv-eq .kept .0 ∙ at-net .net .kept .1 .0 ∙ at-curr-net .curr-net .kept .0
+    at-assert-claim .assert-claim .kept .0 ∙ at-tv-eq .tv-eq .kept .0 ∙ at-net .net .kept .1 .0
+    ∙ at-curr-net .curr-net .kept .0
 
 same-length-2 : tie.Need-same-length-2
 same-length-2 c =
-    let at-net = c .before .before .before .before .before .before .before .before .before .before .before .before .before .before in
+    let at-net =
+    c .before .before .before .before .before .before .before .before .before .before .before .before .before
+    .before in
     let at-curr-net = at-net .before .before .before .before .before .before .before .before .before .before in
     at-net .net .kept .1 .1 .0 ∙ at-curr-net .curr-net .kept .1 .0
 
 same-length-3 : tie.Need-same-length-3
 same-length-3 c =
-    let at-net = c .before .before .before .before .before .before .before .before .before .before .before .before .before .before in
+    let at-net =
+    c .before .before .before .before .before .before .before .before .before .before .before .before .before
+    .before in
     let at-curr-net = at-net .before .before .before .before .before .before .before .before .before .before in
     at-net .net .kept .1 .1 .1 .0 ∙ at-curr-net .curr-net .kept .1 .1 .0
 
@@ -42,4 +48,5 @@ returns c =
 pub replace-void-net-spec : {M : Type 1} → statement M
 replace-void-net-spec =
     tie.close
-    (tie.spec (λ c κs. search needs) (λ c κs. search needs) (λ c κs. search needs) (λ c κs. search needs) same-length same-length-2 same-length-3 returns)
+    (tie.spec (λ c κs. search needs) (λ c κs. search needs) (λ c κs. search needs) (λ c κs. search needs) same-length
+    same-length-2 same-length-3 returns)

@@ -1,5 +1,5 @@
--- `one_hot::first_match` meets its contract. Invariant: the patterns from `index` on are chosen from, and what the model
--- does below `index` completes its whole run (`MatchLeft`); each turn is one pattern. The measure is `index`.
+-- `one_hot::first_match` meets its contract. Invariant: the patterns from `index` on are chosen from, and what the
+-- model does below `index` completes its whole run (`MatchLeft`); each turn is one pattern. The measure is `index`.
 -- Assumes nothing.
 use borrow.Author.Needs.{needs}
 use mathlib.Core.Path.{_≡_, refl, _∙_}

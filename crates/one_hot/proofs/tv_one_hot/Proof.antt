@@ -2,7 +2,7 @@
 use borrow.Author.Needs.{needs}
 use Rattle.builder.proofs.Laws.{ran-as}
 use native.Mathlib.Omega.{arith}
-use Rattle.logic.specs.Table.{length-tab}
+use Rattle.logic.proofs.TableLaws.{length-tab}
 use Rattle.bits.proofs.Literals.{narrow}
 use Rattle.one_hot.proofs.Literals.{hot-x, hot-y}
 use Rattle.one_hot.proofs.tv_one_hot.Statement.{statement}
@@ -14,7 +14,8 @@ returns c =
     let at-tv-lit = c .before .before in
     let at-power-of-two = at-tv-lit .before in
     let power = at-power-of-two .power-of-two .ensures (omega (arith, low, inside)) in
-    ran-as (at-tv-lit .tv-lit .ensures _ (rw (narrow _ low) (hot-x _ _)) (rw (narrow _ low, power) (hot-y _ _)) names marks)
+    ran-as (at-tv-lit .tv-lit .ensures _ (rw (narrow _ low) (hot-x _ _)) (rw (narrow _ low, power) (hot-y _ _)) names
+    marks)
     (rw length-tab)
 
 pub tv-one-hot-spec : {M : Type 1} → statement M

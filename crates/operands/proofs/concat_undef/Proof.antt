@@ -19,9 +19,11 @@ returns c =
     let out = args .out .now in
     let words = args .words .now in
     let stored : put .put .last .0 ≡ sets out 0 (wordsIn words (args .n) (args .at) ++ (536870911 ∷ [])) =
-    rw (put .put .ensures, word .net-word .ensures, copied .copy .ensures) (topped-stored out words (args .n) (args .at)) in
+    rw (put .put .ensures, word .net-word .ensures, copied .copy .ensures)
+    (topped-stored out words (args .n) (args .at)) in
     (stored, λ room. rw stored (nets-topped out words (args .n) (args .at) room))
 
 pub concat-undef-spec : {M : Type 1} → statement M
 concat-undef-spec =
-    tie.close (tie.spec (λ c κs. search needs) (λ c κs. search needs) (λ c κs. search needs) (λ c. search needs) returns)
+    tie.close
+    (tie.spec (λ c κs. search needs) (λ c κs. search needs) (λ c κs. search needs) (λ c. search needs) returns)

@@ -1,5 +1,5 @@
--- `operands::constants` meets its contract. The invariant: the numbers are those of the constants from i on, which leave room
--- for one more. The measure is i. Assumes nothing.
+-- `operands::constants` meets its contract. The invariant: the numbers are those of the constants from i on, which
+-- leave room for one more. The measure is i. Assumes nothing.
 use mathlib.Core.Path.{_≡_, refl, sym, ap, _∙_}
 use Prim.Native.Nat.{_+_, _-_, _≤_, min}
 use native.Mathlib.Omega.{arith}
@@ -96,5 +96,6 @@ pub constants-spec : {M : Type 1} → statement M
 constants-spec =
     tie.close
     (tie.spec
-    Inv-loop μ-loop (λ c κs. search needs) loop-holds (λ c. search needs) (λ c. search needs) (λ c. search needs) (λ c κs. search needs)
+    Inv-loop μ-loop (λ c κs. search needs) loop-holds (λ c. search needs) (λ c. search needs) (λ c. search needs)
+    (λ c κs. search needs)
     mul-x (λ c κs. search needs) add-x mul-y (λ c κs. search needs) add-y (λ c. search needs) loop-again returns)

@@ -1,5 +1,5 @@
--- `operands::copy` meets its contract. The invariant: storing the rest from here gives what storing all from the start does.
--- The measure is what is left to copy. Assumes nothing.
+-- `operands::copy` meets its contract. The invariant: storing the rest from here gives what storing all from the start
+-- does. The measure is what is left to copy. Assumes nothing.
 use borrow.Author.Needs.{needs}
 use Prim.Native.Nat.{ℕ, _+_, _-_}
 use mathlib.Core.List.{List}
@@ -37,7 +37,8 @@ loop-again c =
     let entered = in-loop .before .before in
     let args = entered .before .before .args in (
       turn .inv .0 ∙
-          rest-turn (after (args .words .now) (args .from)) (turn .out) (args .to + turn .i) _ (turn .i) (in-loop .loop-test .taken) ∙
+          rest-turn (after (args .words .now) (args .from)) (turn .out) (args .to + turn .i) _ (turn .i)
+          (in-loop .loop-test .taken) ∙
           rw (call .put .ensures, read .word-at .ensures, add-assoc),
       rw (call .put .ensures) (simp length-set (turn .inv .1)),
     )
@@ -57,5 +58,6 @@ copy-spec =
     tie.close
     (tie.spec
     Inv-loop μ-loop loop-holds
-    (λ c. search needs) (λ c. search needs) (λ c κs. search needs) (λ c. search needs) (λ c. search needs) (λ c κs. search needs)
+    (λ c. search needs) (λ c. search needs) (λ c κs. search needs) (λ c. search needs) (λ c. search needs)
+    (λ c κs. search needs)
     (λ c. search needs) (λ c. search needs) loop-again same-length returns)

@@ -1,5 +1,5 @@
--- `operands::fill` meets its contract. The invariant: storing the rest from here gives what storing all from the start does.
--- The measure is what is left to store. Assumes nothing.
+-- `operands::fill` meets its contract. The invariant: storing the rest from here gives what storing all from the start
+-- does. The measure is what is left to store. Assumes nothing.
 use borrow.Author.Needs.{needs}
 use Prim.Native.Nat.{_-_}
 use mathlib.Core.Path.{_≡_, refl, sym, _∙_}
@@ -11,7 +11,8 @@ use Rattle.operands.proofs.fill.Tie as tie
 
 abbrev Inv-loop : tie.InvT-loop
 Inv-loop out₀ start end word at₀ out at =
-    (sets out₀ start (replicate (end - start) word) ≡ sets out at (replicate (end - at) word)) × (length out ≡ length out₀)
+    (sets out₀ start (replicate (end - start) word) ≡ sets out at (replicate (end - at) word))
+    × (length out ≡ length out₀)
 
 abbrev μ-loop : tie.MeasureT-loop
 μ-loop out₀ start end word at₀ out at = end - at
@@ -38,5 +39,6 @@ pub fill-spec : {M : Type 1} → statement M
 fill-spec =
     tie.close
     (tie.spec
-    Inv-loop μ-loop loop-holds (λ c. search needs) (λ c κs. search needs) (λ c. search needs) (λ c. search needs) loop-again same-length
+    Inv-loop μ-loop loop-holds (λ c. search needs) (λ c κs. search needs) (λ c. search needs) (λ c. search needs)
+    loop-again same-length
     returns)

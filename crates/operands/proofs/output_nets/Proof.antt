@@ -19,13 +19,15 @@ output s j = netWord (netOfSlot (s + j))
 
 abbrev Inv-loop : tie.InvT-loop
 Inv-loop out₀ slot width i₀ out i =
-    (sets out₀ 0 (outputWords (slot .0) width) ≡ sets out i (rest (output (slot .0)) width i)) × (length out ≡ length out₀)
+    (sets out₀ 0 (outputWords (slot .0) width) ≡ sets out i (rest (output (slot .0)) width i))
+    × (length out ≡ length out₀)
 
 abbrev μ-loop : tie.MeasureT-loop
 μ-loop out₀ slot width i₀ out i = width - i
 
 loop-holds : tie.Need-loop-holds Inv-loop μ-loop
-loop-holds c = let args = c .before .args in (ap (sets (args .out .now) 0) (rest-all (output (args .slot .0)) (args .width)), refl)
+loop-holds c = let args = c .before .args in
+    (ap (sets (args .out .now) 0) (rest-all (output (args .slot .0)) (args .width)), refl)
 
 loop-again : tie.Need-loop-again Inv-loop μ-loop
 loop-again c =
@@ -54,5 +56,6 @@ pub output-nets-spec : {M : Type 1} → statement M
 output-nets-spec =
     tie.close
     (tie.spec
-    Inv-loop μ-loop loop-holds (λ c. search needs) (λ c κs. search needs) (λ c κs. search needs) (λ c. search needs) (λ c. search needs)
+    Inv-loop μ-loop loop-holds (λ c. search needs) (λ c κs. search needs) (λ c κs. search needs) (λ c. search needs)
+    (λ c. search needs)
     loop-again same-length returns)

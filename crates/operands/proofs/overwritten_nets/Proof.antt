@@ -17,10 +17,12 @@ returns c =
     let out = args .out .now in
     let words = args .words .now in
     let stored : updated .copy2 .last .0
-    ≡ sets (sets out 0 (wordsIn words (args .n) (args .value))) (args .offset) (wordsIn words (args .u) (args .update)) =
+    ≡ sets (sets out 0 (wordsIn words (args .n) (args .value))) (args .offset) (wordsIn words (args .u) (args .update))
+    =
     rw (updated .copy2 .ensures, copied .copy .ensures) in (
       stored,
-      λ room within. rw stored (nets-overwritten out words (args .value) (args .n) (args .update) (args .u) (args .offset) room within),
+      λ room within. rw stored
+          (nets-overwritten out words (args .value) (args .n) (args .update) (args .u) (args .offset) room within),
     )
 
 pub overwritten-nets-spec : {M : Type 1} → statement M

@@ -1,4 +1,5 @@
--- `operands::shift_width` meets its contract: the larger of the two widths, in each of the three cases. Assumes nothing.
+-- `operands::shift_width` meets its contract: the larger of the two widths, in each of the three cases. Assumes
+-- nothing.
 use mathlib.Core.Path.{_≡_}
 use Prim.Native.Nat.{_+_, min}
 use native.Mathlib.Omega.{arith}
@@ -13,7 +14,8 @@ value-wider c =
     let log = c .before in
     let args = log .before .args in
     let width =
-    width-value (args .n) (args .m) (args .stride) (log .ilog2 .result) (log .ilog2 .ensures) (c .if1 .taken) (omega arith) in
+    width-value (args .n) (args .m) (args .stride) (log .ilog2 .result) (log .ilog2 .ensures) (c .if1 .taken)
+    (omega arith) in
     (width, wide (args .n) (args .m) (args .stride) _ width)
 
 amount-wider : tie.Need-returns-2
@@ -29,11 +31,13 @@ too-wide : tie.Need-returns-3
 too-wide c =
     let log = c .before .before in
     let args = log .before .args in
-    let width = width-last (args .n) (args .m) (args .stride) (log .ilog2 .result) (log .ilog2 .ensures) (c .if2 .left) in
+    let width =
+    width-last (args .n) (args .m) (args .stride) (log .ilog2 .result) (log .ilog2 .ensures) (c .if2 .left) in
     (width, wide (args .n) (args .m) (args .stride) _ width)
 
 pub shift-width-spec : {M : Type 1} → statement M
 shift-width-spec =
     tie.close
     (tie.spec
-    (λ c κs. search needs) (λ c. search needs) (λ c. search needs) (λ c. search needs) value-wider (λ c. search needs) amount-wider too-wide)
+    (λ c κs. search needs) (λ c. search needs) (λ c. search needs) (λ c. search needs) value-wider (λ c. search needs)
+    amount-wider too-wide)

@@ -24,4 +24,5 @@ pub trit-of-spec : {M : Type 1} → statement M
 trit-of-spec =
     tie.close
     (tie.spec
-    (λ c κs. search needs) (λ c κs. search needs) (λ c. search needs) (λ c. search needs) (λ c. search needs) of-constant of-slot of-none)
+    (λ c κs. search needs) (λ c κs. search needs) (λ c. search needs) (λ c. search needs) (λ c. search needs)
+    of-constant of-slot of-none)

@@ -52,7 +52,8 @@ returns-3 c =
     let counted = roomed .before in
     let start = counted .before .before .before in
     counts-are (start .args .list .now) (start .args .counts .now) (counted .counts .ensures)
-    (roomed .with-room .ensures) (known .answer3 .given .1) (c .packed-verified3 .ensures) (stored .put-counts2 .ensures)
+    (roomed .with-room .ensures) (known .answer3 .given .1) (c .packed-verified3 .ensures)
+    (stored .put-counts2 .ensures)
 
 pub counts-spec : {M : Type 1} → statement M
 counts-spec =

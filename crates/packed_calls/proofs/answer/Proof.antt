@@ -25,7 +25,12 @@ returns : tie.Need-returns
 returns c =
     let told = c .before .before in
     let wrote = told .before .before .before .before in
-    record { answers = rw (← wrote .read-answer .ensures .answers, told .f .given .1, c .packed-fault .ensures); writes = wrote .read-answer .ensures .writes }
+    record {
+      answers =
+          rw (← wrote .read-answer .ensures .answers, told .f .given .1, c .packed-fault .ensures);
+      writes =
+          wrote .read-answer .ensures .writes;
+    }
 
 same-length-2 : tie.Need-same-length-2
 same-length-2 c = search needs
@@ -33,7 +38,11 @@ same-length-2 c = search needs
 returns-2 : tie.Need-returns-2
 returns-2 c =
     let wrote = c .before .before .before .before in
-    record { answers = rw (← wrote .read-answer .ensures .answers, c .enum-told .given .1); writes = wrote .read-answer .ensures .writes }
+    record {
+      answers = rw (← wrote .read-answer .ensures .answers, c .enum-told .given .1);
+      writes =
+          wrote .read-answer .ensures .writes;
+    }
 
 same-length-3 : tie.Need-same-length-3
 same-length-3 c = search needs
@@ -41,7 +50,11 @@ same-length-3 c = search needs
 returns-3 : tie.Need-returns-3
 returns-3 c =
     let wrote = c .before .before .before .before in
-    record { answers = rw (← wrote .read-answer .ensures .answers, c .enum-told2 .given .1); writes = wrote .read-answer .ensures .writes }
+    record {
+      answers = rw (← wrote .read-answer .ensures .answers, c .enum-told2 .given .1);
+      writes =
+          wrote .read-answer .ensures .writes;
+    }
 
 pub answer-spec : {M : Type 1} → statement M
 answer-spec =

@@ -1,6 +1,6 @@
 -- `pieces::put_argument` meets its contract: a space, then the term. Assumes nothing.
 use borrow.Author.Needs.{needs}
-use Rattle.engine.specs.Emit.{wrote-then}
+use Rattle.engine.proofs.EmitLaws.{wrote-then}
 use Rattle.pieces.proofs.put_argument.Statement.{statement}
 use Rattle.pieces.proofs.put_argument.Tie as tie
 

@@ -5,7 +5,8 @@ use Prim.Native.Nat.{_-_, _≤_}
 use mathlib.Core.Path.{_≡_, refl, _∙_}
 use native.Mathlib.Omega.{arith}
 use lib.ListN.{length}
-use Rattle.engine.specs.Emit.{Wrote, wrote-none, wrote-then}
+use Rattle.engine.specs.Emit.{Wrote}
+use Rattle.engine.proofs.EmitLaws.{wrote-none, wrote-then}
 use Rattle.pieces.specs.Text.{spaced}
 use Rattle.pieces.specs.Arguments.{argumentTexts}
 use Rattle.pieces.proofs.Laws.{spaced-none, spaced-more}
@@ -55,7 +56,8 @@ same-length c = c .before .loop .inv .1
 
 returns : tie.Need-returns Inv-loop μ-loop
 returns c =
-    let all : c .before .loop .i ≡ c .before .before .before .before .before .args .n = omega (arith, c .before .loop .inv .0) in
+    let all : c .before .loop .i ≡ c .before .before .before .before .before .args .n =
+    omega (arith, c .before .loop .inv .0) in
     rw all at (c .before .loop .inv .2)
 
 pub put-arguments-spec : {M : Type 1} → statement M

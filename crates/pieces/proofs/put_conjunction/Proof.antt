@@ -8,7 +8,8 @@ returns : tie.Need-returns
 returns c =
     let written = c .before .before in
     let single = written .before .before .before in
-    rw (conjunction-one _ _ (single .if1 .taken)) (rw (written .before .before .argument-at .ensures) at (written .put-reference .ensures))
+    rw (conjunction-one _ _ (single .if1 .taken))
+    (rw (written .before .before .argument-at .ensures) at (written .put-reference .ensures))
 
 returns-2 : tie.Need-returns-2
 returns-2 c =

@@ -1,6 +1,6 @@
 -- `pieces::put_spelling` meets its contract: the pieces in their order. Assumes nothing.
 use borrow.Author.Needs.{needs}
-use Rattle.engine.specs.Emit.{wrote-then}
+use Rattle.engine.proofs.EmitLaws.{wrote-then}
 use Rattle.pieces.proofs.put_spelling.Statement.{statement}
 use Rattle.pieces.proofs.put_spelling.Tie as tie
 

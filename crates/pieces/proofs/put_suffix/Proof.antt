@@ -1,7 +1,7 @@
 -- `pieces::put_suffix` meets its contract: any number but 1 and 2 is no suffix's. Assumes nothing.
 use borrow.Author.Needs.{needs}
 use Rattle.pieces.proofs.Laws.{suffix-none}
-use Rattle.engine.specs.Emit.{wrote-none}
+use Rattle.engine.proofs.EmitLaws.{wrote-none}
 use native.Mathlib.Omega.{arith}
 use Rattle.pieces.proofs.put_suffix.Statement.{statement}
 use Rattle.pieces.proofs.put_suffix.Tie as tie

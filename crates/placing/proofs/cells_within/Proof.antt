@@ -1,16 +1,17 @@
--- `placing::cells_within` meets its contract. The invariant is `Going`: reading and storing on from here gives what it gives from the start. The measure
--- is the slots that are left. Assumes nothing.
+-- `placing::cells_within` meets its contract. The invariant is `Going`: reading and storing on from here gives what it
+-- gives from the start. The measure is the slots that are left. Assumes nothing.
 use borrow.Author.Needs.{needs}
 use Prim.Native.Nat.{_-_}
 use mathlib.Core.Path.{sym, _∙_}
 use native.Mathlib.Omega.{arith}
-use Rattle.cell_reader.specs.Accepted.{record-standing}
-use Rattle.placing.specs.Laws.{Going, going-start, going-turn, going-fault, going-done, placed-read}
+use Rattle.cell_reader.proofs.AcceptedLaws.{record-standing}
+use Rattle.placing.proofs.Laws.{Going, going-start, going-turn, going-fault, going-done, placed-read}
 use Rattle.placing.proofs.cells_within.Statement.{statement}
 use Rattle.placing.proofs.cells_within.Tie as tie
 
 abbrev Inv-loop : tie.InvT-loop
-Inv-loop list base total table₀ at₀ slot₀ count₀ table at slot count = Going list base total table₀ table at (slot .0) count
+Inv-loop list base total table₀ at₀ slot₀ count₀ table at slot count = Going list base total table₀ table
+    at (slot .0) count
 
 abbrev μ-loop : tie.MeasureT-loop
 μ-loop list base total table₀ at₀ slot₀ count₀ table at slot count = total - slot .0
@@ -28,7 +29,8 @@ returns : tie.Need-returns Inv-loop μ-loop
 returns c =
     let call = c .before .before .before in
     let in-loop = call .before in
-    going-fault _ _ _ (in-loop .before .before .loop .inv) (in-loop .if1 .taken) (sym (call .placed-at .ensures) ∙ c .before .f .given .1)
+    going-fault _ _ _ (in-loop .before .before .loop .inv) (in-loop .if1 .taken)
+    (sym (call .placed-at .ensures) ∙ c .before .f .given .1)
 
 mark-word-requires : tie.Need-mark-word-requires Inv-loop μ-loop
 mark-word-requires c κs =

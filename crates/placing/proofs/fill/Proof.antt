@@ -1,17 +1,18 @@
--- `placing::fill` meets its contract. The invariant: storing the rest from here gives what storing all from the start does. The measure is what
--- is left to store. Assumes nothing.
+-- `placing::fill` meets its contract. The invariant: storing the rest from here gives what storing all from the start
+-- does. The measure is what is left to store. Assumes nothing.
 use borrow.Author.Needs.{needs}
 use Prim.Native.Nat.{_-_}
 use mathlib.Core.Path.{_≡_, refl, sym, _∙_}
 use lib.ListN.{length, replicate, length-set}
 use lib.Seq.{sets}
-use Rattle.placing.specs.Laws.{fill-none, fill-turn}
+use Rattle.placing.proofs.Laws.{fill-none, fill-turn}
 use Rattle.placing.proofs.fill.Statement.{statement}
 use Rattle.placing.proofs.fill.Tie as tie
 
 abbrev Inv-loop : tie.InvT-loop
 Inv-loop table₀ start end word at₀ table at =
-    (sets table₀ start (replicate (end - start) word) ≡ sets table at (replicate (end - at) word)) × (length table ≡ length table₀)
+    (sets table₀ start (replicate (end - start) word) ≡ sets table at (replicate (end - at) word))
+    × (length table ≡ length table₀)
 
 abbrev μ-loop : tie.MeasureT-loop
 μ-loop table₀ start end word at₀ table at = end - at

@@ -1,4 +1,5 @@
--- `placing::limit_of` meets its contract: each answer rewrites the definition by the tests and calls that lead to it. Assumes nothing.
+-- `placing::limit_of` meets its contract: each answer rewrites the definition by the tests and calls that lead to it.
+-- Assumes nothing.
 use borrow.Author.Tests.{lt-ltb, le-ltb}
 use borrow.Author.Needs.{needs}
 use Rattle.placing.proofs.limit_of.Statement.{statement}

@@ -1,4 +1,5 @@
--- `placing::mark_word` meets its contract: the sums stay below 2 ^ 32 by what it requires, and are the definition's. Assumes nothing.
+-- `placing::mark_word` meets its contract: the sums stay below 2 ^ 32 by what it requires, and are the definition's.
+-- Assumes nothing.
 use native.Mathlib.Omega.{arith}
 use borrow.Author.Tests.{lt-ltb, le-ltb}
 use borrow.Author.Needs.{needs}

@@ -1,7 +1,8 @@
--- `placing::placed_at` meets its contract: it follows the definition; the slots of a cell that was read are at most 64. Assumes nothing.
+-- `placing::placed_at` meets its contract: it follows the definition; the slots of a cell that was read are at most 64.
+-- Assumes nothing.
 use native.Mathlib.Omega.{arith}
 use mathlib.Core.Path.{sym, _∙_}
-use Rattle.cell_reader.specs.Accepted.{record-read}
+use Rattle.cell_reader.proofs.AcceptedLaws.{record-read}
 use borrow.Author.Tests.{le-leb, lt-leb}
 use Rattle.placing.specs.Cells.{placedAt}
 use borrow.Author.Needs.{needs}

@@ -1,5 +1,5 @@
--- `program::load` meets its contract. The loop's invariant: the first i words are those of the input. The measure is the number of words
--- left. Assumes nothing.
+-- `program::load` meets its contract. The loop's invariant: the first i words are those of the input. The measure is
+-- the number of words left. Assumes nothing.
 use borrow.Author.Needs.{needs}
 use Prim.Native.Nat.{_≤_, _-_, _/_, _<_}
 use mathlib.Core.Path.{_≡_, refl, _∙_}
@@ -11,13 +11,15 @@ use Rattle.program.proofs.load.Statement.{statement}
 use Rattle.program.proofs.load.Tie as tie
 
 abbrev Inv-loop : tie.InvT-loop
-Inv-loop input words₀ whole i₀ words i = (i ≤ whole) × (length words ≡ length words₀) × (take i words ≡ firstWords input i)
+Inv-loop input words₀ whole i₀ words i = (i ≤ whole) × (length words ≡ length words₀)
+    × (take i words ≡ firstWords input i)
 
 abbrev μ-loop : tie.MeasureT-loop
 μ-loop input words₀ whole i₀ words i = whole - i
 
 loop-holds : tie.Need-loop-holds Inv-loop μ-loop
-loop-holds c = let start = c .before .before in (omega arith, refl, words-start (start .args .input .now) (start .args .words .now))
+loop-holds c = let start = c .before .before in
+    (omega arith, refl, words-start (start .args .input .now) (start .args .words .now))
 
 word-requires : tie.Need-word-requires Inv-loop μ-loop
 word-requires c κs = search needs
@@ -29,7 +31,8 @@ loop-again c =
     let looped = word .before .before .before in
     let start = looped .before .before .before in
     let inv = looped .loop .inv in
-    let inside : looped .loop .i < length (looped .loop .words) = omega (arith, start .pre, inv .1, word .before .before .loop-test .taken) in (
+    let inside : looped .loop .i < length (looped .loop .words) =
+    omega (arith, start .pre, inv .1, word .before .before .loop-test .taken) in (
       omega arith,
       stored .put .kept .0 ∙ inv .1,
       rw (stored .put .ensures, word .word .ensures) (words-turn _ _ _ inside (inv .2)),
@@ -39,7 +42,8 @@ returns : tie.Need-returns Inv-loop μ-loop
 returns c =
     let looped = c .before in
     let inv = looped .loop .inv in
-    let all : looped .loop .i ≡ length (looped .before .before .before .args .input .now) / 4 = omega (arith, inv .0, c .loop-test .left) in
+    let all : looped .loop .i ≡ length (looped .before .before .before .args .input .now) / 4 =
+    omega (arith, inv .0, c .loop-test .left) in
     rw all at (inv .2)
 
 pub load-spec : {M : Type 1} → statement M

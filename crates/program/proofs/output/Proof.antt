@@ -26,7 +26,8 @@ whole c =
     let written = c .before .before in
     let loaded = written .before .before .before .before in
     let tested = loaded .before .before in
-    rw (whole-words _ _ (tested .before .if1 .left) (tested .if2 .left), ← loaded .load .ensures) (written .put-list .ensures)
+    rw (whole-words _ _ (tested .before .if1 .left) (tested .if2 .left), ← loaded .load .ensures)
+    (written .put-list .ensures)
 
 pub output-spec : {M : Type 1} → statement M
 output-spec =

@@ -1,4 +1,5 @@
--- `program::put_list` meets its contract: what `verify` leaves in the two slices is handed to the writer. Assumes nothing.
+-- `program::put_list` meets its contract: what `verify` leaves in the two slices is handed to the writer. Assumes
+-- nothing.
 use borrow.Author.Needs.{needs}
 use Prim.Native.Nat.{ℕ}
 use lib.ListN.{length-replicate}
@@ -10,14 +11,16 @@ nothing-requires : tie.Need-put-script-requires
 nothing-requires c κs =
     let told = c .before .before .before .before in
     let left = told .before .before .before .before in
-    handed (left .verify .ensures) (length-replicate {A = ℕ} 16384 0) (length-replicate {A = ℕ} 4096 0) _ (nothing-says (told .c .given .1)) _
+    handed (left .verify .ensures) (length-replicate {A = ℕ} 16384 0) (length-replicate {A = ℕ} 4096 0) _
+    (nothing-says (told .c .given .1)) _
     (left .before .before .before .slots-of .ensures)
 
 asked-requires : tie.Need-put-script-requires-2
 asked-requires c κs =
     let told = c .before .before .before .before in
     let left = told .before .before .before .before in
-    handed (left .verify .ensures) (length-replicate {A = ℕ} 16384 0) (length-replicate {A = ℕ} 4096 0) _ (asked-says (told .c2 .given .1)) _
+    handed (left .verify .ensures) (length-replicate {A = ℕ} 16384 0) (length-replicate {A = ℕ} 4096 0) _
+    (asked-says (told .c2 .given .1)) _
     (left .before .before .before .slots-of .ensures)
 
 refuses : tie.Need-returns
@@ -25,7 +28,8 @@ refuses c =
     let line = c .before .before in
     let told = line .before .before .before in
     let left = told .before .before .before .before in
-    rw (list-refused (left .verify .ensures) (length-replicate {A = ℕ} 16384 0) (length-replicate {A = ℕ} 4096 0) (told .f .given .1))
+    rw (list-refused (left .verify .ensures) (length-replicate {A = ℕ} 16384 0) (length-replicate {A = ℕ} 4096 0)
+    (told .f .given .1))
     (line .put-refusal .ensures)
 
 tells-nothing : tie.Need-returns-2
@@ -33,7 +37,8 @@ tells-nothing c =
     let text = c .before .before in
     let told = text .before .before .before .before .before in
     let left = told .before .before .before .before in
-    rw (list-told (left .verify .ensures) (length-replicate {A = ℕ} 16384 0) (length-replicate {A = ℕ} 4096 0) _ (nothing-says (told .c .given .1)) _
+    rw (list-told (left .verify .ensures) (length-replicate {A = ℕ} 16384 0) (length-replicate {A = ℕ} 4096 0) _
+    (nothing-says (told .c .given .1)) _
     (left .before .before .before .slots-of .ensures)) (text .put-script .ensures)
 
 asks : tie.Need-returns-3
@@ -41,7 +46,8 @@ asks c =
     let text = c .before .before in
     let told = text .before .before .before .before .before in
     let left = told .before .before .before .before in
-    rw (list-told (left .verify .ensures) (length-replicate {A = ℕ} 16384 0) (length-replicate {A = ℕ} 4096 0) _ (asked-says (told .c2 .given .1)) _
+    rw (list-told (left .verify .ensures) (length-replicate {A = ℕ} 16384 0) (length-replicate {A = ℕ} 4096 0) _
+    (asked-says (told .c2 .given .1)) _
     (left .before .before .before .slots-of .ensures)) (text .put-script2 .ensures)
 
 pub put-list-spec : {M : Type 1} → statement M

@@ -1,6 +1,6 @@
 -- `program::put_refusal` meets its contract: the pieces of the line in their order. Assumes nothing.
 use borrow.Author.Needs.{needs}
-use Rattle.engine.specs.Emit.{wrote-then}
+use Rattle.engine.proofs.EmitLaws.{wrote-then}
 use Rattle.program.proofs.put_refusal.Statement.{statement}
 use Rattle.program.proofs.put_refusal.Tie as tie
 

@@ -1,4 +1,5 @@
--- `program::put_script` meets its contract: the writer's script fits, and after its refusal the text is as it was. Assumes nothing.
+-- `program::put_script` meets its contract: the writer's script fits, and after its refusal the text is as it was.
+-- Assumes nothing.
 use borrow.Author.Needs.{needs}
 use mathlib.Core.Path.{sym}
 use lib.Seq.{length-take-le}

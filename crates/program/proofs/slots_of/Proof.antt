@@ -3,7 +3,7 @@ use borrow.Author.Needs.{needs}
 use mathlib.Core.Path.{sym, _∙_}
 use native.Mathlib.Omega.{arith}
 use Rattle.design_list.specs.Read.{read}
-use Rattle.design_list.specs.Table.{table-low}
+use Rattle.design_list.proofs.TableLaws.{table-low}
 use Rattle.program.proofs.Laws.{slots-refused, slots-accepted}
 use Rattle.program.proofs.slots_of.Statement.{statement}
 use Rattle.program.proofs.slots_of.Tie as tie
@@ -17,7 +17,8 @@ returns : tie.Need-returns
 returns c =
     let called = c .before .before in
     let start = called .before .before in
-    sym (slots-refused (read (start .args .list .now)) (sym (called .read-design .ensures .same) ∙ c .enum-told .given .1))
+    sym (slots-refused (read (start .args .list .now))
+    (sym (called .read-design .ensures .same) ∙ c .enum-told .given .1))
 
 returns-2 : tie.Need-returns-2
 returns-2 c =

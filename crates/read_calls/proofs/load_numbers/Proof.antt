@@ -1,4 +1,5 @@
--- `read_calls::load_numbers` is safe and ends: the numbers keep their count, and those left to read fall. Assumes nothing.
+-- `read_calls::load_numbers` is safe and ends: the numbers keep their count, and those left to read fall. Assumes
+-- nothing.
 use Prim.Native.Nat.{_-_}
 use mathlib.Core.Path.{_≡_, refl}
 use native.Mathlib.Omega.{arith}

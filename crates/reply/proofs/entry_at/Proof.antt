@@ -24,7 +24,8 @@ readback-number-requires c κs = search needs
 
 returns-3 : tie.Need-returns-3
 unfolding entryOf
-returns-3 c = rw (ne-eqb _ _ (c .before .before .if1 .left), ne-eqb _ _ (c .before .if2 .left), c .readback-number .ensures)
+returns-3 c =
+    rw (ne-eqb _ _ (c .before .before .if1 .left), ne-eqb _ _ (c .before .if2 .left), c .readback-number .ensures)
 
 pub entry-at-spec : {M : Type 1} → statement M
 entry-at-spec =

@@ -22,12 +22,20 @@ returns c = rw (found-end (c .before .before .next-token .ensures) (c .enum-told
 returns-2 : tie.Need-returns-2
 returns-2 c =
     let token = c .before .before .before in
-    rw (found-token (token .before .before .next-token .ensures) (token .start .given .1), ← c .before .token-is .ensures, c .if1 .taken)
+    rw (
+      found-token (token .before .before .next-token .ensures) (token .start .given .1),
+      ← c .before .token-is .ensures,
+      c .if1 .taken,
+    )
 
 returns-3 : tie.Need-returns-3
 returns-3 c =
     let token = c .before .before .before in
-    rw (found-token (token .before .before .next-token .ensures) (token .start .given .1), ← c .before .token-is .ensures, c .if1 .left)
+    rw (
+      found-token (token .before .before .next-token .ensures) (token .start .given .1),
+      ← c .before .token-is .ensures,
+      c .if1 .left,
+    )
 
 pub expect-word-spec : {M : Type 1} → statement M
 expect-word-spec =

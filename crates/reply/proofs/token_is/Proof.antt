@@ -7,13 +7,14 @@ use native.Mathlib.Omega.{arith}
 use lib.ListN.{length, drop}
 use lib.Seq.{slice}
 use Rattle.reply.specs.Reply.{same}
-use Rattle.reply.specs.Same.{same-length, same-done, same-stops, same-goes}
+use Rattle.reply.proofs.Same.{same-length, same-done, same-stops, same-goes}
 use native.Mathlib.Nat.{add-zero}
 use Rattle.reply.proofs.token_is.Statement.{statement}
 use Rattle.reply.proofs.token_is.Tie as tie
 
 abbrev Inv-loop : tie.InvT-loop
-Inv-loop text start end word i₀ i = (i ≤ length word) × (same (slice start end text) word ≡ same (slice (start + i) end text) (drop i word))
+Inv-loop text start end word i₀ i = (i ≤ length word)
+    × (same (slice start end text) word ≡ same (slice (start + i) end text) (drop i word))
 
 abbrev μ-loop : tie.MeasureT-loop
 μ-loop text start end word i₀ i = length word - i
@@ -41,7 +42,8 @@ returns-2 c =
     let looped = c .before .before .before .before in
     let start = looped .before .before in
     let inside : start .args .start + looped .loop .i < start .args .end = omega arith in
-    sym (looped .loop .inv .1 ∙ same-stops _ _ _ _ (start .pre .1) _ inside (c .before .before .before .loop-test .taken) (c .if2 .taken))
+    sym (looped .loop .inv .1
+    ∙ same-stops _ _ _ _ (start .pre .1) _ inside (c .before .before .before .loop-test .taken) (c .if2 .taken))
 
 add-i : tie.Need-add-i Inv-loop μ-loop
 add-i c = search needs
@@ -55,7 +57,8 @@ loop-again c =
     let start = looped .before .before in
     let inside : start .args .start + looped .loop .i < start .args .end = omega arith in (
       omega arith,
-      looped .loop .inv .1 ∙ same-goes _ _ _ _ (start .pre .1) _ inside (c .before .before .before .loop-test .taken) (c .if2 .left),
+      looped .loop .inv .1
+          ∙ same-goes _ _ _ _ (start .pre .1) _ inside (c .before .before .before .loop-test .taken) (c .if2 .left),
     )
 
 returns-3 : tie.Need-returns-3 Inv-loop μ-loop

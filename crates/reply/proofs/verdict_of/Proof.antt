@@ -2,7 +2,7 @@
 use borrow.Author.Needs.{needs}
 use Rattle.tokens.proofs.Laws.{found-end, found-token, found-inside}
 use Rattle.reply.specs.Reply.{reply}
-use Rattle.reply.specs.Step.{tokens-start}
+use Rattle.reply.proofs.StepLaws.{tokens-start}
 use Rattle.reply.proofs.verdict_of.Statement.{statement}
 use Rattle.reply.proofs.verdict_of.Tie as tie
 

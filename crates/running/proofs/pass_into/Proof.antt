@@ -18,64 +18,10 @@ use ghost.Atoms.{Atoms, sem}
 use contract.Monad.{Fun, fact}
 use contract.Lifetimes.{Lfts, Shares, toks}
 use contract.Running.{givenOf, tables, tablesOf}
-use types.Kit.{
-  Given,
-  ‵,
-  raw,
-  some,
-  later,
-  ⋆,
-  _⊛_,
-  _$_,
-  _∵_,
-  !,
-  qed,
-  by,
-  move,
-  use1,
-  use2,
-  drop,
-  split,
-  join,
-  pick,
-  rewrite,
-  fsplit,
-  fsplit3,
-  fjoin,
-  fjoin3,
-  feqI,
-  suffices,
-  frame,
-  await,
-  done,
-}
-use types.Run.{
-  look,
-  look-raw,
-  store-raw,
-  init,
-  forget,
-  stop,
-  hop,
-  fld,
-  from,
-  load,
-  addr,
-  of-opd,
-  and-then,
-  no-more,
-  assigns,
-  land,
-  returns,
-  enter,
-  alloc1,
-  alloc0,
-  params1,
-  pass1,
-  pass0,
-  free1,
-  free0,
-}
+use types.Kit.{Given, ‵, raw, some, later, ⋆, _⊛_, _$_, _∵_, !, qed, by, move, use1, use2, drop, split, join, pick}
+use types.Kit.{rewrite, fsplit, fsplit3, fjoin, fjoin3, feqI, suffices, frame, await, done}
+use types.Run.{look, look-raw, store-raw, init, forget, stop, hop, fld, from, load, addr, of-opd, and-then, no-more}
+use types.Run.{assigns, land, returns, enter, alloc1, alloc0, params1, pass1, pass0, free1, free0}
 use types.Part.{agg, whole, sub, look-in}
 use types.SemTy.{Body}
 use sound.WpLaws.{FmC, fmOf, WpFn-mono}

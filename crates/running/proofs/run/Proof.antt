@@ -19,64 +19,11 @@ use ghost.Atoms.{Atoms}
 use contract.Monad.{Fun, fact}
 use contract.Lifetimes.{Lfts, Shares, toks}
 use contract.Running.{givenOf, tables, tablesOf}
-use types.Kit.{
-  Given,
-  ‵,
-  raw,
-  some,
-  later,
-  given,
-  learn,
-  ⋆,
-  _⊛_,
-  _$_,
-  _∵_,
-  !,
-  qed,
-  by,
-  move,
-  keep,
-  use1,
-  use2,
-  use3,
-  split,
-  join,
-  pick,
-  rewrite,
-  fsplit,
-  fjoin,
-  suffices,
-  frame,
-  await,
-  done,
-}
+use types.Kit.{Given, ‵, raw, some, later, given, learn, ⋆, _⊛_, _$_, _∵_, !, qed, by, move, keep, use1, use2, use3}
+use types.Kit.{split, join, pick, rewrite, fsplit, fjoin, suffices, frame, await, done}
 use types.Tokens.{lft-new, lft-end}
-use types.Run.{
-  look,
-  init,
-  forget,
-  stop,
-  hop,
-  fld,
-  from,
-  load,
-  lit,
-  addr,
-  of-opd,
-  and-then,
-  no-more,
-  assigns,
-  land,
-  returns,
-  enter,
-  alloc1,
-  alloc0,
-  params1,
-  pass1,
-  pass0,
-  free1,
-  free0,
-}
+use types.Run.{look, init, forget, stop, hop, fld, from, load, lit, addr, of-opd, and-then, no-more, assigns, land}
+use types.Run.{returns, enter, alloc1, alloc0, params1, pass1, pass0, free1, free0}
 use types.Part.{agg, whole, sub, look-in}
 use types.SemTy.{Body}
 use sound.WpLaws.{FmC, fmOf, WpFn-mono}

@@ -1,6 +1,6 @@
 -- `script::put_body` meets its contract: each way of writing a term has its own function. Assumes nothing.
 use borrow.Author.Needs.{needs}
-use Rattle.script.specs.Record.{body-kind}
+use Rattle.script.proofs.RecordLaws.{body-kind}
 use Rattle.script.proofs.put_body.Statement.{statement}
 use Rattle.script.proofs.put_body.Tie as tie
 

@@ -1,6 +1,6 @@
 -- `script::put_literal` meets its contract: the record's number and width. Assumes nothing.
 use borrow.Author.Needs.{needs}
-use Rattle.call_list.specs.Literal.{four-digits}
+use Rattle.call_list.proofs.LiteralLaws.{four-digits}
 use Rattle.script.proofs.put_literal.Statement.{statement}
 use Rattle.script.proofs.put_literal.Tie as tie
 

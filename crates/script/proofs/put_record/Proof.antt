@@ -1,6 +1,6 @@
 -- `script::put_record` meets its contract: each line has its own function. Assumes nothing.
 use borrow.Author.Needs.{needs}
-use Rattle.script.specs.Record.{line-kind, line-declared, line-asserted, line-checked, line-defined}
+use Rattle.script.proofs.RecordLaws.{line-kind, line-declared, line-asserted, line-checked, line-defined}
 use Rattle.script.proofs.put_record.Statement.{statement}
 use Rattle.script.proofs.put_record.Tie as tie
 

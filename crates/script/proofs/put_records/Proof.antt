@@ -8,10 +8,14 @@ use native.Mathlib.Omega.{arith}
 use lib.ListN.{length}
 use Rattle.engine.specs.Encode.{nextAt}
 use Rattle.engine.specs.Emit.{counted}
-use Rattle.call_list.specs.Records.{firstCalls, madeAt, made-low}
-use Rattle.engine.specs.Emit.{Wrote, wrote-none, wrote-then}
+use Rattle.call_list.specs.Records.{firstCalls, madeAt}
+use Rattle.call_list.proofs.RecordsLaws.{made-low}
+use Rattle.engine.specs.Emit.{Wrote}
+use Rattle.engine.proofs.EmitLaws.{wrote-none, wrote-then}
 use Rattle.script.specs.Text.{lines}
-use Rattle.script.specs.Walk.{HasTables, Walked, walked-start, walked-next, walked-writable, walked-line, walked-end, lines-start}
+use Rattle.script.specs.Walk.{HasTables}
+use Rattle.script.proofs.WalkLaws.{Walked, walked-start, walked-next, walked-writable, walked-line, walked-end}
+use Rattle.script.proofs.WalkLaws.{lines-start}
 use Rattle.script.proofs.put_records.Statement.{statement}
 use Rattle.script.proofs.put_records.Tie as tie
 
@@ -66,13 +70,15 @@ loop-again c =
     let inside = turn .loop-test .taken in
     let w = start .args .calls .now in
     let one = made-low w (looped .loop .head) in
-    let many : counted (looped .loop .terms + madeAt w (looped .loop .head)) ≡ looped .loop .terms + madeAt w (looped .loop .head) =
+    let many : counted (looped .loop .terms + madeAt w (looped .loop .head))
+    ≡ looped .loop .terms + madeAt w (looped .loop .head) =
     omega (arith, inv .2, inv .3 .within) in
     let next : counted (nextAt w (looped .loop .head)) ≡ nextAt w (looped .loop .head) = omega (arith, inside) in (
       inv .0,
       written .put-record .kept .0 ∙ inv .1,
       omega (arith, after .terms-after .ensures, inv .2),
-      rw (c .next-record .ensures, after .terms-after .ensures, many, next) (walked-next (inv .3) inside (inv .0 .tabled)),
+      rw (c .next-record .ensures, after .terms-after .ensures, many, next)
+          (walked-next (inv .3) inside (inv .0 .tabled)),
       rw (walked-line (inv .3) inside) (wrote-then (inv .4) (written .put-record .ensures) (start .good .0 .0)),
     )
 

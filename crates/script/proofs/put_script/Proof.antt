@@ -1,6 +1,6 @@
 -- `script::put_script` meets its contract: the header, the lines and the ending. Assumes nothing.
 use mathlib.Core.Path.{_∙_}
-use Rattle.engine.specs.Emit.{wrote-then}
+use Rattle.engine.proofs.EmitLaws.{wrote-then}
 use Rattle.script.specs.Text.{script}
 use borrow.Author.Needs.{needs}
 use Rattle.script.proofs.put_script.Statement.{statement}

@@ -1,10 +1,12 @@
--- `script::write_fitting` meets its contract: the room is what a dry run counts; only then the text is written. Assumes nothing.
+-- `script::write_fitting` meets its contract: the room is what a dry run counts; only then the text is written. Assumes
+-- nothing.
 use borrow.Author.Needs.{needs}
 use Prim.Native.Nat.{_≤_}
 use mathlib.Core.Path.{refl, sym, _∙_}
 use native.Mathlib.Omega.{arith}
 use lib.ListN.{length}
-use Rattle.script.specs.Written.{scriptOf, room-short, room-enough, whole-text}
+use Rattle.script.specs.Written.{scriptOf}
+use Rattle.script.proofs.WrittenLaws.{room-short, room-enough, whole-text}
 use Rattle.script.proofs.write_fitting.Statement.{statement}
 use Rattle.script.proofs.write_fitting.Tie as tie
 

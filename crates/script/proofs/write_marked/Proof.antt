@@ -3,7 +3,7 @@ use borrow.Author.Needs.{needs}
 use mathlib.Core.Path.{refl, sym, _∙_}
 use Rattle.engine.specs.Encode.{decode}
 use Rattle.asked.proofs.Marks.{bad-is}
-use Rattle.script.specs.Written.{marked-bad, marked-fine}
+use Rattle.script.proofs.WrittenLaws.{marked-bad, marked-fine}
 use Rattle.script.proofs.write_marked.Statement.{statement}
 use Rattle.script.proofs.write_marked.Tie as tie
 
@@ -26,7 +26,9 @@ returns c =
     let known = marks .before .before .before in
     let opened = known .before .before .before in
     let start = opened .before in
-    let same = bad-is (start .args .names .now) (decode (start .args .calls .now)) (start .pre .1) 0 (start .args .recorded .now) in
+    let same =
+    bad-is (start .args .names .now) (decode (start .args .calls .now)) (start .pre .1) 0
+    (start .args .recorded .now) in
     let bad = sym same ∙ sym (marks .bad-mark .ensures) ∙ told .slot .given .1 in
     record { answers = sym (marked-bad _ _ _ bad); writes = refl }
 
@@ -41,7 +43,9 @@ returns-2 c =
     let known = marks .before .before .before in
     let opened = known .before .before .before in
     let start = opened .before in
-    let same = bad-is (start .args .names .now) (decode (start .args .calls .now)) (start .pre .1) 0 (start .args .recorded .now) in
+    let same =
+    bad-is (start .args .names .now) (decode (start .args .calls .now)) (start .pre .1) 0
+    (start .args .recorded .now) in
     let fine = sym same ∙ sym (marks .bad-mark .ensures) ∙ told .enum-told .given .1 in
     record {
       answers = wrote .write-fitting .ensures .answers ∙ sym (marked-fine _ _ _ fine);

@@ -1,8 +1,8 @@
--- `script::write_script_with` meets its contract: the list is checked first; a well-formed one is written with the check's tables.
--- Assumes nothing.
+-- `script::write_script_with` meets its contract: the list is checked first; a well-formed one is written with the
+-- check's tables. Assumes nothing.
 use borrow.Author.Needs.{needs}
 use mathlib.Core.Path.{refl, sym, _∙_}
-use Rattle.script.specs.Written.{has-tables, written-formed, written-malformed}
+use Rattle.script.proofs.WrittenLaws.{has-tables, written-formed, written-malformed}
 use Rattle.script.proofs.write_script_with.Statement.{statement}
 use Rattle.script.proofs.write_script_with.Tie as tie
 

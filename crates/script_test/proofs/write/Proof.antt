@@ -33,7 +33,8 @@ slice-aggregate-print-script c =
     let made = written .before .before .before in
     let start = made .before .before .before in
     let whole : length (made .large-buffer .result) ≡ 65536 = search needs in
-    sym (length-front (made .large-buffer .result) (written .write-script .last .1 .1 .0) (start .args .room) (written .write-script .kept .1 .1 .0) ∙ whole)
+    sym (length-front (made .large-buffer .result) (written .write-script .last .1 .1 .0) (start .args .room)
+    (written .write-script .kept .1 .1 .0) ∙ whole)
 
 print-script-requires : tie.Need-print-script-requires
 print-script-requires c κs = search needs

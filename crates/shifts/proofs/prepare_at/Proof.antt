@@ -17,13 +17,17 @@ same-length c =
 
 same-length-2 : tie.Need-same-length-2
 same-length-2 c =
-    let at-value2 = c .before .before .before .before .before .before .before .before .before .before .before .before .before .before in
+    let at-value2 =
+    c .before .before .before .before .before .before .before .before .before .before .before .before .before
+    .before in
     let at-value = at-value2 .before .before .before .before .before .before .before .before .before .before in
     at-value2 .value2 .kept .1 .1 .1 .1 .1 .0 ∙ at-value .value .kept .1 .1 .1 .1 .1 .0
 
 same-length-3 : tie.Need-same-length-3
 same-length-3 c =
-    let at-value2 = c .before .before .before .before .before .before .before .before .before .before .before .before .before .before in
+    let at-value2 =
+    c .before .before .before .before .before .before .before .before .before .before .before .before .before
+    .before in
     let at-value = at-value2 .before .before .before .before .before .before .before .before .before .before in
     at-value2 .value2 .kept .1 .1 .1 .1 .1 .1 .0 ∙ at-value .value .kept .1 .1 .1 .1 .1 .1 .0
 
@@ -34,7 +38,8 @@ returns c =
     let at-value2 = at-amount-times .before .before .before .before .before .before .before .before in
     let at-value = at-value2 .before .before .before .before .before .before .before .before .before .before in (
       λ low. ran-bind _ (at-value .value .ensures low)
-          (ran-bind _ (at-value2 .value2 .ensures low) (ran-assoc _ _ _ (ran-ret _ (at-amount-times .amount-times .ensures low _ _ _)))),
+          (ran-bind _ (at-value2 .value2 .ensures low)
+          (ran-assoc _ _ _ (ran-ret _ (at-amount-times .amount-times .ensures low _ _ _)))),
       refl,
     )
 

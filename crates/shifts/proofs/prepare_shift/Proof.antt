@@ -29,7 +29,8 @@ returns c =
           let value = at-extended-nets .extended-nets .ensures .1 (wide .value) (wide .narrow) in
           let amount = at-extended-nets2 .extended-nets2 .ensures .1 (wide .amount) (wide .narrow) in
           rw (← number, ← number-2, ← at-number-at3 .number-at3 .ensures)
-          (ran-prepared _ (args .words .now) (args .n) (args .at) (args .fields .now) m _ stride (args .signed) width (wide .exact)
+          (ran-prepared _ (args .words .now) (args .n) (args .at) (args .fields .now) m _ stride (args .signed) width
+          (wide .exact)
           (rw (value, amount) at (at-prepare-at .prepare-at .ensures .0 (wide .narrow)))),
       λ small few.
           let wide : Wide (args .n) m stride width =

@@ -24,7 +24,8 @@ returns c =
     let small : n ≤ 64 = omega (arith, number, low) in
     let narrow = at-prepare-shift .prepare-shift .ensures .1 small few in
     rw (← number)
-    (ran-bind _ (rw (← number) at (at-prepare-shift .prepare-shift .ensures .0 small few)) (at-tv-shift .tv-shift .ensures narrow _ _))
+    (ran-bind _ (rw (← number) at (at-prepare-shift .prepare-shift .ensures .0 small few))
+    (at-tv-shift .tv-shift .ensures narrow _ _))
 
 pub shifted-spec : {M : Type 1} → statement M
 shifted-spec =

@@ -27,7 +27,8 @@ returns c =
     let undef = at-concat-undef .concat-undef .ensures .1 small in
     let narrow = at-prepare-shift .prepare-shift .ensures .1 small few in
     rw (← number)
-    (ran-bind _ (rw (undef, ← number) at (at-prepare-shift .prepare-shift .ensures .0 small few)) (at-tv-shift .tv-shift .ensures narrow _ _))
+    (ran-bind _ (rw (undef, ← number) at (at-prepare-shift .prepare-shift .ensures .0 small few))
+    (at-tv-shift .tv-shift .ensures narrow _ _))
 
 pub shifted-undef-spec : {M : Type 1} → statement M
 shifted-undef-spec =

@@ -32,7 +32,8 @@ returns-4 c =
     let at-from = at-to .before in
     let apart = at-from .before .if1 .left in
     kind-ordinary _ _ _ apart (at-from .standing-at .ensures) (at-to .standing-at2 .ensures) (at-test .if2 .left)
-    (⊎-elim (λ came. rw (eq-eqb _ _ (came .0 .taken), came .1 .left)) (λ came. rw (ne-eqb _ _ (came .left))) (c .if3 .came))
+    (⊎-elim (λ came. rw (eq-eqb _ _ (came .0 .taken), came .1 .left)) (λ came. rw (ne-eqb _ _ (came .left)))
+    (c .if3 .came))
 
 pub pair-of-spec : {M : Type 1} → statement M
 pair-of-spec =

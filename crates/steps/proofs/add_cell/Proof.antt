@@ -1,4 +1,5 @@
--- `steps::add_cell` meets its contract: an Input's nets are declared; of any other cell the claim is made and asserted. Assumes nothing.
+-- `steps::add_cell` meets its contract: an Input's nets are declared; of any other cell the claim is made and asserted.
+-- Assumes nothing.
 use borrow.Author.Needs.{needs}
 use mathlib.Core.Path.{sym, _∙_}
 use Rattle.nets.specs.Reads.{pastIn}

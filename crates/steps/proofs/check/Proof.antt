@@ -1,4 +1,5 @@
--- `steps::check` meets its contract: with no obligation nothing is written; else the query, its assertion and the check. Assumes nothing.
+-- `steps::check` meets its contract: with no obligation nothing is written; else the query, its assertion and the
+-- check. Assumes nothing.
 use mathlib.Core.Path.{refl}
 use borrow.Author.Needs.{needs}
 use Rattle.net_steps.proofs.Laws.{asks-nothing, asks-query}
@@ -19,4 +20,5 @@ returns-2 c =
 pub check-spec : {M : Type 1} → statement M
 check-spec =
     tie.close
-    (tie.spec returns (λ c κs. search needs) (λ c κs. search needs) (λ c κs. search needs) (λ c. search needs) returns-2)
+    (tie.spec returns (λ c κs. search needs) (λ c κs. search needs) (λ c κs. search needs) (λ c. search needs)
+    returns-2)

@@ -5,7 +5,7 @@ use borrow.Fn.Kinds.{In}
 use borrow.Fn.PlainCycle.{Measures, is, falls, and}
 use Rattle.text.proofs.put_byte.Reads as put-byte-reads
 use native.Mathlib.Omega.{arith}
-use Rattle.engine.specs.Emit.{wrote-none, wrote-then}
+use Rattle.engine.proofs.EmitLaws.{wrote-none, wrote-then}
 use Rattle.syntax.proofs.Laws.{bits-none, bits-more}
 use Rattle.syntax.proofs.put_bits.Reads as put-bits
 use Rattle.syntax.proofs.put_bits.Kinds as put-bits-kinds
@@ -37,7 +37,8 @@ put-bits-returns t c = rw (bits-none _ _ (c .if1 .taken)) (wrote-none _ _ (omega
 put-bits-sub-put-bits : (t : ℕ) → put-bits-lts.Need-sub-put-bits (put-bits-claims t) (put-bits-at t) put-bits.Post
 put-bits-sub-put-bits t c = search needs
 
-put-bits-put-bits-requires : (t : ℕ) → put-bits-lts.Need-put-bits-requires (put-bits-claims t) (put-bits-at t) put-bits.Post
+put-bits-put-bits-requires : (t : ℕ) →
+    put-bits-lts.Need-put-bits-requires (put-bits-claims t) (put-bits-at t) put-bits.Post
 put-bits-put-bits-requires t c κs =
     let start = c .before .before .before in
     (omega (arith, start .pre .0, c .before .if1 .left), search needs)
@@ -48,7 +49,8 @@ put-bits-add-put-byte t c = search needs
 put-bits-cast-put-byte : (t : ℕ) → put-bits-lts.Need-cast-put-byte (put-bits-claims t) (put-bits-at t) put-bits.Post
 put-bits-cast-put-byte t c = search needs
 
-put-bits-put-byte-requires : (t : ℕ) → put-bits-lts.Need-put-byte-requires (put-bits-claims t) (put-bits-at t) put-bits.Post
+put-bits-put-byte-requires : (t : ℕ) →
+    put-bits-lts.Need-put-byte-requires (put-bits-claims t) (put-bits-at t) put-bits.Post
 put-bits-put-byte-requires t c κs = search needs
 
 put-bits-same-length : (t : ℕ) → put-bits-lts.Need-same-length (put-bits-claims t) (put-bits-at t) put-bits.Post

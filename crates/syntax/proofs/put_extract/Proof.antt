@@ -1,6 +1,6 @@
 -- `syntax::put_extract` meets its contract: the pieces in their order. Assumes nothing.
 use borrow.Author.Needs.{needs}
-use Rattle.engine.specs.Emit.{wrote-then}
+use Rattle.engine.proofs.EmitLaws.{wrote-then}
 use Rattle.syntax.proofs.put_extract.Statement.{statement}
 use Rattle.syntax.proofs.put_extract.Tie as tie
 

@@ -1,6 +1,6 @@
 -- `syntax::put_literal` meets its contract: #b, then the bits. Assumes nothing.
 use borrow.Author.Needs.{needs}
-use Rattle.engine.specs.Emit.{wrote-then}
+use Rattle.engine.proofs.EmitLaws.{wrote-then}
 use Rattle.syntax.proofs.put_literal.Statement.{statement}
 use Rattle.syntax.proofs.put_literal.Tie as tie
 

@@ -1,6 +1,6 @@
 -- `syntax::put_sort` meets its contract: Bool at 0, otherwise a vector of the width. Assumes nothing.
 use borrow.Author.Needs.{needs}
-use Rattle.engine.specs.Emit.{wrote-then}
+use Rattle.engine.proofs.EmitLaws.{wrote-then}
 use Rattle.syntax.proofs.Laws.{sort-vector}
 use Rattle.syntax.proofs.put_sort.Statement.{statement}
 use Rattle.syntax.proofs.put_sort.Tie as tie

@@ -1,13 +1,14 @@
--- `term_table::sort_through` meets its contract: what is summed so far, with the sort of the term gone on with, is the sort of the term
--- asked. Each step goes to an earlier term, so the term's number is the measure of the loop and of the calls. Assumes nothing.
+-- `term_table::sort_through` meets its contract: what is summed so far, with the sort of the term gone on with, is the
+-- sort of the term asked. Each step goes to an earlier term, so the term's number is the measure of the loop and of the
+-- calls. Assumes nothing.
 use Prim.Native.Nat.{suc, _+_, _≤_}
 use mathlib.Core.Path.{_≡_, sym, ap, _∙_}
 use borrow.Author.Needs.{needs}
 use native.Mathlib.Omega.{arith}
 use Rattle.engine.specs.Structure.{capped}
 use Rattle.term_table.specs.Near.{originNear, sortVia, sortNear}
-use Rattle.term_table.specs.NearLaws.{near-below, via-low, via-given, via-same, via-joined}
-use Rattle.term_table.specs.Sums.{sum-start, sum-given, sum-joined}
+use Rattle.term_table.proofs.NearLawsLaws.{near-below, via-low, via-given, via-same, via-joined}
+use Rattle.term_table.proofs.Sums.{sum-start, sum-given, sum-joined}
 use Prim.Native.Nat.{ℕ, _<_}
 use borrow.Fn.Kinds.{In}
 use borrow.Fn.PlainCycle.{Measures, is, falls, and}
@@ -32,7 +33,8 @@ sort-through-below t =
 abbrev sort-through-Inv-loop : sort-through-lts.InvT-loop
 sort-through-Inv-loop calls sorts recent places gap terms term k₀ total₀ k total =
     (k ≤ term)
-    × (capped (total + sortNear sorts recent places gap calls terms k) ≡ sortNear sorts recent places gap calls terms term)
+    × (capped (total + sortNear sorts recent places gap calls terms k)
+    ≡ sortNear sorts recent places gap calls terms term)
 
 abbrev sort-through-μ-loop : sort-through-lts.MeasureT-loop
 sort-through-μ-loop calls sorts recent places gap terms term k₀ total₀ k total = k
@@ -48,7 +50,9 @@ sort-through-loop-holds : (t : ℕ) → sort-through-lts.Need-loop-holds (
 sort-through-loop-holds t c =
     let args = c .before .before .before .before .args in
     let k = args .term in
-    let known = originNear (args .sorts .now) (args .recent .now) (args .places .now) (args .gap) (args .calls .now) (args .terms) in
+    let known =
+    originNear (args .sorts .now) (args .recent .now) (args .places .now) (args .gap) (args .calls .now)
+    (args .terms) in
     (omega arith, sum-start (sortVia (suc k) known k) (via-low (suc k) known k))
 
 sort-through-term-origin-requires : (t : ℕ) → sort-through-lts.Need-term-origin-requires (
@@ -94,10 +98,15 @@ sort-through-returns t c =
     let asked = told .before .before in
     let state = asked .before .loop in
     let args = asked .before .before .before .before .before .before .args in
-    let known = originNear (args .sorts .now) (args .recent .now) (args .places .now) (args .gap) (args .calls .now) (args .terms) in
-    let below = near-below (args .sorts .now) (args .recent .now) (args .places .now) (args .gap) (args .calls .now) (args .terms) in
+    let known =
+    originNear (args .sorts .now) (args .recent .now) (args .places .now) (args .gap) (args .calls .now)
+    (args .terms) in
+    let below =
+    near-below (args .sorts .now) (args .recent .now) (args .places .now) (args .gap) (args .calls .now)
+    (args .terms) in
     let origin = sym (asked .term-origin .ensures) ∙ told .s .given .1 in
-    c .capped-sum .ensures ∙ sym (sum-given (state .total) _) ∙ ap (λ (n : ℕ). capped (state .total + n)) (sym (via-given known below (state .k) origin))
+    c .capped-sum .ensures ∙ sym (sum-given (state .total) _)
+    ∙ ap (λ (n : ℕ). capped (state .total + n)) (sym (via-given known below (state .k) origin))
     ∙ state .inv .1
 
 sort-through-enum-known-a : (t : ℕ) → sort-through-lts.Need-enum-known-a (
@@ -123,8 +132,12 @@ sort-through-loop-less t c =
     let asked = told .before .before in
     let state = asked .before .loop in
     let args = asked .before .before .before .before .before .before .args in
-    let known = originNear (args .sorts .now) (args .recent .now) (args .places .now) (args .gap) (args .calls .now) (args .terms) in
-    let below = near-below (args .sorts .now) (args .recent .now) (args .places .now) (args .gap) (args .calls .now) (args .terms) in
+    let known =
+    originNear (args .sorts .now) (args .recent .now) (args .places .now) (args .gap) (args .calls .now)
+    (args .terms) in
+    let below =
+    near-below (args .sorts .now) (args .recent .now) (args .places .now) (args .gap) (args .calls .now)
+    (args .terms) in
     let origin = sym (asked .term-origin .ensures) ∙ told .a .given .1 in
     via-same known below (state .k) origin .0
 
@@ -141,8 +154,12 @@ sort-through-loop-again t c =
     let asked = told .before .before in
     let state = asked .before .loop in
     let args = asked .before .before .before .before .before .before .args in
-    let known = originNear (args .sorts .now) (args .recent .now) (args .places .now) (args .gap) (args .calls .now) (args .terms) in
-    let below = near-below (args .sorts .now) (args .recent .now) (args .places .now) (args .gap) (args .calls .now) (args .terms) in
+    let known =
+    originNear (args .sorts .now) (args .recent .now) (args .places .now) (args .gap) (args .calls .now)
+    (args .terms) in
+    let below =
+    near-below (args .sorts .now) (args .recent .now) (args .places .now) (args .gap) (args .calls .now)
+    (args .terms) in
     let origin = sym (asked .term-origin .ensures) ∙ told .a .given .1 in
     let said = via-same known below (state .k) origin in
     (omega (arith, said .0, state .inv .0), ap (λ (n : ℕ). capped (state .total + n)) (sym (said .1)) ∙ state .inv .1)
@@ -170,8 +187,12 @@ sort-through-sort-through-requires t c κs =
     let asked = told .before .before in
     let state = asked .before .loop in
     let args = asked .before .before .before .before .before .before .args in
-    let known = originNear (args .sorts .now) (args .recent .now) (args .places .now) (args .gap) (args .calls .now) (args .terms) in
-    let below = near-below (args .sorts .now) (args .recent .now) (args .places .now) (args .gap) (args .calls .now) (args .terms) in
+    let known =
+    originNear (args .sorts .now) (args .recent .now) (args .places .now) (args .gap) (args .calls .now)
+    (args .terms) in
+    let below =
+    near-below (args .sorts .now) (args .recent .now) (args .places .now) (args .gap) (args .calls .now)
+    (args .terms) in
     let origin = sym (asked .term-origin .ensures) ∙ told .a2 .given .1 in
     let said = via-joined known below (state .k) origin in
     let start = asked .before .before .before .before .before .before in
@@ -200,8 +221,12 @@ sort-through-loop-less-2 t c =
     let asked = told .before .before in
     let state = asked .before .loop in
     let args = asked .before .before .before .before .before .before .args in
-    let known = originNear (args .sorts .now) (args .recent .now) (args .places .now) (args .gap) (args .calls .now) (args .terms) in
-    let below = near-below (args .sorts .now) (args .recent .now) (args .places .now) (args .gap) (args .calls .now) (args .terms) in
+    let known =
+    originNear (args .sorts .now) (args .recent .now) (args .places .now) (args .gap) (args .calls .now)
+    (args .terms) in
+    let below =
+    near-below (args .sorts .now) (args .recent .now) (args .places .now) (args .gap) (args .calls .now)
+    (args .terms) in
     let origin = sym (asked .term-origin .ensures) ∙ told .a2 .given .1 in
     via-joined known below (state .k) origin .0
 
@@ -218,14 +243,19 @@ sort-through-loop-again-2 t c =
     let asked = told .before .before in
     let state = asked .before .loop in
     let args = asked .before .before .before .before .before .before .args in
-    let known = originNear (args .sorts .now) (args .recent .now) (args .places .now) (args .gap) (args .calls .now) (args .terms) in
-    let below = near-below (args .sorts .now) (args .recent .now) (args .places .now) (args .gap) (args .calls .now) (args .terms) in
+    let known =
+    originNear (args .sorts .now) (args .recent .now) (args .places .now) (args .gap) (args .calls .now)
+    (args .terms) in
+    let below =
+    near-below (args .sorts .now) (args .recent .now) (args .places .now) (args .gap) (args .calls .now)
+    (args .terms) in
     let origin = sym (asked .term-origin .ensures) ∙ told .a2 .given .1 in
     let said = via-joined known below (state .k) origin in
     let sum = c .capped-sum2 .ensures ∙ ap (λ (n : ℕ). capped (state .total + n)) (c .before .sort-through .ensures) in (
       omega (arith, said .0, state .inv .0),
       ap (λ (n : ℕ). capped (n + sortVia (suc (told .a2 .given .0 .0 .0)) known (told .a2 .given .0 .0 .0))) sum
-          ∙ sum-joined (state .total) (sortVia (suc (told .a2 .given .0 .0 .0)) known (told .a2 .given .0 .0 .0)) (sortVia (suc (told .a2 .given .0 .1 .0 .0)) known (told .a2 .given .0 .1 .0 .0))
+          ∙ sum-joined (state .total) (sortVia (suc (told .a2 .given .0 .0 .0)) known (told .a2 .given .0 .0 .0))
+          (sortVia (suc (told .a2 .given .0 .1 .0 .0)) known (told .a2 .given .0 .1 .0 .0))
           ∙ ap (λ (n : ℕ). capped (state .total + n)) (sym (said .2)) ∙ state .inv .1,
     )
 

@@ -1,4 +1,5 @@
--- `term_table::entry` meets its contract: inside the table it is the number there, past the end `getD`'s default. Assumes nothing.
+-- `term_table::entry` meets its contract: inside the table it is the number there, past the end `getD`'s default.
+-- Assumes nothing.
 use borrow.Author.Needs.{needs}
 use native.Mathlib.Omega.{arith}
 use lib.ListN.{List·getD-eq-default}

@@ -23,7 +23,8 @@ rem-place-from : tie.Need-rem-place-from
 rem-place-from c = search needs
 
 cast-place-from : tie.Need-cast-place-from
-cast-place-from c = let args = c .before .before .before .before .before .args in omega (arith, mod-le (args .k) (args .gap + 1))
+cast-place-from c = let args = c .before .before .before .before .before .args in
+    omega (arith, mod-le (args .k) (args .gap + 1))
 
 place-from-requires : tie.Need-place-from-requires
 place-from-requires c κs = search needs
@@ -32,13 +33,19 @@ returns : tie.Need-returns
 returns c =
     let read = c .before in
     let tested = read .before in
-    rw (le-leb _ _ (tested .before .if1 .taken), lt-ltb _ _ (tested .if2 .taken), c .place-from .ensures, read .word-at .ensures)
+    rw (
+      le-leb _ _ (tested .before .if1 .taken),
+      lt-ltb _ _ (tested .if2 .taken),
+      c .place-from .ensures,
+      read .word-at .ensures,
+    )
 
 place-of-term-requires : tie.Need-place-of-term-requires
 place-of-term-requires c κs = search needs
 
 returns-2 : tie.Need-returns-2
-returns-2 c = rw (le-leb _ _ (c .before .before .if1 .taken), le-ltb _ _ (c .before .if2 .left), c .place-of-term .ensures)
+returns-2 c =
+    rw (le-leb _ _ (c .before .before .if1 .taken), le-ltb _ _ (c .before .if2 .left), c .place-of-term .ensures)
 
 place-of-term-requires-2 : tie.Need-place-of-term-requires-2
 place-of-term-requires-2 c κs = search needs

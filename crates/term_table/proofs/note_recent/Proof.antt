@@ -3,7 +3,7 @@ use borrow.Author.Needs.{needs}
 use mathlib.Core.Bool.{and-false}
 use native.Mathlib.Omega.{arith}
 use borrow.Author.Tests.{le-leb, lt-leb}
-use Rattle.term_table.specs.NearLaws.{record-low}
+use Rattle.term_table.proofs.NearLawsLaws.{record-low}
 use Rattle.term_table.proofs.note_recent.Statement.{statement}
 use Rattle.term_table.proofs.note_recent.Tie as tie
 
@@ -19,7 +19,9 @@ sort-at-requires c κs = search needs
 put-recent-requires : tie.Need-put-recent-requires
 put-recent-requires c κs =
     let args = c .before .before .before .before .before .before .before .before .before .before .before .args in
-    let low = record-low (args .sorts .now) (args .recent .now) (args .places .now) (args .gap) (args .calls .now) (args .terms) (args .at) in
+    let low =
+    record-low (args .sorts .now) (args .recent .now) (args .places .now) (args .gap) (args .calls .now)
+    (args .terms) (args .at) in
     omega (arith, low, c .before .sort-at .ensures)
 
 same-length : tie.Need-same-length

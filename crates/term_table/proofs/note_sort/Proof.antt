@@ -1,7 +1,7 @@
 -- `term_table::note_sort` meets its contract: each way out has what its tests say. Assumes nothing.
 use borrow.Author.Needs.{needs}
 use native.Mathlib.Omega.{arith}
-use Rattle.term_table.specs.NearLaws.{record-low}
+use Rattle.term_table.proofs.NearLawsLaws.{record-low}
 use Rattle.term_table.proofs.note_sort.Statement.{statement}
 use Rattle.term_table.proofs.note_sort.Tie as tie
 
@@ -17,14 +17,18 @@ sort-at-requires c κs = search needs
 put-byte-requires : tie.Need-put-byte-requires
 put-byte-requires c κs =
     let args = c .before .before .before .before .before .before .before .before .before .before .before .args in
-    let low = record-low (args .sorts .now) (args .recent .now) (args .places .now) (args .gap) (args .calls .now) (args .terms) (args .at) in
+    let low =
+    record-low (args .sorts .now) (args .recent .now) (args .places .now) (args .gap) (args .calls .now)
+    (args .terms) (args .at) in
     omega (arith, low, c .before .sort-at .ensures)
 
 put-recent-requires : tie.Need-put-recent-requires
 put-recent-requires c κs =
     let sorted = c .before .before .before .before .before .before in
     let args = sorted .before .before .before .before .before .before .before .before .before .before .args in
-    let low = record-low (args .sorts .now) (args .recent .now) (args .places .now) (args .gap) (args .calls .now) (args .terms) (args .at) in
+    let low =
+    record-low (args .sorts .now) (args .recent .now) (args .places .now) (args .gap) (args .calls .now)
+    (args .terms) (args .at) in
     omega (arith, low, sorted .sort-at .ensures)
 
 same-length : tie.Need-same-length

@@ -1,7 +1,7 @@
 -- `term_table::origin_at` meets its contract: the sort depends on three payloads. Assumes nothing.
 use native.Mathlib.Omega.{arith}
 use borrow.Author.Needs.{needs}
-use Rattle.term_table.specs.Origins.{origin-call}
+use Rattle.term_table.proofs.OriginsLaws.{origin-call}
 use Rattle.term_table.proofs.origin_at.Statement.{statement}
 use Rattle.term_table.proofs.origin_at.Tie as tie
 
@@ -26,7 +26,8 @@ returns c =
     let first = second .before in
     let start = first .before .before in
     rw (c .origin-of .ensures, c .before .operation-at .ensures)
-    (origin-call (start .args .calls .now) (start .args .at) (first .argument-at .ensures) (second .argument-at2 .ensures) (c .before .before .argument-at3 .ensures))
+    (origin-call (start .args .calls .now) (start .args .at) (first .argument-at .ensures)
+    (second .argument-at2 .ensures) (c .before .before .argument-at3 .ensures))
 
 pub origin-at-spec : {M : Type 1} → statement M
 origin-at-spec =

@@ -1,6 +1,6 @@
 -- `term_table::origin_of` meets its contract: an arm for each operation. Assumes nothing.
 use borrow.Author.Needs.{needs}
-use Rattle.bitvec.specs.Laws.{length-nat2bv}
+use Rattle.bitvec.proofs.Laws.{length-nat2bv}
 use Rattle.term_table.proofs.origin_of.Statement.{statement}
 use Rattle.term_table.proofs.origin_of.Tie as tie
 

@@ -1,4 +1,5 @@
--- `term_table::put_recent` meets its contract: an empty ring stays, and a term that the table has changes nothing. Assumes nothing.
+-- `term_table::put_recent` meets its contract: an empty ring stays, and a term that the table has changes nothing.
+-- Assumes nothing.
 use borrow.Author.Needs.{needs}
 use mathlib.Core.Path.{sym}
 use native.Mathlib.Omega.{arith}

@@ -1,7 +1,8 @@
--- `term_table::record_sort` meets its contract: with no term in the ring and no place noted, the records say it. Assumes nothing.
+-- `term_table::record_sort` meets its contract: with no term in the ring and no place noted, the records say it.
+-- Assumes nothing.
 use borrow.Author.Needs.{needs}
 use mathlib.Core.Path.{_∙_}
-use Rattle.term_table.specs.NearLaws.{near-plain}
+use Rattle.term_table.proofs.NearLawsLaws.{near-plain}
 use Rattle.term_table.proofs.record_sort.Statement.{statement}
 use Rattle.term_table.proofs.record_sort.Tie as tie
 
@@ -15,7 +16,8 @@ sort-at-requires : tie.Need-sort-at-requires
 sort-at-requires c κs = search needs
 
 returns : tie.Need-returns
-returns c = let args = c .before .before .before .before .before .args in c .sort-at .ensures ∙ near-plain (args .sorts .now) (args .calls .now) (args .at)
+returns c = let args = c .before .before .before .before .before .args in c .sort-at .ensures
+    ∙ near-plain (args .sorts .now) (args .calls .now) (args .at)
 
 pub record-sort-spec : {M : Type 1} → statement M
 record-sort-spec =

@@ -19,7 +19,12 @@ ring-entry-requires c κs = search needs
 returns-2 : tie.Need-returns-2
 returns-2 c =
     let recent = c .before .before in
-    rw (le-ltb _ _ (recent .before .if1 .left), ← recent .is-recent .ensures, c .before .if2 .taken, c .ring-entry .ensures)
+    rw (
+      le-ltb _ _ (recent .before .if1 .left),
+      ← recent .is-recent .ensures,
+      c .before .if2 .taken,
+      c .ring-entry .ensures,
+    )
 
 near-place-requires : tie.Need-near-place-requires
 near-place-requires c κs = search needs

@@ -9,7 +9,7 @@ use Rattle.engine.specs.Structure.{capped}
 use native.Mathlib.Omega.{arith}
 use borrow.Author.Tests.{lt-ltb}
 use Rattle.term_table.specs.Near.{originNear}
-use Rattle.term_table.specs.NearLaws.{near-below, via-given}
+use Rattle.term_table.proofs.NearLawsLaws.{near-below, via-given}
 use Rattle.term_table.proofs.term_sort.Statement.{statement}
 use Rattle.term_table.proofs.term_sort.Tie as tie
 
@@ -17,7 +17,8 @@ shared-slice-read-capped-sum : tie.Need-shared-slice-read-capped-sum
 shared-slice-read-capped-sum c = search needs
 
 cast-capped-sum : tie.Need-cast-capped-sum
-cast-capped-sum c = omega (arith, c .shared-slice-known5 .given (c .before .before .before .before .before .before .args .term))
+cast-capped-sum c =
+    omega (arith, c .shared-slice-known5 .given (c .before .before .before .before .before .before .args .term))
 
 capped-sum-requires : tie.Need-capped-sum-requires
 capped-sum-requires c κs = search needs
@@ -26,11 +27,17 @@ returns : tie.Need-returns
 returns c =
     let tested = c .before .before in
     let args = tested .before .before .before .before .before .args in
-    let known = originNear (args .sorts .now) (args .recent .now) (args .places .now) (args .gap) (args .calls .now) (args .terms) in
-    let below = near-below (args .sorts .now) (args .recent .now) (args .places .now) (args .gap) (args .calls .now) (args .terms) in
-    let given : known (args .term) ≡ Given (getD (args .sorts .now) (args .term) 0) = rw (lt-ltb _ _ (tested .if1 .taken)) in
+    let known =
+    originNear (args .sorts .now) (args .recent .now) (args .places .now) (args .gap) (args .calls .now)
+    (args .terms) in
+    let below =
+    near-below (args .sorts .now) (args .recent .now) (args .places .now) (args .gap) (args .calls .now)
+    (args .terms) in
+    let given : known (args .term) ≡ Given (getD (args .sorts .now) (args .term) 0) =
+    rw (lt-ltb _ _ (tested .if1 .taken)) in
     let first = c .capped-sum .ensures in
-    first ∙ ap capped (let z : 0 + getD (args .sorts .now) (args .term) 0 ≡ getD (args .sorts .now) (args .term) 0 = omega arith in z)
+    first ∙ ap capped
+    (let z : 0 + getD (args .sorts .now) (args .term) 0 ≡ getD (args .sorts .now) (args .term) 0 = omega arith in z)
     ∙ sym (via-given known below (args .term) given)
 
 sort-through-requires : tie.Need-sort-through-requires

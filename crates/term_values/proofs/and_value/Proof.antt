@@ -1,5 +1,5 @@
--- `term_values::and_value` meets its contract: from each argument on, the scan finds what it finds from the first. The measure is how
--- many arguments are left. Assumes nothing.
+-- `term_values::and_value` meets its contract: from each argument on, the scan finds what it finds from the first. The
+-- measure is how many arguments are left. Assumes nothing.
 use borrow.Author.Needs.{needs}
 use borrow.Author.Tests.{eq-eqb, ne-eqb}
 use Prim.Native.Nat.{_+_, _-_, _≤_}
@@ -7,8 +7,8 @@ use mathlib.Core.Path.{_≡_, sym, ap, _∙_}
 use mathlib.Core.Bool.{true, false}
 use native.Mathlib.Omega.{arith}
 use Rattle.engine.specs.WellFormed.{firstFailing}
-use Rattle.engine.specs.Steps.{failing-none, failing-turn, failing-here}
-use Rattle.term_values.specs.Records.{isOne, allOnes, and-scan}
+use Rattle.engine.proofs.Steps.{failing-none, failing-turn, failing-here}
+use Rattle.term_values.proofs.RecordsLaws.{isOne, allOnes, and-scan}
 use Rattle.term_values.proofs.and_value.Statement.{statement}
 use Rattle.term_values.proofs.and_value.Tie as tie
 
@@ -21,8 +21,11 @@ abbrev μ-loop : tie.MeasureT-loop
 
 loop-holds : tie.Need-loop-holds Inv-loop μ-loop
 loop-holds c =
-    let args = c .before .before .args in
-    (omega arith, ap (firstFailing (isOne (args .values .now) (args .calls .now) (args .at)) 0) (let e : args .n ≡ args .n - 0 = omega arith in e))
+    let args = c .before .before .args in (
+      omega arith,
+      ap (firstFailing (isOne (args .values .now) (args .calls .now) (args .at)) 0)
+          (let e : args .n ≡ args .n - 0 = omega arith in e),
+    )
 
 argument-at-requires : tie.Need-argument-at-requires Inv-loop μ-loop
 argument-at-requires c κs = search needs
@@ -49,7 +52,8 @@ loop-again c =
     rw (← word .argument-at .ensures, ← c .before .number-at .ensures, eq-eqb _ _ (c .if1 .taken)) in (
       omega arith,
       state .inv .1 ∙ failing-turn test (state .i) (args .n - state .i) (omega arith) holds
-          ∙ ap (firstFailing test (state .i + 1)) (let e : args .n - state .i - 1 ≡ args .n - (state .i + 1) = omega arith in e),
+          ∙ ap (firstFailing test (state .i + 1))
+          (let e : args .n - state .i - 1 ≡ args .n - (state .i + 1) = omega arith in e),
     )
 
 returns : tie.Need-returns Inv-loop μ-loop
@@ -69,7 +73,8 @@ returns-2 c =
     let args = c .before .before .before .before .args in
     sym (and-scan (args .values .now) (args .calls .now) (args .at) (args .n)
     ∙ ap allOnes (state .inv .1
-    ∙ failing-none (isOne (args .values .now) (args .calls .now) (args .at)) (state .i) (args .n - state .i) (omega arith)))
+    ∙ failing-none (isOne (args .values .now) (args .calls .now) (args .at)) (state .i) (args .n - state .i)
+    (omega arith)))
 
 pub and-value-spec : {M : Type 1} → statement M
 and-value-spec =

@@ -19,7 +19,12 @@ returns : tie.Need-returns
 returns c =
     let third = c .before in
     let second = third .before in
-    rw (c .chosen .ensures, third .argument-value3 .ensures, second .argument-value2 .ensures, second .before .argument-value .ensures)
+    rw (
+      c .chosen .ensures,
+      third .argument-value3 .ensures,
+      second .argument-value2 .ensures,
+      second .before .argument-value .ensures,
+    )
 
 pub choice-value-spec : {M : Type 1} → statement M
 choice-value-spec =

@@ -13,7 +13,8 @@ flag-number-requires : tie.Need-flag-number-requires
 flag-number-requires c κs = search needs
 
 returns : tie.Need-returns
-returns c = rw (c .flag-number .ensures, c .before .argument-value2 .ensures, c .before .before .argument-value .ensures)
+returns c =
+    rw (c .flag-number .ensures, c .before .argument-value2 .ensures, c .before .before .argument-value .ensures)
 
 pub equal-value-spec : {M : Type 1} → statement M
 equal-value-spec =

@@ -132,7 +132,12 @@ enum-told-14 c = search needs
 returns : tie.Need-returns
 returns c =
     let told = c .before .before in
-    rw (← told .before .before .operation-at .ensures, told .enum-told .given .1, c .flag-number .ensures, c .before .argument-at .ensures)
+    rw (
+      ← told .before .before .operation-at .ensures,
+      told .enum-told .given .1,
+      c .flag-number .ensures,
+      c .before .argument-at .ensures,
+    )
 
 returns-2 : tie.Need-returns-2
 returns-2 c =
@@ -142,12 +147,22 @@ returns-2 c =
 returns-3 : tie.Need-returns-3
 returns-3 c =
     let told = c .before .before in
-    rw (← told .before .before .operation-at .ensures, told .enum-told3 .given .1, c .chosen .ensures, c .before .argument-value .ensures)
+    rw (
+      ← told .before .before .operation-at .ensures,
+      told .enum-told3 .given .1,
+      c .chosen .ensures,
+      c .before .argument-value .ensures,
+    )
 
 returns-4 : tie.Need-returns-4
 returns-4 c =
     let told = c .before .before in
-    rw (← told .before .before .operation-at .ensures, told .enum-told4 .given .1, c .and-value .ensures, c .before .count-at .ensures)
+    rw (
+      ← told .before .before .operation-at .ensures,
+      told .enum-told4 .given .1,
+      c .and-value .ensures,
+      c .before .count-at .ensures,
+    )
 
 returns-5 : tie.Need-returns-5
 returns-5 c =
@@ -177,17 +192,38 @@ returns-9 c =
 returns-10 : tie.Need-returns-10
 returns-10 c =
     let told = c .before .before .before in
-    rw (← told .before .before .operation-at .ensures, told .enum-told10 .given .1, c .bvnot .ensures, c .before .argument-value2 .ensures, c .before .before .argument-sort .ensures)
+    rw (
+      ← told .before .before .operation-at .ensures,
+      told .enum-told10 .given .1,
+      c .bvnot .ensures,
+      c .before .argument-value2 .ensures,
+      c .before .before .argument-sort .ensures,
+    )
 
 returns-11 : tie.Need-returns-11
 returns-11 c =
     let told = c .before .before .before .before .before in
-    rw (← told .before .before .operation-at .ensures, told .op .given .1, c .binary-value .ensures, c .before .argument-value4 .ensures, c .before .before .argument-value3 .ensures, c .before .before .before .argument-sort2 .ensures)
+    rw (
+      ← told .before .before .operation-at .ensures,
+      told .op .given .1,
+      c .binary-value .ensures,
+      c .before .argument-value4 .ensures,
+      c .before .before .argument-value3 .ensures,
+      c .before .before .before .argument-sort2 .ensures,
+    )
 
 returns-12 : tie.Need-returns-12
 returns-12 c =
     let told = c .before .before .before .before .before .before in
-    rw (← told .before .before .operation-at .ensures, told .op2 .given .1, c .flag-number2 .ensures, c .before .compare-value .ensures, c .before .before .argument-value6 .ensures, c .before .before .before .argument-value5 .ensures, c .before .before .before .before .argument-sort3 .ensures)
+    rw (
+      ← told .before .before .operation-at .ensures,
+      told .op2 .given .1,
+      c .flag-number2 .ensures,
+      c .before .compare-value .ensures,
+      c .before .before .argument-value6 .ensures,
+      c .before .before .before .argument-value5 .ensures,
+      c .before .before .before .before .argument-sort3 .ensures,
+    )
 
 returns-13 : tie.Need-returns-13
 returns-13 c =

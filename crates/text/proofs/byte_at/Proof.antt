@@ -1,4 +1,5 @@
--- `text::byte_at` meets its contract: inside the text it is the byte there, past the end `getD`'s default. Assumes nothing.
+-- `text::byte_at` meets its contract: inside the text it is the byte there, past the end `getD`'s default. Assumes
+-- nothing.
 use borrow.Author.Needs.{needs}
 use lib.ListN.{List·getD-eq-default}
 use Rattle.text.proofs.byte_at.Statement.{statement}

@@ -5,8 +5,9 @@ use Prim.Native.Nat.{_≤_, _+_}
 use mathlib.Core.Path.{_≡_, sym, _∙_}
 use native.Mathlib.Omega.{arith}
 use lib.ListN.{length}
-use Rattle.text.specs.Bytes.{decimal, decimal-length, length-one}
-use Rattle.text.specs.Bytes.{length-two, length-three, length-four, length-above}
+use Rattle.text.specs.Bytes.{decimal}
+use Rattle.text.proofs.BytesLaws.{decimal-length, length-one}
+use Rattle.text.proofs.BytesLaws.{length-two, length-three, length-four, length-above}
 use Rattle.text.proofs.digit_count.Statement.{statement}
 use Rattle.text.proofs.digit_count.Tie as tie
 

@@ -1,6 +1,6 @@
 -- `text::put_byte` meets its contract: one byte stored, one place counted. Assumes nothing.
 use borrow.Author.Needs.{needs}
-use Rattle.text.specs.Write.{wrote-byte}
+use Rattle.text.proofs.Write.{wrote-byte}
 use Rattle.text.proofs.put_byte.Statement.{statement}
 use Rattle.text.proofs.put_byte.Tie as tie
 

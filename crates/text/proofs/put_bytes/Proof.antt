@@ -4,7 +4,7 @@ use borrow.Author.Needs.{needs}
 use mathlib.Core.Path.{_∙_}
 use native.Mathlib.Omega.{arith}
 use lib.Seq.{take-length}
-use Rattle.text.specs.Write.{overwrite-room, wrote-past}
+use Rattle.text.proofs.Write.{overwrite-room, wrote-past}
 use Rattle.text.proofs.put_bytes.Statement.{statement}
 use Rattle.text.proofs.put_bytes.Tie as tie
 

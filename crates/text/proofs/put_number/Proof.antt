@@ -1,8 +1,8 @@
 -- `text::put_number` meets its contract: past the text's end the digits are only counted. Assumes nothing.
 use borrow.Author.Needs.{needs}
 use native.Mathlib.Omega.{arith}
-use Rattle.text.specs.Bytes.{decimal-length}
-use Rattle.text.specs.Write.{wrote-past}
+use Rattle.text.proofs.BytesLaws.{decimal-length}
+use Rattle.text.proofs.Write.{wrote-past}
 use Rattle.text.proofs.put_number.Statement.{statement}
 use Rattle.text.proofs.put_number.Tie as tie
 

@@ -1,4 +1,5 @@
--- `tokens::next_token` meets its contract: past the white space stands the end, a parenthesis or a run. Assumes nothing.
+-- `tokens::next_token` meets its contract: past the white space stands the end, a parenthesis or a run. Assumes
+-- nothing.
 use borrow.Author.Needs.{needs}
 use mathlib.Core.Path.{sym, _∙_}
 use native.Mathlib.Omega.{arith}
@@ -29,7 +30,11 @@ returns-2 c =
     let below = tested .before .before .if1 .left in
     let skipped = tested .before .before .before .skip-white .ensures in
     let paren = sym (tested .is-parenthesis .ensures) ∙ c .if2 .taken in
-    record { tokens = skipped .tokens ∙ tokens-parenthesis _ _ below (skipped .stops below) paren; inside = (omega arith, omega arith) }
+    record {
+      tokens = skipped .tokens ∙ tokens-parenthesis _ _ below (skipped .stops below) paren;
+      inside =
+          (omega arith, omega arith);
+    }
 
 add-run-end : tie.Need-add-run-end
 add-run-end c = search needs

@@ -1,5 +1,5 @@
--- `tokens::run_end` meets its contract. The loop's invariant: the run that starts at `at` ends where the one from `start` does.
--- The measure is what is left of the text. Assumes nothing.
+-- `tokens::run_end` meets its contract. The loop's invariant: the run that starts at `at` ends where the one from
+-- `start` does. The measure is what is left of the text. Assumes nothing.
 use borrow.Author.Needs.{needs}
 use Prim.Native.Nat.{_-_}
 use mathlib.Core.Path.{_≡_, refl, sym, _∙_}
@@ -28,7 +28,8 @@ returns : tie.Need-returns Inv-loop μ-loop
 returns c =
     let tested = c .before in
     let looped = tested .before .before .before in
-    sym (looped .loop .inv ∙ run-stops _ _ (tested .before .before .loop-test .taken) (sym (tested .ends-run .ensures) ∙ c .if1 .taken))
+    sym (looped .loop .inv
+    ∙ run-stops _ _ (tested .before .before .loop-test .taken) (sym (tested .ends-run .ensures) ∙ c .if1 .taken))
 
 add-at : tie.Need-add-at Inv-loop μ-loop
 add-at c = search needs
@@ -40,7 +41,8 @@ loop-again : tie.Need-loop-again Inv-loop μ-loop
 loop-again c =
     let tested = c .before in
     let looped = tested .before .before .before in
-    looped .loop .inv ∙ run-goes _ _ (tested .before .before .loop-test .taken) (sym (tested .ends-run .ensures) ∙ c .if1 .left)
+    looped .loop .inv
+    ∙ run-goes _ _ (tested .before .before .loop-test .taken) (sym (tested .ends-run .ensures) ∙ c .if1 .left)
 
 returns-2 : tie.Need-returns-2 Inv-loop μ-loop
 returns-2 c = sym (c .before .loop .inv ∙ run-none _ _ (c .loop-test .left))

@@ -15,7 +15,10 @@ same-length c =
     let at-build-bitvec-eq = at-build-binary2 .before .before .before .before in
     let at-build-binary = at-build-bitvec-eq .before .before .before .before in
     let at-build-bvnot = at-build-binary .before .before .before .before in
-    at-build-and .build-and .kept .0 ∙ at-build-bitvec-eq2 .build-bitvec-eq2 .kept .0 ∙ at-build-binary3 .build-binary3 .kept .0 ∙ at-build-binary2 .build-binary2 .kept .0 ∙ at-build-bitvec-eq .build-bitvec-eq .kept .0 ∙ at-build-binary .build-binary .kept .0 ∙ at-build-bvnot .build-bvnot .kept .0
+    at-build-and .build-and .kept .0 ∙ at-build-bitvec-eq2 .build-bitvec-eq2 .kept .0
+    ∙ at-build-binary3 .build-binary3 .kept .0 ∙ at-build-binary2 .build-binary2 .kept .0
+    ∙ at-build-bitvec-eq .build-bitvec-eq .kept .0 ∙ at-build-binary .build-binary .kept .0
+    ∙ at-build-bvnot .build-bvnot .kept .0
 
 returns : tie.Need-returns
 unfolding tvRefines
@@ -39,4 +42,5 @@ returns c =
 pub tv-refines-spec : {M : Type 1} → statement M
 tv-refines-spec =
     tie.close
-    (tie.spec (λ c κs. search needs) (λ c κs. search needs) (λ c κs. search needs) (λ c κs. search needs) (λ c κs. search needs) (λ c κs. search needs) (λ c κs. search needs) same-length returns)
+    (tie.spec (λ c κs. search needs) (λ c κs. search needs) (λ c κs. search needs) (λ c κs. search needs)
+    (λ c κs. search needs) (λ c κs. search needs) (λ c κs. search needs) same-length returns)

@@ -1,6 +1,6 @@
--- `values::net_terms` meets its contract: after i turns the terms have the first i elements, and if the rest of the nets
--- is read from here, all of them were read from the start; each turn reads one net more. What is left of n nets falls.
--- Assumes nothing.
+-- `values::net_terms` meets its contract: after i turns the terms have the first i elements, and if the rest of the
+-- nets is read from here, all of them were read from the start; each turn reads one net more. What is left of n nets
+-- falls. Assumes nothing.
 use borrow.Author.Needs.{needs}
 use mathlib.Core.Path.{_≡_, refl, _∙_}
 use Prim.Native.Nat.{_≤_, _<_, _+_, _*_, _-_, _^_}

@@ -1,5 +1,5 @@
--- `values::read_value` meets its contract: its calls are those of the model, one after the other; 64 elements have room.
--- Assumes nothing.
+-- `values::read_value` meets its contract: its calls are those of the model, one after the other; 64 elements have
+-- room. Assumes nothing.
 use borrow.Author.Needs.{needs}
 use native.Mathlib.Omega.{arith}
 use Rattle.builder.proofs.Laws.{ran-bind}

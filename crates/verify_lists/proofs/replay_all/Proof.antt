@@ -1,4 +1,5 @@
--- `verify_lists::replay_all` is safe and ends: no more lists are as stored than were read, and the lists left fall. Assumes nothing.
+-- `verify_lists::replay_all` is safe and ends: no more lists are as stored than were read, and the lists left fall.
+-- Assumes nothing.
 use borrow.Author.Needs.{needs}
 use Prim.Native.Nat.{_≤_, _-_}
 use native.Mathlib.Omega.{arith}

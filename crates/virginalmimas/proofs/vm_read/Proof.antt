@@ -1,7 +1,8 @@
--- `virginalmimas::vm_read` meets its contract: the answer is packed as the definition says; an accepted list has at most 4,096 slots. Assumes nothing.
+-- `virginalmimas::vm_read` meets its contract: the answer is packed as the definition says; an accepted list has at
+-- most 4,096 slots. Assumes nothing.
 use mathlib.Core.Path.{sym, _∙_}
 use native.Mathlib.Omega.{arith}
-use Rattle.design_list.specs.Table.{table-low}
+use Rattle.design_list.proofs.TableLaws.{table-low}
 use borrow.Author.Needs.{needs}
 use Rattle.virginalmimas.proofs.vm_read.Statement.{statement}
 use Rattle.virginalmimas.proofs.vm_read.Tie as tie

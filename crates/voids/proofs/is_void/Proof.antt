@@ -1,4 +1,5 @@
--- `voids::is_void` meets its contract: each answer rewrites the definition by the tests and calls that lead to it. Assumes nothing.
+-- `voids::is_void` meets its contract: each answer rewrites the definition by the tests and calls that lead to it.
+-- Assumes nothing.
 use borrow.Author.Tests.{lt-ltb, le-ltb}
 use Rattle.voids.specs.Marks.{isVoidIn}
 use borrow.Author.Needs.{needs}

@@ -1,4 +1,5 @@
--- `voids::item_voids_at` meets its contract: each answer rewrites the definition by the tests and calls that lead to it. Assumes nothing.
+-- `voids::item_voids_at` meets its contract: each answer rewrites the definition by the tests and calls that lead to
+-- it. Assumes nothing.
 use borrow.Author.Needs.{needs}
 use Rattle.voids.proofs.item_voids_at.Statement.{statement}
 use Rattle.voids.proofs.item_voids_at.Tie as tie

@@ -1,10 +1,10 @@
--- `voids::items_voids_at` meets its contract. The invariant: the scan from here answers what the scan from the start does. The measure is what
--- is left. Assumes nothing.
+-- `voids::items_voids_at` meets its contract. The invariant: the scan from here answers what the scan from the start
+-- does. The measure is what is left. Assumes nothing.
 use borrow.Author.Needs.{needs}
 use mathlib.Core.Path.{_≡_, refl, sym, _∙_}
 use native.Mathlib.Omega.{arith}
 use Rattle.fields.specs.Field.{scanMany}
-use Rattle.fields.specs.Laws.{many-none, many-turn, many-fault}
+use Rattle.fields.proofs.Laws.{many-none, many-turn, many-fault}
 use Rattle.voids.specs.Marks.{isVoidIn}
 use Rattle.voids.specs.Voids.{itemVoidsAt}
 use Rattle.voids.proofs.items_voids_at.Statement.{statement}
@@ -12,7 +12,8 @@ use Rattle.voids.proofs.items_voids_at.Tie as tie
 
 abbrev Inv-loop : tie.InvT-loop
 Inv-loop list table base item k start at₀ left₀ at left =
-    scanMany (itemVoidsAt list (isVoidIn table base) item) k start ≡ scanMany (itemVoidsAt list (isVoidIn table base) item) left at
+    scanMany (itemVoidsAt list (isVoidIn table base) item) k start
+    ≡ scanMany (itemVoidsAt list (isVoidIn table base) item) left at
 
 abbrev μ-loop : tie.MeasureT-loop
 μ-loop list table base item k start at₀ left₀ at left = left

@@ -1,4 +1,5 @@
--- `voids::offends` meets its contract: each answer rewrites the definition by the tests and calls that lead to it. Assumes nothing.
+-- `voids::offends` meets its contract: each answer rewrites the definition by the tests and calls that lead to it.
+-- Assumes nothing.
 use borrow.Author.Tests.{le-leb, lt-leb, eq-eqb, ne-eqb}
 use Rattle.voids.specs.Voids.{offends}
 use borrow.Author.Needs.{needs}

@@ -1,4 +1,5 @@
--- `voids::replacement_voids_at` meets its contract: each answer rewrites the definition by the tests and calls that lead to it. Assumes nothing.
+-- `voids::replacement_voids_at` meets its contract: each answer rewrites the definition by the tests and calls that
+-- lead to it. Assumes nothing.
 use borrow.Author.Tests.{lt-ltb, le-ltb}
 use Rattle.voids.specs.Voids.{replacementVoidsAt}
 use borrow.Author.Needs.{needs}

@@ -1,4 +1,5 @@
--- `voids::voids_at` meets its contract: each answer rewrites the definition by the tests and calls that lead to it. Assumes nothing.
+-- `voids::voids_at` meets its contract: each answer rewrites the definition by the tests and calls that lead to it.
+-- Assumes nothing.
 use Rattle.voids.specs.Voids.{voidsAt}
 use borrow.Author.Needs.{needs}
 use Rattle.voids.proofs.voids_at.Statement.{statement}

@@ -1,20 +1,21 @@
--- `voids::voids_in` meets its contract. The invariant: the scan from here answers what the scan from the start does, and the places left end where
--- they did. The measure is what is left. Assumes nothing.
+-- `voids::voids_in` meets its contract. The invariant: the scan from here answers what the scan from the start does,
+-- and the places left end where they did. The measure is what is left. Assumes nothing.
 use borrow.Author.Needs.{needs}
 use Prim.Native.Nat.{_+_}
 use mathlib.Core.Path.{_≡_, refl, sym, _∙_}
 use native.Mathlib.Omega.{arith}
 use Rattle.fields.specs.Field.{scanMany}
-use Rattle.fields.specs.Laws.{many-none, many-turn, many-fault}
+use Rattle.fields.proofs.Laws.{many-none, many-turn, many-fault}
 use Rattle.voids.specs.Marks.{isVoidIn}
 use Rattle.voids.specs.Voids.{voidAt}
-use Rattle.voids.specs.Laws.{void-clean, void-fault}
+use Rattle.voids.proofs.Laws.{void-clean, void-fault}
 use Rattle.voids.proofs.voids_in.Statement.{statement}
 use Rattle.voids.proofs.voids_in.Tie as tie
 
 abbrev Inv-loop : tie.InvT-loop
 Inv-loop list table base clock n start at₀ left₀ at left =
-    (scanMany (voidAt list (isVoidIn table base) clock) n start ≡ scanMany (voidAt list (isVoidIn table base) clock) left at)
+    (scanMany (voidAt list (isVoidIn table base) clock) n start
+    ≡ scanMany (voidAt list (isVoidIn table base) clock) left at)
     × (at + left ≡ start + n)
 
 abbrev μ-loop : tie.MeasureT-loop
@@ -28,7 +29,8 @@ returns c =
     let in-loop = c .before .before in
     sym
     (in-loop .before .loop .inv .0 ∙
-    many-fault _ _ _ (in-loop .loop-test .taken) (void-fault _ _ _ _ (sym (c .before .offends .ensures) ∙ c .if1 .taken)))
+    many-fault _ _ _ (in-loop .loop-test .taken)
+    (void-fault _ _ _ _ (sym (c .before .offends .ensures) ∙ c .if1 .taken)))
 
 add-at : tie.Need-add-at Inv-loop μ-loop
 add-at c = omega (arith, c .before .before .before .loop .inv .1)
@@ -43,7 +45,8 @@ loop-again : tie.Need-loop-again Inv-loop μ-loop
 loop-again c =
     let in-loop = c .before .before in (
       in-loop .before .loop .inv .0 ∙
-          many-turn _ _ _ (in-loop .loop-test .taken) (void-clean _ _ _ _ (sym (c .before .offends .ensures) ∙ c .if1 .left)),
+          many-turn _ _ _ (in-loop .loop-test .taken)
+          (void-clean _ _ _ _ (sym (c .before .offends .ensures) ∙ c .if1 .left)),
       omega (arith, in-loop .before .loop .inv .1),
     )
 

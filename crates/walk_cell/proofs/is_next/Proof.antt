@@ -1,4 +1,5 @@
--- `walk_cell::is_next` meets its contract: each answer rewrites the definition by the test that leads to it. Assumes nothing.
+-- `walk_cell::is_next` meets its contract: each answer rewrites the definition by the test that leads to it. Assumes
+-- nothing.
 use borrow.Author.Needs.{needs}
 use borrow.Author.Tests.{lt-ltb, le-ltb}
 use Rattle.walk_cell.proofs.is_next.Statement.{statement}

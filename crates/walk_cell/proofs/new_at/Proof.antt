@@ -1,4 +1,5 @@
--- `walk_cell::new_at` meets its contract: the cell is that of the part of the list after its head; one obligation, its term pushed. Assumes nothing.
+-- `walk_cell::new_at` meets its contract: the cell is that of the part of the list after its head; one obligation, its
+-- term pushed. Assumes nothing.
 use borrow.Author.Needs.{needs}
 use mathlib.Core.Path.{refl}
 use native.Mathlib.Omega.{arith}
@@ -27,5 +28,7 @@ returns-2 c = λ readable narrow low. let inside = readable .inside in let past 
 pub new-at-spec : {M : Type 1} → statement M
 new-at-spec =
     tie.close
-    (tie.spec (λ c κs. search needs) (λ c. search needs) (λ c. search needs) (λ c. search needs) (λ c. search needs) (λ c. search needs)
-    (λ c κs. search needs) (λ c κs. search needs) (λ c. search needs) (λ c. search needs) (λ c. search needs) (λ c. search needs) returns returns-2)
+    (tie.spec (λ c κs. search needs) (λ c. search needs) (λ c. search needs) (λ c. search needs) (λ c. search needs)
+    (λ c. search needs)
+    (λ c κs. search needs) (λ c κs. search needs) (λ c. search needs) (λ c. search needs) (λ c. search needs)
+    (λ c. search needs) returns returns-2)

@@ -1,4 +1,5 @@
--- `walk_cell::op_at` meets its contract: each answer rewrites the definition by the calls that lead to it. Assumes nothing.
+-- `walk_cell::op_at` meets its contract: each answer rewrites the definition by the calls that lead to it. Assumes
+-- nothing.
 use borrow.Author.Needs.{needs}
 use Rattle.walk_cell.proofs.op_at.Statement.{statement}
 use Rattle.walk_cell.proofs.op_at.Tie as tie
@@ -29,4 +30,5 @@ returns-2 c =
 pub op-at-spec : {M : Type 1} → statement M
 op-at-spec =
     tie.close
-    (tie.spec (λ c κs. search needs) (λ c κs. search needs) (λ c κs. search needs) (λ c. search needs) (λ c. search needs) returns returns-2)
+    (tie.spec (λ c κs. search needs) (λ c κs. search needs) (λ c κs. search needs) (λ c. search needs)
+    (λ c. search needs) returns returns-2)

@@ -1,5 +1,5 @@
--- `walk_cell::verify_cell` meets its contract: no step at output width 0, else those of the cell, and of the new cell where the next replacement is its.
--- Assumes nothing.
+-- `walk_cell::verify_cell` meets its contract: no step at output width 0, else those of the cell, and of the new cell
+-- where the next replacement is its. Assumes nothing.
 use borrow.Author.Needs.{needs}
 use mathlib.Core.Path.{sym, _∙_}
 use Prim.Native.Nat.{_+_}
@@ -19,7 +19,8 @@ returns c =
     let args = at-width-at .before .before .before .before .before .before .before .args in
     let empty = sym (at-width-at .width-at .ensures) ∙ c .if1 .taken in
     λ readable new narrow low.
-    does-skip (pastIn (args .table .now)) (args .slot .0) (cellAt (args .list .now) (args .at)) (widthIn (args .table .now) (args .slot .0))
+    does-skip (pastIn (args .table .now)) (args .slot .0) (cellAt (args .list .now) (args .at))
+    (widthIn (args .table .now) (args .slot .0))
     (newAt (args .list .now) (args .end) (args .rep) (args .slot .0)) _ _ _ _ _ empty
 
 add-new : tie.Need-add-new
@@ -45,7 +46,8 @@ returns-2 c =
     let old = at-add-at .add-at .ensures _ readable (rw same narrow) (rw same low) in
     let more = at-new-at .new-at .ensures (new next) (rw same narrow) (rw same low) in
     rw (next, ← same)
-    (does-both (pastIn (args .table .now)) (args .slot .0) (cellAt (args .list .now) (args .at)) _ (cellAt (args .list .now) (args .rep + 1)) (at-else .if1 .left)
+    (does-both (pastIn (args .table .now)) (args .slot .0) (cellAt (args .list .now) (args .at)) _
+    (cellAt (args .list .now) (args .rep + 1)) (at-else .if1 .left)
     old more)
 
 returns-3 : tie.Need-returns-3
@@ -58,10 +60,14 @@ returns-3 c =
     let other = sym (c .before .is-next .ensures) ∙ c .if2 .left in
     λ readable new narrow low.
     let old = at-add-at .add-at .ensures _ readable (rw same narrow) (rw same low) in
-    rw (other, ← same) (does-old (pastIn (args .table .now)) (args .slot .0) (cellAt (args .list .now) (args .at)) _ (at-else .if1 .left) old)
+    rw (other, ← same)
+    (does-old (pastIn (args .table .now)) (args .slot .0) (cellAt (args .list .now) (args .at)) _
+    (at-else .if1 .left) old)
 
 pub verify-cell-spec : {M : Type 1} → statement M
 verify-cell-spec =
     tie.close
-    (tie.spec (λ c κs. search needs) returns (λ c κs. search needs) (λ c κs. search needs) add-new (λ c κs. search needs) (λ c. search needs)
-    (λ c. search needs) (λ c. search needs) (λ c. search needs) returns-2 (λ c. search needs) (λ c. search needs) (λ c. search needs) returns-3)
+    (tie.spec (λ c κs. search needs) returns (λ c κs. search needs) (λ c κs. search needs) add-new
+    (λ c κs. search needs) (λ c. search needs)
+    (λ c. search needs) (λ c. search needs) (λ c. search needs) returns-2 (λ c. search needs) (λ c. search needs)
+    (λ c. search needs) returns-3)

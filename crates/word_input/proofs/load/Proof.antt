@@ -16,7 +16,8 @@ loop-holds : tie.Need-loop-holds Inv-loop μ-loop
 loop-holds c = refl
 
 loop-again : tie.Need-loop-again Inv-loop μ-loop
-loop-again c = let call = c .before .before in search (needs, call .put .kept, call .before .before .before .before .before .before .before .loop .inv)
+loop-again c = let call = c .before .before in
+    search (needs, call .put .kept, call .before .before .before .before .before .before .before .loop .inv)
 
 pub load-spec : {M : Type 1} → statement M
 load-spec =

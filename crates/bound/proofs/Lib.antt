@@ -1,0 +1,4 @@
+pub mod Builder
+pub mod CellCosts
+pub mod Cells
+pub mod CostsLaws

@@ -1,0 +1,5 @@
+pub mod CursorsLaws
+pub mod LiteralLaws
+pub mod MadeLaws
+pub mod OperationsLaws
+pub mod RecordsLaws

@@ -1,0 +1,4 @@
+pub mod AcceptedLaws
+pub mod AnswersLaws
+pub mod ReadLaws
+pub mod TableLaws

@@ -1,0 +1,12 @@
+pub mod Accepted
+pub mod EmitLaws
+pub mod Laws
+pub mod MeaningLaws
+pub mod ReachedLaws
+pub mod ReadBack
+pub mod SortLaws
+pub mod SortsLaws
+pub mod Steps
+pub mod StructureLaws
+pub mod Tests
+pub mod Written

@@ -1,0 +1,368 @@
+-- Laws of the definitions of RecordLaws.
+use mathlib.Core.Path.{_≡_, refl, sym, ap, _∙_, subst}
+use mathlib.Core.Bool.{Bool, true, false, not, cond, true≢false}
+use mathlib.Core.List.{List, [], _∷_, map}
+use mathlib.Core.Option.{Option, some, none}
+use Prim.Native.Nat.{ℕ, zero, suc, _+_, _-_, _^_, _≤_, _<_}
+use native.Mathlib.Nat.{add-zero}
+use native.Mathlib.Numerals.{add-one}
+use native.Mathlib.Omega.{arith}
+use lib.ListN.{length, getD, set, drop, drop-of-length-le}
+use lib.Seq.{drop-cons, getD-drop}
+use lib.Dec.{eqb, ltb}
+use borrow.Author.Tests.{ltb-true, ltb-false, lt-ltb}
+use Rattle.bitvec.specs.Bits.{bit}
+use Rattle.engine.specs.Call.{Call, Name}
+use Rattle.engine.specs.Call as c
+use Rattle.engine.specs.Meaning.{Assignment, valueAt, run}
+use Rattle.engine.specs.Sorts.{Sort, sortAt, Context, start, after}
+use Rattle.engine.specs.Encode.{Op, makesTerm, operationAt, countAt, nextAt, callOf, callAt, callsFrom, decode}
+use Rattle.engine.specs.Encode as o
+use Rattle.engine.specs.WellFormed.{wellFormed, readFrom, outcome}
+use Rattle.engine.specs.Emit.{overwrite}
+use Rattle.engine.proofs.ReadBack.{decode-formed}
+use Rattle.engine.proofs.SortLaws.{Sorted, run-sorted}
+use Rattle.engine.proofs.Steps.{calls-end, calls-step, calls-enough}
+use Rattle.engine.proofs.ReachedLaws.{right-read}
+use Rattle.call_list.specs.Operations.{isDeclare}
+use Rattle.call_list.specs.Literal.{payloads}
+use Rattle.engine.specs.Reached.{Tabled}
+use Rattle.term_table.specs.Tables.{pickList}
+use Rattle.term_table.specs.Near.{sortNear, noteRecent}
+use Rattle.term_table.specs.Sorted.{ReadTo}
+use Rattle.term_table.proofs.SortedLaws.{read-start, read-next, terms-next, tabled-before, sorts-few}
+use Rattle.term_table.specs.NearLaws.{Spaced}
+use Rattle.term_table.proofs.NearLawsLaws.{Recent, recent-start, ring-more, near-is}
+use Rattle.checker.specs.Tables.{pickPlace}
+use Rattle.call_list.proofs.CursorsLaws.{nothingRead, cursorNext, bit-low}
+use Rattle.call_list.specs.declared.Cursor.{Cursor}
+use Rattle.term_values.specs.Values.{valueNumber}
+use Rattle.eval.specs.Evaluated.{assigned, falseAssertions, bitsFault, termValues}
+use Rattle.term_values.proofs.ValuesLaws.{valueBy}
+use Rattle.eval.proofs.AssignedLaws.{first, rest, assigned-gives, assigned-fits}
+use Rattle.eval.proofs.Evaluating.{Evaluating, evaluating-start, evaluating-term, evaluating-declare}
+use Rattle.eval.proofs.Evaluating.{evaluating-assert, evaluating-check, evaluating-end}
+use Rattle.term_values.specs.Records.{numberIn, sortBelow}
+use Rattle.term_values.proofs.RecordsLaws.{record-value}
+use Rattle.eval.specs.Records.{bitsWrong, wrongBits, falseOf, valuesNext}
+use Rattle.eval.proofs.RecordsLaws.{falseBy}
+use Rattle.eval.specs.Evaluable.{Evaluable}
+
+-- ---- bits
+
+pub first-drop : (l : List ℕ) (d : ℕ) → first (drop d l) ≡ getD l d 0
+first-drop l d = getD-drop d l 0 0 ∙ ap (λ (k : ℕ). getD l k 0) (add-zero d)
+
+pub rest-drop : (l : List ℕ) (d : ℕ) → rest (drop d l) ≡ drop (suc d) l
+rest-drop [] zero = refl
+rest-drop [] (suc d) = refl
+rest-drop (x ∷ l) zero = refl
+rest-drop (x ∷ l) (suc d) = rest-drop l d
+
+declare-fault : (k : ℕ) (n : Name) (w : ℕ) (cs : List Call) (l : List ℕ) (d : ℕ)
+    → bitsFault k (c.declare n w ∷ cs) (drop d l)
+    ≡ pickPlace (bitsWrong l d w) (some k) (bitsFault (suc k) cs (drop (suc d) l))
+unfolding bitsFault
+declare-fault k n w cs l d = go (ltb d (length l)) refl (ltb (getD l d 0) (2 ^ w)) refl
+  where
+    go : (a : Bool) → ltb d (length l) ≡ a → (b : Bool) → ltb (getD l d 0) (2 ^ w) ≡ b
+        → bitsFault k (c.declare n w ∷ cs) (drop d l)
+        ≡ pickPlace (cond a (not b) true) (some k) (bitsFault (suc k) cs (drop (suc d) l))
+    go true p true q = rw (drop-cons l d 0 (ltb-true d (length l) p), q)
+    go true p false q = rw (drop-cons l d 0 (ltb-true d (length l) p), q)
+    go false p b q = rw (drop-of-length-le l (ltb-false d (length l) p))
+
+abbrev nameOf : (ℕ → ℕ) → Name
+nameOf p = record { letter = getD o.letters (p 0) c.n; index = p 1; suffix = getD o.suffixes (p 2) c.none }
+
+fault-op : (op : Op) (m : ℕ) (p : ℕ → ℕ) (cs : List Call) (l : List ℕ) (k d : ℕ)
+    → bitsFault k (callOf op m p ∷ cs) (drop d l)
+    ≡ pickPlace (cond (isDeclare op) (bitsWrong l d (p 3)) false) (some k)
+    (bitsFault (k + bit (makesTerm op)) cs (drop (d + bit (isDeclare op)) l))
+unfolding bitsFault
+fault-op o.boolLit m p cs l k d = rw (add-one k, add-zero d)
+fault-op o.boolIte m p cs l k d = rw (add-one k, add-zero d)
+fault-op o.not m p cs l k d = rw (add-one k, add-zero d)
+fault-op o.and m p cs l k d = rw (add-one k, add-zero d)
+fault-op o.lit m p cs l k d = rw (add-one k, add-zero d)
+fault-op o.equal m p cs l k d = rw (add-one k, add-zero d)
+fault-op o.ite m p cs l k d = rw (add-one k, add-zero d)
+fault-op o.concat m p cs l k d = rw (add-one k, add-zero d)
+fault-op o.extract m p cs l k d = rw (add-one k, add-zero d)
+fault-op o.bvnot m p cs l k d = rw (add-one k, add-zero d)
+fault-op (o.op2 op) m p cs l k d = rw (add-one k, add-zero d)
+fault-op (o.compare op) m p cs l k d = rw (add-one k, add-zero d)
+fault-op o.declare m p cs l k d = rw (add-one k, add-one d) (declare-fault k (nameOf p) (p 3) cs l d)
+fault-op o.assert m p cs l k d = rw (add-zero k, add-zero d)
+fault-op o.check m p cs l k d = rw (add-zero k, add-zero d)
+fault-op o.unknown m p cs l k d = rw (add-zero k, add-zero d)
+
+module _ (w bits : List ℕ) (at terms declared : ℕ) (inside : at < length w) where
+  -- At a record, the fault of the bits is there, or what remains says it.
+  fault-step : (n : ℕ) → bitsFault terms (callsFrom (suc n) w at) (drop declared bits)
+      ≡ pickPlace (wrongBits w bits declared at) (some terms)
+      (bitsFault (terms + bit (makesTerm (operationAt w at))) (callsFrom n w (nextAt w at))
+      (drop (declared + bit (isDeclare (operationAt w at))) bits))
+  fault-step n =
+      rw (calls-step n w at inside)
+      (fault-op (operationAt w at) (countAt w at) (payloads w at) (callsFrom n w (nextAt w at)) bits terms declared)
+
+  -- The same, where as many records may be read as words are left.
+  fault-turn : bitsFault terms (callsFrom (length w - at) w at) (drop declared bits)
+      ≡ pickPlace (wrongBits w bits declared at) (some terms)
+      (bitsFault (terms + bit (makesTerm (operationAt w at))) (callsFrom (length w - nextAt w at) w (nextAt w at))
+      (drop (declared + bit (isDeclare (operationAt w at))) bits))
+  fault-turn =
+      let fuel : length w - at ≡ suc (length w - at - 1) = omega arith in
+      rw (
+        fuel,
+        ← calls-enough (length w - at - 1) (length w - nextAt w at) w (nextAt w at) (omega arith) (omega arith),
+      )
+      (fault-step (length w - at - 1))
+
+-- What the loop over the records keeps: the fault of the bits is what the records left say.
+pub record BitsTo (w bits : List ℕ) (done : Cursor) : Type 0 where
+  pub few-terms : done .terms ≤ done .at
+  pub few-names : done .declared ≤ done .at
+  pub left :
+      bitsFault 0 (decode w) bits
+      ≡ bitsFault (done .terms) (callsFrom (length w - done .at) w (done .at)) (drop (done .declared) bits)
+
+pub bits-start : (w bits : List ℕ) → BitsTo w bits nothingRead
+bits-start w bits = record {
+  few-terms = omega arith;
+  few-names = omega arith;
+  left = ap (λ (n : ℕ). bitsFault 0 (callsFrom n w 0) bits) (let e : length w ≡ length w - 0 = omega arith in e);
+}
+
+module _ {w bits : List ℕ} {done : Cursor} (k : BitsTo w bits done) where
+  pub bits-here : done .at < length w → wrongBits w bits (done .declared) (done .at) ≡ true
+      → bitsFault 0 (decode w) bits ≡ some (done .terms)
+  bits-here inside wrong = k .left ∙ fault-turn w bits (done .at) (done .terms) (done .declared) inside ∙ rw wrong
+
+  pub bits-next : done .at < length w → wrongBits w bits (done .declared) (done .at) ≡ false
+      → BitsTo w bits (cursorNext w done)
+  bits-next inside right = record {
+    few-terms = omega (arith, k .few-terms, bit-low (makesTerm (operationAt w (done .at))));
+    few-names = omega (arith, k .few-names, bit-low (isDeclare (operationAt w (done .at))));
+    left = k .left ∙ fault-turn w bits (done .at) (done .terms) (done .declared) inside ∙ rw right;
+  }
+
+  pub bits-end : length w ≤ done .at → bitsFault 0 (decode w) bits ≡ none
+  unfolding bitsFault
+  bits-end past = k .left ∙ rw (calls-end (length w - done .at) w (done .at) past)
+
+-- ---- numbers and counts
+
+module _ {cs : List Call} {ρ : Assignment} {slice₀ slice : List ℕ} {terms falses : ℕ} {todo : List Call} {x : Context}
+    (bits : List ℕ) (declared : ℕ) (s : ℕ → Sort) (room : length (run ρ [] cs) ≤ length slice₀)
+    (agrees : (k : ℕ) → k < length (x .sorts) → s k ≡ sortAt (x .sorts) k) where
+  -- A call, by its operation and payloads: its number is written, if it makes a term, and counted, if it is a false
+  -- assertion.
+  evaluating-op : (op : Op) (m : ℕ) (p : ℕ → ℕ)
+      → Evaluating cs ρ slice₀ slice (drop declared bits) (callOf op m p ∷ todo) terms falses x
+      → (isDeclare op ≡ true → first (drop declared bits) < 2 ^ p 3)
+      → Evaluating cs ρ slice₀
+      (pickList (makesTerm op)
+      (set slice terms (valueBy s (numberIn slice) (first (drop declared bits)) (callOf op m p))) slice)
+      (drop (declared + bit (isDeclare op)) bits) todo (terms + bit (makesTerm op))
+      (falses + falseOf op (numberIn slice (p 0)))
+      (after x (callOf op m p))
+  evaluating-op o.boolLit m p e low =
+      rw (add-zero declared, add-zero falses) (evaluating-term _ s (first (drop declared bits)) e room agrees)
+  evaluating-op o.boolIte m p e low =
+      rw (add-zero declared, add-zero falses) (evaluating-term _ s (first (drop declared bits)) e room agrees)
+  evaluating-op o.not m p e low =
+      rw (add-zero declared, add-zero falses) (evaluating-term _ s (first (drop declared bits)) e room agrees)
+  evaluating-op o.and m p e low =
+      rw (add-zero declared, add-zero falses) (evaluating-term _ s (first (drop declared bits)) e room agrees)
+  evaluating-op o.lit m p e low =
+      rw (add-zero declared, add-zero falses) (evaluating-term _ s (first (drop declared bits)) e room agrees)
+  evaluating-op o.equal m p e low =
+      rw (add-zero declared, add-zero falses) (evaluating-term _ s (first (drop declared bits)) e room agrees)
+  evaluating-op o.ite m p e low =
+      rw (add-zero declared, add-zero falses) (evaluating-term _ s (first (drop declared bits)) e room agrees)
+  evaluating-op o.concat m p e low =
+      rw (add-zero declared, add-zero falses) (evaluating-term _ s (first (drop declared bits)) e room agrees)
+  evaluating-op o.extract m p e low =
+      rw (add-zero declared, add-zero falses) (evaluating-term _ s (first (drop declared bits)) e room agrees)
+  evaluating-op o.bvnot m p e low =
+      rw (add-zero declared, add-zero falses) (evaluating-term _ s (first (drop declared bits)) e room agrees)
+  evaluating-op (o.op2 op) m p e low =
+      rw (add-zero declared, add-zero falses) (evaluating-term _ s (first (drop declared bits)) e room agrees)
+  evaluating-op (o.compare op) m p e low =
+      rw (add-zero declared, add-zero falses) (evaluating-term _ s (first (drop declared bits)) e room agrees)
+  evaluating-op o.declare m p e low =
+      rw (add-one declared, add-zero falses, ← rest-drop bits declared)
+      (evaluating-declare (nameOf p) (p 3) e (low refl))
+  evaluating-op o.assert m p e low = rw (add-zero declared, add-zero terms) (evaluating-assert (p 0) e room)
+  evaluating-op o.check m p e low = rw (add-zero declared, add-zero terms, add-zero falses) (evaluating-check e)
+  evaluating-op o.unknown m p e low = rw (add-zero declared, add-zero terms, add-zero falses) (evaluating-check e)
+
+-- The bits fit where no fault of them is found.
+no-fault : (b : Bool) (k : ℕ) (later : Option ℕ) → pickPlace b (some k) later ≡ none → (b ≡ false) × (later ≡ none)
+no-fault true k later e = let z : _≡_ {A = ℕ} 0 1 = cc in absurd (omega arith)
+no-fault false k later e = (refl, e)
+
+bits-low : (bits : List ℕ) (declared width : ℕ) → bitsWrong bits declared width ≡ false →
+    getD bits declared 0 < 2 ^ width
+bits-low bits declared width = go (ltb declared (length bits)) (ltb (getD bits declared 0) (2 ^ width)) refl
+  where
+    go : (a b : Bool) → ltb (getD bits declared 0) (2 ^ width) ≡ b → cond a (not b) true ≡ false →
+        getD bits declared 0 < 2 ^ width
+    go true true q e = ltb-true (getD bits declared 0) (2 ^ width) q
+    go true false q e = absurd (true≢false e)
+    go false b q e = absurd (true≢false e)
+
+-- An operation is at most one false assertion.
+pub false-low : (op : Op) (v : ℕ) → falseOf op v ≤ 1
+false-low o.assert v = bit-low (eqb v 0)
+false-low o.boolLit v = omega arith
+false-low o.boolIte v = omega arith
+false-low o.not v = omega arith
+false-low o.and v = omega arith
+false-low o.lit v = omega arith
+false-low o.equal v = omega arith
+false-low o.ite v = omega arith
+false-low o.concat v = omega arith
+false-low o.extract v = omega arith
+false-low o.bvnot v = omega arith
+false-low (o.op2 op) v = omega arith
+false-low (o.compare op) v = omega arith
+false-low o.declare v = omega arith
+false-low o.check v = omega arith
+false-low o.unknown v = omega arith
+
+-- How far a well-formed list is evaluated, between two records.
+pub record EvaluatedTo (gap : ℕ) (w bits slice₀ table places slice recent : List ℕ) (done : Cursor) (falses : ℕ) : Type
+    0 where
+  pub leaving : Context
+  pub context : Context
+  pub fuel : ℕ
+  pub evaluating :
+      Evaluating (decode w) (assigned (decode w) bits) slice₀ slice (drop (done .declared) bits)
+      (callsFrom fuel w (done .at))
+      (done .terms) falses context
+  pub read : ReadTo w (done .at) context table (done .terms)
+  pub tabled : Tabled table (leaving .sorts)
+  pub spaced : Spaced w places gap (length (leaving .sorts))
+  pub ring : Recent (length table) recent (context .sorts)
+  pub enough : length w - done .at ≤ fuel
+  pub rest : readFrom fuel w (done .at) context ≡ wellFormed leaving
+  pub fits : bitsFault (done .terms) (callsFrom fuel w (done .at)) (drop (done .declared) bits) ≡ none
+  pub few-terms : done .terms ≤ done .at
+  pub few-names : done .declared ≤ done .at
+  pub few-falses : falses ≤ done .at
+  pub room : length (termValues w bits) ≤ length slice₀
+
+module _ {gap : ℕ} {w bits slice₀ table places slice recent : List ℕ} {done : Cursor} {falses : ℕ}
+    (k : EvaluatedTo gap w bits slice₀ table places slice recent done falses) where
+  abbrev operation : Op
+  operation = operationAt w (done .at)
+
+  -- The sorts of the terms so far, from the tables.
+  abbrev sort : ℕ → Sort
+  sort = sortNear table recent places gap w (done .terms)
+
+  says : (j : ℕ) → j < length (k .context .sorts) → sort j ≡ sortAt (k .context .sorts) j
+  says =
+      near-is (k .read) recent places gap (length (k .leaving .sorts)) (k .ring) (k .spaced)
+      (let few = sorts-few (k .fuel) w (done .at) (k .context) (k .leaving) (k .rest) in let c = k .read .counts in
+      omega arith)
+
+  -- One record more.
+  pub evaluated-next : done .at < length w
+      → EvaluatedTo gap w bits slice₀ table places
+      (valuesNext sort slice w (done .terms) (getD bits (done .declared) 0) (done .at))
+      (noteRecent sort table recent w (done .at) (done .terms))
+      (cursorNext w done) (falses + falseBy slice w (done .at))
+  evaluated-next inside = go (k .fuel) (k .enough) (k .evaluating) (k .rest) (k .fits)
+    where
+      go : (fuel : ℕ) → length w - done .at ≤ fuel
+          → Evaluating (decode w) (assigned (decode w) bits) slice₀ slice (drop (done .declared) bits)
+          (callsFrom fuel w (done .at))
+          (done .terms) falses (k .context)
+          → readFrom fuel w (done .at) (k .context) ≡ wellFormed (k .leaving)
+          → bitsFault (done .terms) (callsFrom fuel w (done .at)) (drop (done .declared) bits) ≡ none
+          → EvaluatedTo gap w bits slice₀ table places
+          (valuesNext sort slice w (done .terms) (getD bits (done .declared) 0) (done .at))
+          (noteRecent sort table recent w (done .at) (done .terms))
+          (cursorNext w done) (falses + falseBy slice w (done .at))
+      go zero enough e rest fits = absurd (omega arith)
+      go (suc n) enough e rest fits =
+          let right = right-read n w (done .at) (k .context) (k .leaving) inside rest in
+          let clear =
+          no-fault (wrongBits w bits (done .declared) (done .at)) (done .terms) _
+          (sym (fault-step w bits (done .at) (done .terms) (done .declared) inside n) ∙ fits) in
+          let given = first-drop bits (done .declared) in
+          let value =
+          record-value sort slice w (done .terms) (getD bits (done .declared) 0) (done .at) (k .context) (right .0) in
+          let next =
+          evaluating-op bits (done .declared) (sortBelow sort (done .terms)) (k .room)
+          (λ j h. rw (lt-ltb j (done .terms) (let c = k .read .counts in omega arith)) (says j h))
+          operation (countAt w (done .at)) (payloads w (done .at)) (rw (calls-step n w (done .at) inside) at e)
+          (λ d. rw given (bits-low bits (done .declared) (payloads w (done .at) 3) (rw d at (clear .0)))) in
+          record {
+            leaving = k .leaving;
+            context = after (k .context) (callAt w (done .at));
+            fuel = n;
+            evaluating = rw (value, ← given) next;
+            read =
+                read-next (k .read) (right .0) table _
+                (tabled-before n table w (nextAt w (done .at)) (after (k .context) (callAt w (done .at))) (k .leaving)
+                (right .1) (k .tabled))
+                (terms-next (k .read) (right .0));
+            tabled = k .tabled;
+            spaced = k .spaced;
+            ring = ring-more (k .read) (right .0) sort says recent (k .ring);
+            enough = omega arith;
+            rest = right .1;
+            fits = clear .1;
+            few-terms = omega (arith, k .few-terms, bit-low (makesTerm operation));
+            few-names = omega (arith, k .few-names, bit-low (isDeclare operation));
+            few-falses = omega (arith, k .few-falses, false-low operation (numberIn slice (payloads w (done .at) 0)));
+            room = k .room;
+          }
+
+-- The values of a well-formed list are of the sorts of its terms.
+pub values-sorted : (w bits : List ℕ) (y : Context) → outcome w ≡ wellFormed y → Sorted (y .sorts) (termValues w bits)
+values-sorted w bits y e =
+    let all = decode-formed w y e in
+    subst (λ (x : Context). Sorted (x .sorts) (termValues w bits)) (all .left)
+    (run-sorted (assigned (decode w) bits) start [] (decode w) (all .formed)
+    (assigned-fits start (decode w) (all .formed) bits)
+    (record { many = refl; each = λ k h. absurd (omega arith) }))
+
+pub evaluated-start : {gap : ℕ} {w bits slice table places : List ℕ} (recent : List ℕ) →
+    Evaluable gap w bits slice table places
+    → EvaluatedTo gap w bits slice table places slice recent nothingRead 0
+evaluated-start {gap} {w} {bits} {slice} {table} {places} recent k =
+    let formed = decode-formed w (k .leaving) (k .formed) .formed in
+    record {
+      leaving = k .leaving;
+      context = start;
+      fuel = length w;
+      evaluating =
+          evaluating-start (decode w) (assigned (decode w) bits) slice bits formed
+          (assigned-gives start (decode w) formed bits);
+      read = read-start w table;
+      tabled = k .tabled;
+      spaced = k .spaced;
+      ring = recent-start (length table) recent;
+      enough = omega arith;
+      rest = k .formed;
+      fits = k .fits;
+      few-terms = omega arith;
+      few-names = omega arith;
+      few-falses = omega arith;
+      room = let many = values-sorted w bits (k .leaving) (k .formed) .many in let room = k .room in omega arith;
+    }
+
+-- At the end every term's number is written and every false assertion counted.
+pub evaluated-end : {gap : ℕ} {w bits slice₀ table places slice recent : List ℕ} {done : Cursor} {falses : ℕ}
+    → EvaluatedTo gap w bits slice₀ table places slice recent done falses → length w ≤ done .at
+    → (slice ≡ overwrite slice₀ 0 (map valueNumber (termValues w bits)))
+    × (falses ≡ falseAssertions (valueAt (termValues w bits)) (decode w))
+evaluated-end {gap} {w} {bits} {slice₀} {table} {places} {slice} {recent} {done} {falses} k past =
+    evaluating-end (decode w) (assigned (decode w) bits) slice₀ slice (drop (done .declared) bits) (done .terms) falses
+    (k .context) (rw (calls-end (k .fuel) w (done .at) past) at (k .evaluating))

@@ -1,0 +1,81 @@
+-- Laws that the loops over the replacements go by, and what is known of a number and of a header that was read.
+use Prim.Native.Nat.{ℕ, zero, suc, _+_, _-_, _^_, _<_, _≤_}
+use mathlib.Core.Path.{_≡_, refl}
+use mathlib.Core.Bool.{Bool, true, false, cond}
+use mathlib.Core.List.{List}
+use native.Mathlib.Numerals.{sub-one}
+use native.Mathlib.Omega.{arith}
+use lib.ListN.{length}
+use lib.Dec.{ltb}
+use Rattle.logic.specs.declared.Fault.{Fault}
+use Rattle.fields.specs.declared.Scan.the-variants as S
+use Rattle.fields.specs.declared.Number.{Number}
+use Rattle.fields.specs.declared.Number.the-variants as N
+use Rattle.fields.specs.Field.{fault, numberAt}
+use Rattle.fields.proofs.AcceptedLaws.{number-read}
+use Rattle.items.specs.declared.Header.{Header}
+use Rattle.items.specs.declared.Opening.the-variants as O
+use Rattle.items.specs.Step.{Step}
+use Rattle.items.specs.Step as T
+use Rattle.items.specs.Items.{onHeaderNumber, countsAt, headerAt, listedNumberAt, ascending}
+
+-- A run of replacements at its end, at a turn and at a fault.
+module _ {A : Type 0} (step : ℕ → ℕ → Step) (item : ℕ → A) where
+  pub ascending-none : (k least at : ℕ) → k ≤ 0 → ascending step item k least at .scan ≡ S.Clean at
+  unfolding ascending
+  ascending-none zero least at none = refl
+  ascending-none (suc k) least at none = absurd (omega arith)
+
+  pub ascending-turn :
+      (k least at : ℕ) {above next : ℕ} → 0 < k → step least at ≡ T.Read above next →
+      ascending step item k least at .scan ≡ ascending step item (k - 1) above next .scan
+  unfolding ascending
+  ascending-turn zero least at some read = absurd (omega arith)
+  ascending-turn (suc k) least at some read = rw (read, sub-one)
+
+  pub ascending-fault :
+      (k least at : ℕ) {e : Fault} → 0 < k → step least at ≡ T.Refused e → ascending step item k least at .scan
+      ≡ S.Refused e
+  unfolding ascending
+  ascending-fault zero least at some refused = absurd (omega arith)
+  ascending-fault (suc k) least at some refused = rw refused
+
+-- A number outside the records is a payload.
+pub listed-low : (w : List ℕ) (at : ℕ) {n next : ℕ} → listedNumberAt w at ≡ N.Value n next → n < 2 ^ 29
+unfolding listedNumberAt
+listed-low w at {n} {next} read = go (ltb at (length w)) read
+  where
+    go : (inside : Bool) → cond inside (numberAt w (2 ^ 29 - 1) (length w) at) (N.Refused (fault 1 (length w)))
+        ≡ N.Value n next → n < 2 ^ 29
+    go true e = omega (arith, number-read w (2 ^ 29 - 1) (length w) at e .bounded)
+    go false e = let z : _≡_ {A = ℕ} 0 1 = cc in absurd (omega arith)
+
+-- A header that was read has at most 4,096 slots.
+pub header-read : (w : List ℕ) {h : Header} → headerAt w ≡ O.Read h → h .base + h .added ≤ 4096
+unfolding headerAt countsAt
+header-read w {h} read = base-read (numberAt w 4096 4 0) refl read
+  where
+    counts : (base added : ℕ) → added ≤ 4096 - base → base ≤ 4096 → (c₁ c₂ : Number) →
+        onHeaderNumber c₁ (λ (cellreps : ℕ). onHeaderNumber c₂ (λ (netreps : ℕ).
+        O.Read record { base = base; added = added; cellreps = cellreps; netreps = netreps })) ≡ O.Read h →
+        h .base + h .added ≤ 4096
+    counts base added low top (N.Refused f) c₂ e = let z : _≡_ {A = ℕ} 0 1 = cc in absurd (omega arith)
+    counts base added low top (N.Value a b) (N.Refused f) e = let z : _≡_ {A = ℕ} 0 1 = cc in absurd (omega arith)
+    counts base added low top (N.Value a b) (N.Value c d) e =
+        let same : record { base = base; added = added; cellreps = a; netreps = c } ≡ h = cc in
+        rw (← same) (omega arith)
+
+    added-read : (base : ℕ) → base ≤ 4096 → (n : Number) → numberAt w (4096 - base) 4 1 ≡ n →
+        onHeaderNumber n (λ (added : ℕ). countsAt w base added) ≡ O.Read h → h .base + h .added ≤ 4096
+    added-read base top (N.Refused f) n e = let z : _≡_ {A = ℕ} 0 1 = cc in absurd (omega arith)
+    added-read base top (N.Value added next) n e =
+        counts base added (number-read w (4096 - base) 4 1 n .bounded) top (numberAt w 4096 4 2) (numberAt w 4096 4 3) e
+
+    base-read : (n : Number) → numberAt w 4096 4 0 ≡ n →
+        onHeaderNumber n
+        (λ (base : ℕ). onHeaderNumber (numberAt w (4096 - base) 4 1) (λ (added : ℕ). countsAt w base added))
+        ≡ O.Read h →
+        h .base + h .added ≤ 4096
+    base-read (N.Refused f) n e = let z : _≡_ {A = ℕ} 0 1 = cc in absurd (omega arith)
+    base-read (N.Value base next) n e =
+        added-read base (number-read w 4096 4 0 n .bounded) (numberAt w (4096 - base) 4 1) refl e

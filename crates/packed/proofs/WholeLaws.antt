@@ -1,0 +1,100 @@
+-- Laws of the definitions of Whole.
+use mathlib.Core.Path.{_≡_, refl}
+use mathlib.Core.Bool.{Bool, true, false, cond}
+use mathlib.Core.List.{List, [], _∷_}
+use Prim.Native.Nat.{ℕ, _≤_}
+use native.Mathlib.Omega.{arith}
+use lib.Dec.{ltb}
+use lib.ListN.{length}
+use Rattle.logic.specs.declared.Fault.{Fault}
+use Rattle.builder.specs.declared.Counts.{Counts}
+use Rattle.cell.specs.Design.{Design, total}
+use Rattle.engine.specs.Encode.{encode}
+use Rattle.design_list.specs.Read.{Read, refused, accepted, read}
+use Rattle.design_list.proofs.AcceptedLaws.{accepted-read}
+use Rattle.refusals.specs.Small.{Small}
+use Rattle.refusals.proofs.SmallLaws.{read-small}
+use Rattle.order.specs.Verify.{built, verify}
+use Rattle.requirement.specs.declared.Verified.{Verified}
+use Rattle.requirement.specs.declared.Verified.the-variants.{Refused, NothingAsked, Asked}
+use Rattle.requirement.specs.Verified.{numberOf, valueOf, counted, told, ofDesign, roomed, ofRead, verified}
+use Rattle.requirement.specs.Verified.{ofReadUnroomed, unroomed}
+use Rattle.requirement.proofs.AnsweredLaws.{few-counts}
+use Rattle.packed.specs.Verified.{packedVerified, PackedVerified, lent, PackedCounts}
+use Rattle.packed.specs.Whole.{Whole}
+
+-- Numbers of document 01's faults, and values of at most 2^27.
+abbrev Low : Verified → Type 0
+Low a = (numberOf a ≤ 14) × (valueOf a ≤ 134217728)
+
+low-whole : (a : Verified) → Low a → Whole a (packedVerified a)
+low-whole (Refused e) low = record { number = omega arith; asked = omega arith; value = omega arith }
+low-whole (NothingAsked n) low = record { number = omega arith; asked = omega arith; value = omega arith }
+low-whole (Asked n) low = record { number = omega arith; asked = omega arith; value = omega arith }
+
+told-low : (l : List ℕ) (n : Counts) → n .words ≤ 134217728 → Low (told l n)
+told-low [] n few = (omega arith, few)
+told-low (o ∷ l) n few = (omega arith, few)
+
+module _ (w : List ℕ) where
+  refused-low : {e : Fault} → read w ≡ refused e → Low (Refused e)
+  refused-low {e} is =
+      let small : Small e = rw is at (read-small w) in (omega (arith, small .0), omega (arith, small .1))
+
+  module _ {d : Design} {reps pairs : ℕ} (is : read w ≡ accepted d reps pairs) where
+    answered-low : Low (ofDesign d)
+    answered-low = told-low ((built d) .res) (counted (verify d)) (few-counts w is 0 0 .words)
+
+    roomed-low : (room recorded : ℕ) → Low (roomed d room recorded)
+    roomed-low room recorded = go (ltb room (length (encode (verify d)))) (ltb recorded (total d))
+      where
+        go : (a b : Bool) → Low (cond a (Refused (record { number = 14; place = length (encode (verify d)) }))
+            (cond b (Refused (record { number = 14; place = total d })) (ofDesign d)))
+        go true b = let few = few-counts w is 0 0 .words in (omega arith, few)
+        go false true = let low = accepted-read w is .low in (omega arith, omega arith)
+        go false false = answered-low
+
+  verified-low : (room recorded : ℕ) → Low (verified w room recorded)
+  unfolding verified
+  verified-low room recorded = go (read w) refl
+    where
+      go : (r : Read) → read w ≡ r → Low (ofRead r room recorded)
+      go (refused e) is = refused-low is
+      go (accepted d reps pairs) is = roomed-low is room recorded
+
+  unroomed-low : Low (unroomed w)
+  unfolding unroomed
+  unroomed-low = go (read w) refl
+    where
+      go : (r : Read) → read w ≡ r → Low (ofReadUnroomed r)
+      go (refused e) is = refused-low is
+      go (accepted d reps pairs) is = answered-low is
+
+lent-low : (a : Verified) (room : ℕ) → Low a → Low (lent a room)
+lent-low (Refused e) room low = low
+lent-low (NothingAsked n) room low = go (ltb room 3)
+  where
+    go : (b : Bool) → Low (cond b (Refused (record { number = 14; place = 3 })) (NothingAsked n))
+    go true = (omega arith, omega arith)
+    go false = low
+lent-low (Asked n) room low = go (ltb room 3)
+  where
+    go : (b : Bool) → Low (cond b (Refused (record { number = 14; place = 3 })) (Asked n))
+    go true = (omega arith, omega arith)
+    go false = low
+
+-- Of verify, from its contract: for every list and every two slices.
+pub verify-whole : {w calls recorded calls′ recorded′ : List ℕ} {r : ℕ}
+    → PackedVerified w calls recorded calls′ recorded′ r
+    → Whole (verified w (length calls) (length recorded)) r
+verify-whole {w} {calls} {recorded} said =
+    let room = length calls in
+    let marks = length recorded in
+    rw (said .answers) (low-whole (verified w room marks) (verified-low w room marks))
+
+-- Of counts likewise.
+pub counts-whole : {w before after : List ℕ} {r : ℕ} → PackedCounts w before after r
+    → Whole (lent (unroomed w) (length before)) r
+counts-whole {w} {before} said =
+    let room = length before in
+    rw (said .answers) (low-whole (lent (unroomed w) room) (lent-low (unroomed w) room (unroomed-low w)))

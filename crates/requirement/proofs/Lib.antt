@@ -1,0 +1,17 @@
+pub mod Accepted
+pub mod AnsweredLaws
+pub mod BitLocal
+pub mod BitRule
+pub mod Bound
+pub mod Declares
+pub mod Exists
+pub mod Filled
+pub mod MarksLaws
+pub mod Passes
+pub mod Prefix
+pub mod Required
+pub mod Solved
+pub mod StepsSafe
+pub mod Theorem
+pub mod WellFormed
+pub mod WorkMeets

@@ -1,0 +1,125 @@
+-- Document 01: what the order of work answers for a list of words and the room lent for its calls and its recorded
+-- marks, and what it leaves in the two slices. Every count is a count in the calls themselves.
+use mathlib.Core.Path.{_≡_}
+use mathlib.Core.Bool.{cond}
+use mathlib.Core.List.{List, [], _∷_, _++_}
+use Prim.Native.Nat.{ℕ, _+_}
+use lib.Dec.{ltb}
+use lib.ListN.{length, drop}
+use Rattle.builder.specs.declared.Counts.{Counts}
+use Rattle.requirement.specs.declared.Verified.{Verified}
+use Rattle.requirement.specs.declared.Verified.the-variants.{Refused, NothingAsked, Asked}
+use Rattle.cell.specs.Design.{Design, total}
+use Rattle.engine.specs.Call.{Letter, Suffix, Call}
+use Rattle.engine.specs.Call as c
+use Rattle.engine.specs.Meaning.{terms}
+use Rattle.engine.specs.Encode.{encode, decode}
+use Rattle.design_list.specs.Read.{Read, refused, accepted, read}
+use Rattle.working_out.specs.Loop.{Loop}
+use Rattle.order.specs.Verify.{built, verify}
+use Rattle.requirement.specs.Requirement3.{Requirement3}
+
+-- ---- counts
+
+-- A temporary is one name without a suffix, or two with x and y: it is counted at its first.
+abbrev pub isTemporary : Letter → Suffix → ℕ
+isTemporary c.n s = 0
+isTemporary c.p s = 0
+isTemporary c.t c.none = 1
+isTemporary c.t c.x = 1
+isTemporary c.t c.y = 0
+
+unfoldable pub temporaries : List Call → ℕ
+temporaries [] = 0
+temporaries (c.term t ∷ cs) = temporaries cs
+temporaries (c.declare name w ∷ cs) = isTemporary (name .letter) (name .suffix) + temporaries cs
+temporaries (c.assert k ∷ cs) = temporaries cs
+temporaries (c.check ∷ cs) = temporaries cs
+
+abbrev pub counted : List Call → Counts
+counted cs =
+    record { terms = Rattle.engine.specs.Meaning.terms cs; temporaries = temporaries cs; words = length (encode cs) }
+
+-- ---- the answer
+
+-- With no obligation nothing is asked.
+abbrev pub told : List ℕ → Counts → Verified
+told [] n = NothingAsked n
+told (o ∷ more) n = Asked n
+
+-- What an accepted list is answered where there is room.
+abbrev pub ofDesign : Design → Verified
+ofDesign d = told ((built d) .res) (counted (verify d))
+
+-- 14, the call slice before the recorded one, each at the room needed.
+abbrev pub roomed : Design → ℕ → ℕ → Verified
+roomed d room recorded =
+    cond (ltb room (length (encode (verify d)))) (Refused (record { number = 14; place = length (encode (verify d)) }))
+    (cond (ltb recorded (total d)) (Refused (record { number = 14; place = total d })) (ofDesign d))
+
+abbrev pub ofRead : Read → ℕ → ℕ → Verified
+ofRead (refused e) room recorded = Refused e
+ofRead (accepted d reps pairs) room recorded = roomed d room recorded
+
+-- The answer for a list, with the room of the two slices.
+unfoldable pub verified : List ℕ → ℕ → ℕ → Verified
+verified w room recorded = ofRead (read w) room recorded
+
+abbrev pub ofReadUnroomed : Read → Verified
+ofReadUnroomed (refused e) = Refused e
+ofReadUnroomed (accepted d reps pairs) = ofDesign d
+
+-- The answer for a list, with any room that suffices.
+unfoldable pub unroomed : List ℕ → Verified
+unroomed w = ofReadUnroomed (read w)
+
+-- ---- what the slices hold after it: a refusal changes nothing, success nothing past what it writes
+
+abbrev pub over : List ℕ → List ℕ → List ℕ
+over new old = new ++ drop (length new) old
+
+abbrev pub onSuccess : Verified → List ℕ → List ℕ → List ℕ
+onSuccess (Refused e) new old = old
+onSuccess (NothingAsked n) new old = over new old
+onSuccess (Asked n) new old = over new old
+
+abbrev pub writtenCalls : Read → List ℕ
+writtenCalls (refused e) = []
+writtenCalls (accepted d reps pairs) = encode (verify d)
+
+abbrev pub writtenMarks : Read → List ℕ
+writtenMarks (refused e) = []
+writtenMarks (accepted d reps pairs) = (built d) .st .marks
+
+-- The call words and the marks that a list has.
+unfoldable pub callWords : List ℕ → List ℕ
+callWords w = writtenCalls (read w)
+
+unfoldable pub marks : List ℕ → List ℕ
+marks w = writtenMarks (read w)
+
+unfoldable pub callsAfter : List ℕ → List ℕ → List ℕ → List ℕ
+callsAfter w calls recorded = onSuccess (verified w (length calls) (length recorded)) (callWords w) calls
+
+unfoldable pub recordedAfter : List ℕ → List ℕ → List ℕ → List ℕ
+recordedAfter w calls recorded = onSuccess (verified w (length calls) (length recorded)) (marks w) recorded
+
+-- ---- document 01's numbers and values of each case: a refusal's number and place; otherwise 0 and the words
+
+abbrev pub numberOf : Verified → ℕ
+numberOf (Refused e) = e .number
+numberOf (NothingAsked n) = 0
+numberOf (Asked n) = 0
+
+abbrev pub valueOf : Verified → ℕ
+valueOf (Refused e) = e .place
+valueOf (NothingAsked n) = n .words
+valueOf (Asked n) = n .words
+
+-- ---- requirement 3, of a list of words: what every accepted list without a current loop must have, said of its call
+-- words
+
+abbrev pub Required : List ℕ → Type 0
+Required w =
+    (d : Design) (reps pairs : ℕ) → read w ≡ accepted d reps pairs → (Loop d → ⊥) →
+    Requirement3 d (decode (callWords w))

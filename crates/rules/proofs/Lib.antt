@@ -1,0 +1,10 @@
+pub mod Cases
+pub mod ExamplesLaws
+pub mod Laws
+pub mod LocalLaws
+pub mod Monotone
+pub mod Number
+pub mod RefineLaws
+pub mod Ripple
+pub mod ShapeLaws
+pub mod WidthLaws

@@ -1,0 +1,10 @@
+pub mod CellBitsLaws
+pub mod CellShowsLaws
+pub mod FormulaLaws
+pub mod ProgLaws
+pub mod Refines
+pub mod Shows
+pub mod ShowsNumber
+pub mod ShowsShift
+pub mod Terms
+pub mod WpLaws

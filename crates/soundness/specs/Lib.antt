@@ -1,6 +1,0 @@
-pub mod Safe
-pub mod CellSafe
-pub mod Solve
-pub mod Unique
-pub mod Formed
-pub mod Temporaries

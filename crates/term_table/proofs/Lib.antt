@@ -1,0 +1,5 @@
+pub mod NearLawsLaws
+pub mod OriginsLaws
+pub mod PlacedLaws
+pub mod SortedLaws
+pub mod Sums

@@ -1,0 +1,455 @@
+-- Laws of the definitions of NearLaws.
+use mathlib.Core.Path.{_≡_, refl, sym, ap, ap₂, _∙_, subst}
+use mathlib.Core.Bool.{Bool, true, false, cond, _&&_}
+use mathlib.Core.List.{List, [], _∷_, _++_}
+use Prim.Native.Nat.{ℕ, zero, suc, _+_, _-_, _*_, _/_, _%_, _≤_, _<_}
+use native.Mathlib.Nat.{mod-lt, mod-eq-of-lt, div-add-mod', suc-mul, mul-le-mul-right}
+use native.Mathlib.Omega.{arith}
+use native.Mathlib.Decide.{ℕ-discrete}
+use native.Mathlib.Numerals.{sub-one}
+use lib.Arith.{digits-div, digits-mod}
+use lib.ListN.{length, getD, set, length-set, List·getD-append}
+use lib.Seq.{getD-append-seam, getD-set-same, getD-set-other}
+use lib.Dec.{eqb, leb, ltb}
+use borrow.Author.Tests.{lt-ltb, le-ltb, ltb-true, ltb-false, leb-true, leb-false, eqb-true, eqb-false}
+use Rattle.logic.specs.declared.Term.{Term}
+use Rattle.bitvec.specs.Bits.{bit}
+use Rattle.engine.proofs.Tests.{right-of}
+use Rattle.engine.proofs.Laws.{length-snoc}
+use Rattle.engine.specs.Sorts.{Sort, Context, start, after, sortAt}
+use Rattle.engine.specs.Encode.{makesTerm, operationAt, nextAt, callAt}
+use Rattle.engine.specs.Structure.{originOf, capped, termPlace, placeOfTerm, choose, guarded, sortFrom, originBy}
+use Rattle.engine.specs.Structure.{sortThrough, sortOfTerm}
+use Rattle.engine.proofs.StructureLaws.{Below, sortFrom-ext, from-low, known-below, place-end, place-here, place-next}
+use Rattle.engine.proofs.StructureLaws.{place-skip}
+use Rattle.engine.proofs.ReachedLaws.{Makes, one, nothing, makes-at, makes-op, Says, finds, passes-forward, low-passes}
+use Rattle.engine.proofs.ReachedLaws.{low-start}
+use Rattle.engine.specs.Reached.{Right}
+use Rattle.engine.specs.declared.Origin.{Origin}
+use Rattle.engine.specs.declared.Origin.the-variants.{Given, Same, Joined}
+use Rattle.term_table.specs.Tables.{pickList, recordSort}
+use Rattle.term_table.specs.Near.{placeNear, isRecent, originNear, sortVia, sortNear, recordBy, noteSort}
+use Rattle.term_table.specs.Near.{noteRecent, notePlace}
+use Rattle.term_table.specs.Sorted.{ReadTo}
+use Rattle.term_table.proofs.SortedLaws.{read-next, tabled-more}
+use Rattle.term_table.specs.Placed.{Placed}
+use Rattle.term_table.proofs.PlacedLaws.{next-place}
+use Rattle.term_table.specs.NearLaws.{Spaced}
+
+-- ---- sorts by what is known of each term
+
+pub via-low : (n : ℕ) (known : ℕ → Origin) (k : ℕ) → sortVia n known k ≤ 65
+unfolding sortVia
+via-low zero known k = omega arith
+via-low (suc n) known k = from-low (sortVia n known) (known k) (λ a. via-low n known a)
+
+module _ (known : ℕ → Origin) (below : (k : ℕ) → Below k (known k)) where
+  -- Any number of terms above k is enough.
+  via-enough : (n m k : ℕ) → k < n → k < m → sortVia n known k ≡ sortVia m known k
+  unfolding sortVia
+  via-enough zero m k h l = absurd (omega arith)
+  via-enough (suc n) zero k h l = absurd (omega arith)
+  via-enough (suc n) (suc m) k h l =
+      sortFrom-ext k (sortVia n known) (sortVia m known) (known k) (below k)
+      (λ a b. via-enough n m a (omega arith) (omega arith))
+
+  pub via-given : (k : ℕ) {s : ℕ} → known k ≡ Given s → sortVia (suc k) known k ≡ capped s
+  unfolding sortVia
+  via-given k e = rw e
+
+  pub via-same : (k : ℕ) {a : Term} → known k ≡ Same a → (a .0 < k)
+      × (sortVia (suc k) known k ≡ sortVia (suc (a .0)) known (a .0))
+  unfolding sortVia
+  via-same k {a} e =
+      let low : a .0 < k = subst (Below k) e (below k) in
+      (low, rw e (via-enough k (suc (a .0)) (a .0) low (omega arith)))
+
+  pub via-joined : (k : ℕ) {a b : Term} → known k ≡ Joined a b
+      → (a .0 < k) × (b .0 < k)
+      × (sortVia (suc k) known k ≡ capped (sortVia (suc (a .0)) known (a .0) + sortVia (suc (b .0)) known (b .0)))
+  unfolding sortVia
+  via-joined k {a} {b} e =
+      let low : (a .0 < k) × (b .0 < k) = subst (Below k) e (below k) in (
+        low .0,
+        low .1,
+        rw e
+            (ap₂ (λ (s t : ℕ). capped (s + t)) (via-enough k (suc (a .0)) (a .0) (low .0) (omega arith))
+            (via-enough k (suc (b .0)) (b .0) (low .1) (omega arith))),
+      )
+
+guarded-low : (k : ℕ) (d : Origin) → Below k (guarded k d)
+guarded-low k (Given s) = tt
+guarded-low k (Same a) = go (ltb (a .0) k) refl
+  where
+    go : (b : Bool) → ltb (a .0) k ≡ b → Below k (choose b (Same a) (Given 65))
+    go true e = ltb-true (a .0) k e
+    go false e = tt
+guarded-low k (Joined a b) = go (ltb (a .0) k) refl (ltb (b .0) k) refl
+  where
+    go : (p : Bool) → ltb (a .0) k ≡ p → (q : Bool) → ltb (b .0) k ≡ q
+        → Below k (choose p (choose q (Joined a b) (Given 65)) (Given 65))
+    go true e true f = (ltb-true (a .0) k e, ltb-true (b .0) k f)
+    go true e false f = tt
+    go false e q f = tt
+
+-- What is known of a term's sort goes by earlier terms.
+pub near-below : (sorts recent places : List ℕ) (gap : ℕ) (w : List ℕ) (terms k : ℕ) →
+    Below k (originNear sorts recent places gap w terms k)
+near-below sorts recent places gap w terms k = go (ltb k (length sorts)) (isRecent recent terms k)
+  where
+    go : (a b : Bool)
+        → Below k
+        (choose a (Given (getD sorts k 0))
+        (choose b (Given (getD recent (k % length recent) 0))
+        (guarded k (originOf (callAt w (placeNear places gap w k))))))
+    go true b = tt
+    go false true = tt
+    go false false = guarded-low k (originOf (callAt w (placeNear places gap w k)))
+
+-- ---- places
+
+-- As many records as words are left are enough.
+place-enough : (n m : ℕ) (w : List ℕ) (at k : ℕ) → length w - at ≤ n → length w - at ≤ m → termPlace n w at k
+    ≡ termPlace m w at k
+unfolding termPlace
+place-enough zero m w at k h l = sym (place-end m w at k (omega arith))
+place-enough (suc n) zero w at k h l = place-end (suc n) w at k (omega arith)
+place-enough (suc n) (suc m) w at k h l =
+    rw (
+      place-enough n m w (nextAt w at) (k - 1) (omega arith) (omega arith),
+      place-enough n m w (nextAt w at) k (omega arith) (omega arith),
+    )
+
+place-past : (m : ℕ) (w : List ℕ) (at a b n : ℕ) → length w ≤ at → termPlace m w (termPlace n w at a) b ≡ termPlace n w
+    at (a + b)
+place-past m w at a b n p =
+    ap (λ (q : ℕ). termPlace m w q b) (place-end n w at a p) ∙ place-end m w at b p ∙ sym (place-end n w at (a + b) p)
+
+-- Counting on from a term's record finds the terms after it.
+place-on : (n m : ℕ) (w : List ℕ) (at a b : ℕ) → length w - at ≤ n → length w - termPlace n w at a ≤ m
+    → termPlace m w (termPlace n w at a) b ≡ termPlace n w at (a + b)
+place-on zero m w at a b h l = place-past m w at a b 0 (omega arith)
+place-on (suc n) m w at a b h l =
+    go (ltb at (length w)) refl (makesTerm (operationAt w at)) refl a l (λ j p q. place-on n m w (nextAt w at) j b p q)
+  where
+    fuel : suc n - 1 ≡ n
+    fuel = sub-one (suc n)
+
+    go : (i : Bool) → ltb at (length w) ≡ i → (makes : Bool) → makesTerm (operationAt w at) ≡ makes → (a : ℕ)
+        → length w - termPlace (suc n) w at a ≤ m
+        → ((j : ℕ) → length w - nextAt w at ≤ n → length w - termPlace n w (nextAt w at) j ≤ m
+        → termPlace m w (termPlace n w (nextAt w at) j) b ≡ termPlace n w (nextAt w at) (j + b))
+        → termPlace m w (termPlace (suc n) w at a) b ≡ termPlace (suc n) w at (a + b)
+    go false i makes e a l on = place-past m w at a b (suc n) (ltb-false at (length w) i)
+    go true i true e zero l on =
+        let here = place-here w at 0 (ltb-true at (length w) i) (suc n) (omega arith) e refl in
+        ap (λ (q : ℕ). termPlace m w q b) here
+        ∙ place-enough m (suc n) w at b (subst (λ (q : ℕ). length w - q ≤ m) here l) h
+        ∙ ap (termPlace (suc n) w at) (let z : b ≡ 0 + b = omega arith in z)
+    go true i true e (suc a) l on =
+        let inside = ltb-true at (length w) i in
+        let here =
+        place-next w at (suc a) inside (suc n) (omega arith) e (λ z. absurd (omega arith))
+        ∙ ap₂ (λ (f j : ℕ). termPlace f w (nextAt w at) j) fuel (sub-one (suc a)) in
+        let there =
+        place-next w at (suc a + b) inside (suc n) (omega arith) e (λ z. absurd (omega arith))
+        ∙ ap₂ (λ (f j : ℕ). termPlace f w (nextAt w at) j) fuel (let z : suc a + b - 1 ≡ a + b = omega arith in z) in
+        ap (λ (q : ℕ). termPlace m w q b) here ∙ on a (omega arith) (subst (λ (q : ℕ). length w - q ≤ m) here l)
+        ∙ sym there
+    go true i false e a l on =
+        let inside = ltb-true at (length w) i in
+        let here = place-skip w at a inside (suc n) (omega arith) e
+        ∙ ap (λ (f : ℕ). termPlace f w (nextAt w at) a) fuel in
+        let there =
+        place-skip w at (a + b) inside (suc n) (omega arith) e
+        ∙ ap (λ (f : ℕ). termPlace f w (nextAt w at) (a + b)) fuel in
+        ap (λ (q : ℕ). termPlace m w q b) here ∙ on a (omega arith) (subst (λ (q : ℕ). length w - q ≤ m) here l)
+        ∙ sym there
+
+pub spaced-start : (w places : List ℕ) (gap : ℕ) → Spaced w places gap 0
+spaced-start w places gap small i inside low = absurd (omega arith)
+
+pub place-near : (w places : List ℕ) (gap terms : ℕ) → Spaced w places gap terms → (k : ℕ) → k < terms
+    → placeNear places gap w k ≡ placeOfTerm w k
+place-near w places gap terms spaced k h =
+    go (leb (length w) 4294967296) refl (ltb (k / (gap + 1)) (length places)) refl
+  where
+    whole : k / (gap + 1) * (gap + 1) + k % (gap + 1) ≡ k
+    whole = div-add-mod' k (gap + 1)
+
+    go : (a : Bool) → leb (length w) 4294967296 ≡ a → (b : Bool) → ltb (k / (gap + 1)) (length places) ≡ b
+        → cond (a && b) (termPlace (length w) w (getD places (k / (gap + 1)) 0) (k % (gap + 1))) (placeOfTerm w k)
+        ≡ placeOfTerm w k
+    go true e true f =
+        let noted =
+        spaced (leb-true (length w) 4294967296 e) (k / (gap + 1)) (ltb-true (k / (gap + 1)) (length places) f)
+        (let z = whole in omega arith) in
+        ap (λ (q : ℕ). termPlace (length w) w q (k % (gap + 1))) noted
+        ∙ place-on (length w) (length w) w 0 (k / (gap + 1) * (gap + 1)) (k % (gap + 1)) (omega arith) (omega arith)
+        ∙ ap (termPlace (length w) w 0) whole
+    go true e false f = refl
+    go false e b f = refl
+
+-- ---- the latest terms
+
+-- Two numbers less than r apart have different remainders.
+apart : (k t r : ℕ) → k < t → t < k + r → k % r ≡ t % r → ⊥
+apart k t r h l e = go (ltb (k / r) (t / r)) refl
+  where
+    go : (b : Bool) → ltb (k / r) (t / r) ≡ b → ⊥
+    go true f =
+        let more = mul-le-mul-right r (ltb-true (k / r) (t / r) f) in
+        let split = suc-mul (k / r) r in
+        let at-k = div-add-mod' k r in
+        let at-t = div-add-mod' t r in
+        omega arith
+    go false f =
+        let less = mul-le-mul-right r (ltb-false (k / r) (t / r) f) in
+        let at-k = div-add-mod' k r in
+        let at-t = div-add-mod' t r in
+        omega arith
+
+-- The ring has the sorts of the latest terms, past those of the table.
+abbrev pub Recent : ℕ → List ℕ → List Sort → Type 0
+Recent first recent sorts =
+    (k : ℕ) → first ≤ k → k < length sorts → length sorts ≤ k + length recent
+    → getD recent (k % length recent) 0 ≡ sortAt sorts k
+
+pub recent-start : (first : ℕ) (recent : List ℕ) → Recent first recent []
+recent-start first recent k past low near = absurd (omega arith)
+
+recent-more : (first : ℕ) (recent : List ℕ) (sorts : List Sort) (s terms : ℕ) → terms ≡ length sorts →
+    Recent first recent sorts
+    → Recent first (pickList (leb first terms) (set recent (terms % length recent) s) recent) (sorts ++ (s ∷ []))
+recent-more first recent sorts s terms c ring k past low near = go (leb first terms) refl near
+  where
+    many : length (sorts ++ (s ∷ [])) ≡ suc terms
+    many = length-snoc sorts s ∙ ap suc (sym c)
+
+    by : Dec (k ≡ terms) → suc terms ≤ k + length recent →
+        getD (set recent (terms % length recent) s) (k % length recent) 0 ≡ sortAt (sorts ++ (s ∷ [])) k
+    by (yes q) close =
+        let room : 0 < length recent = omega arith in
+        ap (λ (i : ℕ). getD (set recent (terms % length recent) s) (i % length recent) 0) q
+        ∙ getD-set-same recent (terms % length recent) s 0 (mod-lt terms room)
+        ∙ sym (ap (sortAt (sorts ++ (s ∷ []))) (q ∙ c) ∙ getD-append-seam sorts s [] 65)
+    by (no q) close =
+        let before : k < terms = (let z = many in omega arith) in
+        getD-set-other recent (terms % length recent) (k % length recent) s 0
+        (apart k terms (length recent) before (omega arith))
+        ∙ ring k past (let z = c in omega arith) (let z = c in omega arith)
+        ∙ sym (List·getD-append sorts (s ∷ []) 65 k (let z = c in omega arith))
+
+    go : (b : Bool) → leb first terms ≡ b
+        → length (sorts ++ (s ∷ [])) ≤ k + length (pickList b (set recent (terms % length recent) s) recent)
+        → getD (pickList b (set recent (terms % length recent) s) recent)
+        (k % length (pickList b (set recent (terms % length recent) s) recent)) 0
+        ≡ sortAt (sorts ++ (s ∷ [])) k
+    go true e close =
+        let kept = length-set recent (terms % length recent) s in
+        ap (λ (r : ℕ). getD (set recent (terms % length recent) s) (k % r) 0) kept
+        ∙ by (ℕ-discrete k terms) (let z = many in omega arith)
+    go false e close = absurd (let z = leb-false first terms e in let y = many in omega arith)
+
+-- ---- one record more
+
+module _ {w : List ℕ} {at : ℕ} {x : Context} {table : List ℕ} {terms : ℕ} (r : ReadTo w at x table terms)
+    (right : Right w at x) where
+  abbrev next : Context
+  next = after x (callAt w at)
+
+  module _ (sort : ℕ → Sort) (agrees : (k : ℕ) → k < length (x .sorts) → sort k ≡ sortAt (x .sorts) k) where
+    record-said : Below (length (x .sorts)) (originOf (callAt w at)) → recordBy sort w at
+        ≡ sortFrom (sortAt (x .sorts)) (originOf (callAt w at))
+    record-said b = sortFrom-ext (length (x .sorts)) sort (sortAt (x .sorts)) (originOf (callAt w at)) b agrees
+
+    -- What a right record adds to the table of sorts.
+    pub sorts-more : ReadTo w (nextAt w at) next (noteSort sort table w at terms)
+        (terms + bit (makesTerm (operationAt w at)))
+    sorts-more = go (makes-at w at x right)
+      where
+        go : Makes x (callAt w at)
+            → ReadTo w (nextAt w at) next (noteSort sort table w at terms) (terms + bit (makesTerm (operationAt w at)))
+        go (one s a m q b) =
+            let same : recordBy sort w at ≡ s = record-said b ∙ sym q in
+            rw (makes-op w at x right, m)
+            (read-next r right (set table terms (recordBy sort w at)) (terms + 1)
+            (rw (a, same) (tabled-more table (x .sorts) s terms (r .counts) (r .tabled)))
+            (rw (a, length-snoc (x .sorts) s) (let c = r .counts in omega arith)))
+        go (nothing a m) =
+            rw (makes-op w at x right, m)
+            (read-next r right table (terms + 0) (rw a (r .tabled)) (rw a (let c = r .counts in omega arith)))
+
+    -- What it adds to the ring.
+    pub ring-more : (recent : List ℕ) → Recent (length table) recent (x .sorts)
+        → Recent (length table) (noteRecent sort table recent w at terms) (next .sorts)
+    ring-more recent ring = go (makes-at w at x right)
+      where
+        go : Makes x (callAt w at) → Recent (length table) (noteRecent sort table recent w at terms) (next .sorts)
+        go (one s a m q b) =
+            let same : recordBy sort w at ≡ s = record-said b ∙ sym q in
+            rw (makes-op w at x right, m, a, same)
+            (recent-more (length table) recent (x .sorts) s terms (r .counts) ring)
+        go (nothing a m) = rw (makes-op w at x right, m, a) ring
+
+  -- What it adds to the table of places.
+  pub spaced-more : (places : List ℕ) (gap : ℕ) → Spaced w places gap terms
+      → Spaced w (notePlace places gap w at terms) gap (terms + bit (makesTerm (operationAt w at)))
+  spaced-more places gap spaced small i = go (makesTerm (operationAt w at)) refl (eqb (terms % (gap + 1)) 0) refl
+    where
+      whole : terms / (gap + 1) * (gap + 1) + terms % (gap + 1) ≡ terms
+      whole = div-add-mod' terms (gap + 1)
+
+      -- A multiple has no remainder and its own quotient.
+      multiple : i * (gap + 1) ≡ terms → (terms % (gap + 1) ≡ 0) × (i ≡ terms / (gap + 1))
+      multiple e =
+          let sum : i * (gap + 1) + 0 ≡ terms = omega arith in
+          let room : 0 < gap + 1 = omega arith in (
+            ap (λ (n : ℕ). n % (gap + 1)) (sym sum) ∙ digits-mod i room,
+            sym (ap (λ (n : ℕ). n / (gap + 1)) (sym sum) ∙ digits-div i room),
+          )
+
+      here : Dec (i ≡ terms / (gap + 1)) → makesTerm (operationAt w at) ≡ true → terms % (gap + 1) ≡ 0 →
+          i < length places
+          → i * (gap + 1) < terms + 1
+          → getD (set places (terms / (gap + 1)) (at % 4294967296)) i 0 ≡ placeOfTerm w (i * (gap + 1))
+      here (yes e) makes none inside low =
+          let within = right .inside in
+          let fits : at < 4294967296 = omega arith in
+          let same : i * (gap + 1) ≡ terms = ap (λ (n : ℕ). n * (gap + 1)) e ∙ (let z = whole in omega arith) in
+          ap (λ (n : ℕ). getD (set places (terms / (gap + 1)) (at % 4294967296)) n 0) e
+          ∙ getD-set-same places (terms / (gap + 1)) (at % 4294967296) 0 (omega arith)
+          ∙ mod-eq-of-lt fits ∙ sym (ap (placeOfTerm w) same ∙ next-place r right makes)
+      here (no e) makes none inside low =
+          let other : i * (gap + 1) ≡ terms → ⊥ = λ q. e (multiple q .1) in
+          getD-set-other places (terms / (gap + 1)) i (at % 4294967296) 0 e ∙ spaced small i inside (omega arith)
+
+      go : (b : Bool) → makesTerm (operationAt w at) ≡ b → (d : Bool) → eqb (terms % (gap + 1)) 0 ≡ d
+          → i < length (notePlace places gap w at terms) → i * (gap + 1) < terms + bit (makesTerm (operationAt w at))
+          → getD (notePlace places gap w at terms) i 0 ≡ placeOfTerm w (i * (gap + 1))
+      go true e true f inside low =
+          let inside′ : i < length (set places (terms / (gap + 1)) (at % 4294967296)) = rw (e, f) at inside in
+          let low′ : i * (gap + 1) < terms + 1 = rw e at low in
+          let same = length-set places (terms / (gap + 1)) (at % 4294967296) in
+          rw (e, f) (here (ℕ-discrete i (terms / (gap + 1))) e (eqb-true (terms % (gap + 1)) 0 f) (omega arith) low′)
+      go true e false f inside low =
+          let inside′ : i < length places = rw (e, f) at inside in
+          let low′ : i * (gap + 1) < terms + 1 = rw e at low in
+          let other : i * (gap + 1) ≡ terms → ⊥ = λ q. eqb-false (terms % (gap + 1)) 0 f (multiple q .0) in
+          rw (e, f) (spaced small i inside′ (omega arith))
+      go false e d f inside low =
+          let inside′ : i < length places = rw e at inside in
+          let low′ : i * (gap + 1) < terms + 0 = rw e at low in
+          rw e (spaced small i inside′ (omega arith))
+
+-- The table's length stays.
+pub note-length : (sort : ℕ → Sort) (sorts w : List ℕ) (at terms : ℕ) → length (noteSort sort sorts w at terms)
+    ≡ length sorts
+note-length sort sorts w at terms = go (makesTerm (operationAt w at))
+  where
+    go : (b : Bool) → length (pickList b (set sorts terms (recordBy sort w at)) sorts) ≡ length sorts
+    go true = length-set sorts terms (recordBy sort w at)
+    go false = refl
+
+-- A table with the place of every term.
+pub spaced-whole : (w places : List ℕ) (terms : ℕ) → Spaced w places 0 terms → Placed w places terms
+spaced-whole w places terms spaced small k inside low =
+    let same : k * (0 + 1) ≡ k = omega arith in
+    spaced small k inside (omega arith) ∙ ap (placeOfTerm w) same
+
+-- ---- the sorts of the terms read so far
+
+guarded-is : (k : ℕ) (d : Origin) → Below k d → guarded k d ≡ d
+guarded-is k (Given s) h = refl
+guarded-is k (Same a) h = rw (lt-ltb (a .0) k h)
+guarded-is k (Joined a b) h = rw (lt-ltb (a .0) k (h .0), lt-ltb (b .0) k (h .1))
+
+module _ {w : List ℕ} {at : ℕ} {x : Context} {table : List ℕ} {terms : ℕ} (r : ReadTo w at x table terms)
+    (recent places : List ℕ) (gap all : ℕ) (ring : Recent (length table) recent (x .sorts))
+    (spaced : Spaced w places gap all)
+    (few : terms ≤ all) where
+  abbrev known : ℕ → Origin
+  known = originNear table recent places gap w terms
+
+  low : (k : ℕ) → k < length (x .sorts) → capped (sortAt (x .sorts) k) ≡ sortAt (x .sorts) k
+  low k h = let z = low-passes (r .records) w 0 start at x (r .passes) low-start k h in omega arith
+
+  via-is : (f k : ℕ) → k < f → k < length (x .sorts) → sortVia f known k ≡ sortAt (x .sorts) k
+  unfolding sortVia
+  via-is zero k l inside = absurd (omega arith)
+  via-is (suc f) k l inside = go (λ a b d. via-is f a b d) (ltb k (length table)) refl (isRecent recent terms k) refl
+    where
+      place : placeNear places gap w k ≡ placeOfTerm w k
+      place = place-near w places gap all spaced k (let c = r .counts in omega arith)
+
+      go : ((a : ℕ) → a < f → a < length (x .sorts) → sortVia f known a ≡ sortAt (x .sorts) a)
+          → (b : Bool) → ltb k (length table) ≡ b → (d : Bool) → isRecent recent terms k ≡ d
+          → sortVia (suc f) known k ≡ sortAt (x .sorts) k
+      go rest true t d u = rw t (ap capped (r .tabled k (ltb-true k (length table) t) inside) ∙ low k inside)
+      go rest false t true u =
+          let near =
+          leb-true (terms - k) (length recent) (right-of (ltb k terms) (leb (terms - k) (length recent)) u) in
+          let held = ring k (ltb-false k (length table) t) inside (let c = r .counts in omega arith) in
+          rw (t, u) (ap capped held ∙ low k inside)
+      go rest false t false u =
+          let ahead = passes-forward (r .records) w 0 start at x (r .passes) in
+          let from-start : termPlace (length w) w 0 (k - 0) ≡ placeOfTerm w k =
+          ap (termPlace (length w) w 0) (let e : k - 0 ≡ k = omega arith in e) in
+          let within = r .within in
+          let said-k =
+          subst (Says w x k) from-start
+          (finds (r .records) (length w) w 0 start at x (r .passes) (omega arith) k (omega arith) inside) in
+          rw (t, u, place, guarded-is k (originOf (callAt w (placeOfTerm w k))) (said-k .earlier))
+          (sortFrom-ext k (sortVia f known) (sortAt (x .sorts)) (originOf (callAt w (placeOfTerm w k)))
+          (said-k .earlier)
+          (λ a b. rest a (omega arith) (omega arith))
+          ∙ sym (said-k .sort-is))
+
+  -- What the table, the ring and the records say is the sort of each term read so far.
+  pub near-is : (k : ℕ) → k < length (x .sorts) → sortNear table recent places gap w terms k ≡ sortAt (x .sorts) k
+  near-is k h = via-is (suc k) k (omega arith) h
+
+-- ---- by the table of sorts alone
+
+module _ (sorts w : List ℕ) where
+  abbrev plain : ℕ → Origin
+  plain = originNear sorts (0 ∷ []) (0 ∷ []) 0 w 0
+
+  plain-place : (k : ℕ) → placeNear (0 ∷ []) 0 w k ≡ placeOfTerm w k
+  plain-place k = go (leb (length w) 4294967296) (ltb (k / (0 + 1)) 1) refl
+    where
+      go : (a b : Bool) → ltb (k / (0 + 1)) 1 ≡ b
+          → cond (a && b) (termPlace (length w) w (getD (0 ∷ []) (k / (0 + 1)) 0) (k % (0 + 1))) (placeOfTerm w k)
+          ≡ placeOfTerm w k
+      go true true e =
+          let few = ltb-true (k / (0 + 1)) 1 e in
+          let first : k / (0 + 1) ≡ 0 = omega arith in
+          let rest : k % (0 + 1) ≡ k = omega arith in
+          ap₂ (λ (i j : ℕ). termPlace (length w) w (getD (0 ∷ []) i 0) j) first rest
+      go true false e = refl
+      go false b e = refl
+
+  origin-plain : (k : ℕ) → plain k ≡ originBy sorts w k
+  origin-plain k = rw (le-ltb k 0 (omega arith), plain-place k)
+
+  via-plain : (n k : ℕ) → sortVia n plain k ≡ sortThrough n sorts w k
+  unfolding sortVia sortThrough
+  via-plain zero k = refl
+  via-plain (suc n) k =
+      ap (sortFrom (sortVia n plain)) (origin-plain k)
+      ∙ sortFrom-ext k (sortVia n plain) (sortThrough n sorts w) (originBy sorts w k) (known-below sorts w k)
+      (λ a b. via-plain n a)
+
+  pub near-plain : (at : ℕ) → recordBy (sortNear sorts (0 ∷ []) (0 ∷ []) 0 w 0) w at ≡ recordSort sorts w at
+  near-plain at = go (originOf (callAt w at))
+    where
+      go : (d : Origin) → sortFrom (sortNear sorts (0 ∷ []) (0 ∷ []) 0 w 0) d ≡ sortFrom (sortOfTerm sorts w) d
+      go (Given s) = refl
+      go (Same a) = via-plain (suc (a .0)) (a .0)
+      go (Joined a b) = rw (via-plain (suc (a .0)) (a .0), via-plain (suc (b .0)) (b .0))
+
+-- A sort that is written fits a byte.
+pub record-low : (sorts recent places : List ℕ) (gap : ℕ) (w : List ℕ) (terms at : ℕ)
+    → recordBy (sortNear sorts recent places gap w terms) w at ≤ 65
+record-low sorts recent places gap w terms at =
+    from-low (sortNear sorts recent places gap w terms) (originOf (callAt w at)) (λ a. via-low (suc a) _ a)

@@ -1,0 +1,11 @@
+pub mod EquationsLaws
+pub mod GraphLaws
+pub mod Judged
+pub mod LayoutLaws
+pub mod Nodes
+pub mod OrderLaws
+pub mod ReadingLaws
+pub mod Replaced
+pub mod Solutions
+pub mod SystemLaws
+pub mod WorkedOut

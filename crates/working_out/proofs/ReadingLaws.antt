@@ -1,0 +1,11 @@
+-- Laws of the definitions of Reading.
+use mathlib.Core.List.{List, [], _∷_, _++_}
+use Rattle.rules.specs.Width.{Each}
+
+pub each-map : {A : Type 0} {P Q : A → Type 0} (l : List A) → ((x : A) → P x → Q x) → Each P l → Each Q l
+each-map [] f h = tt
+each-map (x ∷ l) f h = (f x (h .0), each-map l f (h .1))
+
+pub each-append : {A : Type 0} (P : A → Type 0) (a b : List A) → Each P a → Each P b → Each P (a ++ b)
+each-append P [] b h k = k
+each-append P (x ∷ a) b h k = (h .0, each-append P a b (h .1) k)
