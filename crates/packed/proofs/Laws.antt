@@ -1,5 +1,5 @@
 -- The slice of counts: three numbers are stored in front of it, and where they are it has room for them; and what
--- `counts` leaves, from what it calls. Assumes nothing.
+-- `told` leaves, from what it calls. Assumes nothing.
 use mathlib.Core.Path.{_≡_, refl}
 use mathlib.Core.Bool.{Bool, true, false, cond}
 use mathlib.Core.List.{List, [], _∷_}
@@ -11,8 +11,7 @@ use borrow.Author.Tests.{ltb-false}
 use Rattle.builder.specs.declared.Counts.{Counts}
 use Rattle.requirement.specs.declared.Verified.{Verified}
 use Rattle.requirement.specs.declared.Verified.the-variants.{Refused, NothingAsked, Asked}
-use Rattle.requirement.specs.Verified.{unroomed}
-use Rattle.packed.specs.Verified.{packedVerified, roomed, lent, countsAfter, PackedCounts}
+use Rattle.packed.specs.Verified.{packedVerified, roomed, lent, countsAfter, Told}
 
 pub three-set : (l : List ℕ) (a b c : ℕ) → 3 ≤ length l → set (set (set l 0 a) 1 b) 2 c ≡ a ∷ b ∷ c ∷ drop 3 l
 three-set [] a b c h = absurd (omega arith)
@@ -44,8 +43,6 @@ nothing-room a room is = lent-room a room (rw (← is) tt)
 pub asked-room : (a : Verified) (room : ℕ) {n : Counts} → Asked n ≡ lent a room → 3 ≤ room
 asked-room a room is = lent-room a room (rw (← is) tt)
 
-pub counts-are : (w before : List ℕ) {after : List ℕ} {r : ℕ} {a b v : Verified} → a ≡ unroomed w
-    → b ≡ lent a (length before) → b ≡ v → r ≡ packedVerified v → after ≡ countsAfter v before
-    → PackedCounts w before after r
-counts-are w before all room is said wrote =
-    record { answers = rw (← all, ← room, is, said); writes = rw (← all, ← room, is, wrote) }
+pub told-are : (a : Verified) (before : List ℕ) {after : List ℕ} {r : ℕ} {b v : Verified} → b ≡ lent a (length before)
+    → b ≡ v → r ≡ packedVerified v → after ≡ countsAfter v before → Told a before after r
+told-are a before room is said wrote = record { answers = rw (← room, is, said); writes = rw (← room, is, wrote) }

@@ -20,7 +20,7 @@ use Rattle.requirement.specs.declared.Verified.the-variants.{Refused, NothingAs
 use Rattle.requirement.specs.Verified.{numberOf, valueOf, counted, told, ofDesign, roomed, ofRead, verified}
 use Rattle.requirement.specs.Verified.{ofReadUnroomed, unroomed}
 use Rattle.requirement.proofs.AnsweredLaws.{few-counts}
-use Rattle.packed.specs.Verified.{packedVerified, PackedVerified, lent, PackedCounts}
+use Rattle.packed.specs.Verified.{packedVerified, lent}
 use Rattle.packed.specs.Whole.{Whole}
 
 -- Numbers of document 01's faults, and values of at most 2^27.
@@ -83,18 +83,10 @@ lent-low (Asked n) room low = go (ltb room 3)
     go true = (omega arith, omega arith)
     go false = low
 
--- Of verify, from its contract: for every list and every two slices.
-pub verify-whole : {w calls recorded calls′ recorded′ : List ℕ} {r : ℕ}
-    → PackedVerified w calls recorded calls′ recorded′ r
-    → Whole (verified w (length calls) (length recorded)) r
-verify-whole {w} {calls} {recorded} said =
-    let room = length calls in
-    let marks = length recorded in
-    rw (said .answers) (low-whole (verified w room marks) (verified-low w room marks))
+-- What verify answers, for every list and every two slices.
+pub verified-whole : (w : List ℕ) (room marks : ℕ) → let a = verified w room marks in Whole a (packedVerified a)
+verified-whole w room marks = low-whole (verified w room marks) (verified-low w room marks)
 
--- Of counts likewise.
-pub counts-whole : {w before after : List ℕ} {r : ℕ} → PackedCounts w before after r
-    → Whole (lent (unroomed w) (length before)) r
-counts-whole {w} {before} said =
-    let room = length before in
-    rw (said .answers) (low-whole (lent (unroomed w) room) (lent-low (unroomed w) room (unroomed-low w)))
+-- What counts answers, for every list and every slice.
+pub unroomed-whole : (w : List ℕ) (room : ℕ) → let a = lent (unroomed w) room in Whole a (packedVerified a)
+unroomed-whole w room = low-whole (lent (unroomed w) room) (lent-low (unroomed w) room (unroomed-low w))

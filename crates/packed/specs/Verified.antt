@@ -9,7 +9,7 @@ use lib.ListN.{length, drop}
 use Rattle.builder.specs.declared.Counts.{Counts}
 use Rattle.requirement.specs.declared.Verified.{Verified}
 use Rattle.requirement.specs.declared.Verified.the-variants.{Refused, NothingAsked, Asked}
-use Rattle.requirement.specs.Verified.{numberOf, valueOf, verified, unroomed, callsAfter, recordedAfter}
+use Rattle.requirement.specs.Verified.{numberOf, valueOf}
 use Rattle.packing.specs.Packed.{packedAs}
 
 -- 1 where something is asked.
@@ -20,11 +20,6 @@ askedOf (Asked n) = 1
 
 abbrev pub packedVerified : Verified → ℕ
 packedVerified a = packedAs (numberOf a) (askedOf a * 2 ^ 47 + valueOf a)
-
-pub record PackedVerified (list calls recorded calls′ recorded′ : List ℕ) (r : ℕ) : Type 0 where
-  pub answers : r ≡ packedVerified (verified list (length calls) (length recorded))
-  pub writes : calls′ ≡ callsAfter list calls recorded
-  pub marks : recorded′ ≡ recordedAfter list calls recorded
 
 -- The counts alone, into a slice that has room for three numbers; 14 at 3 where it has not.
 abbrev pub roomed : ℕ → Verified → Verified
@@ -44,6 +39,7 @@ countsAfter (Refused e) before = before
 countsAfter (NothingAsked n) before = written n before
 countsAfter (Asked n) before = written n before
 
-pub record PackedCounts (list before after : List ℕ) (r : ℕ) : Type 0 where
-  pub answers : r ≡ packedVerified (lent (unroomed list) (length before))
-  pub writes : after ≡ countsAfter (lent (unroomed list) (length before)) before
+-- What a slice of counts gets of an answer, and the answer packed.
+pub record Told (a : Verified) (before after : List ℕ) (r : ℕ) : Type 0 where
+  pub answers : r ≡ packedVerified (lent a (length before))
+  pub writes : after ≡ countsAfter (lent a (length before)) before

@@ -5,11 +5,11 @@ use requirement::Verified;
 ghost use mathlib.Core.Path.{_≡_};
 ghost use lib.ListN.{length};
 ghost use Prim.Native.Nat.{_≤_};
-ghost use Rattle.packed.specs.Verified.{packedVerified, PackedVerified, lent, written, PackedCounts};
+ghost use Rattle.packed.specs.Verified.{packedVerified, lent, written, Told};
 
 // What the order of work answers, packed: its number from bit 48 on, whether anything is asked in bit 47, and below
 // it the call words or the place.
-fn packed_verified(answer: Verified) -> u64
+pub fn packed_verified(answer: Verified) -> u64
     ensures { λ r. ⌜ r ≡ packedVerified answer ⌝ }
 {
     match answer {
@@ -19,15 +19,6 @@ fn packed_verified(answer: Verified) -> u64
             ((n.words % 281474976710656) as u64 + 140737488355328) % 281474976710656
         }
     }
-}
-
-// Verifies a design list: its calls go into the one slice and the marks of its recorded slots into the other. The
-// fault's number and place, or 0 and the number of call words, with bit 47 set where something is asked.
-pub fn verify(list: &[u32], calls: &mut [u32], recorded: &mut [u8]) -> u64
-    ensures { λ r. ⌜ PackedVerified (now (list .entry)) (now (calls .entry)) (now (recorded .entry))
-        (now (calls .exit)) (now (recorded .exit)) r ⌝ }
-{
-    packed_verified(design::verify(list, calls, recorded))
 }
 
 // An answer with its counts, or 14 where the slice lent for them has less than three numbers.
@@ -69,13 +60,12 @@ fn put_counts(n: Counts, into: &mut [u64])
     into[2] = n.words as u64;
 }
 
-// What a design list's calls would come to: the answer of `verify` where the slices have room enough, and the numbers
-// of terms, temporaries and call words in front of a slice.
-pub fn counts(list: &[u32], counts: &mut [u64]) -> u64
-    ensures { λ r. ⌜ PackedCounts (now (list .entry)) (now (counts .entry)) (now (counts .exit)) r ⌝ }
+// An answer and its counts told: packed, with the numbers of terms, temporaries and call words in front of a slice.
+pub fn told(answer: Verified, counts: &mut [u64]) -> u64
+    ensures { λ r. ⌜ Told answer (now (counts .entry)) (now (counts .exit)) r ⌝ }
 {
-    let answer = with_room(design::counts(list), counts.len());
-    match answer {
+    let roomed = with_room(answer, counts.len());
+    match roomed {
         Verified::Refused(f) => packed_verified(Verified::Refused(f)),
         Verified::NothingAsked(n) => {
             put_counts(n, counts);

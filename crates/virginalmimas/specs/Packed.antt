@@ -1,9 +1,24 @@
--- The list reader's answer, packed into one word of 64 bits.
+-- The answers of the C interface for a design list, each packed into one word of 64 bits, and what the slices hold.
+use mathlib.Core.Path.{_≡_}
+use mathlib.Core.List.{List}
 use Prim.Native.Nat.{ℕ}
+use lib.ListN.{length}
 use Rattle.design_list.specs.declared.DesignRead.{DesignRead}
 use Rattle.design_list.specs.Read.{numberOf, valueOf}
+use Rattle.requirement.specs.Verified.{verified, unroomed, callsAfter, recordedAfter}
 use Rattle.packing.specs.Packed.{packedAs}
+use Rattle.packed.specs.Verified.{packedVerified, Told}
 
--- Its number, and below it the place of the fault or base + added.
+-- The reader's number, and below it the place of the fault or base + added.
 abbrev pub packed : DesignRead → ℕ
 packed a = packedAs (numberOf a) (valueOf a)
+
+-- What the order of work answers, packed, and what it leaves in the two slices.
+pub record PackedVerified (list calls recorded calls′ recorded′ : List ℕ) (r : ℕ) : Type 0 where
+  pub answers : r ≡ packedVerified (verified list (length calls) (length recorded))
+  pub writes : calls′ ≡ callsAfter list calls recorded
+  pub marks : recorded′ ≡ recordedAfter list calls recorded
+
+-- What it answers where the slices have room enough, told with its counts.
+abbrev pub PackedCounts : List ℕ → List ℕ → List ℕ → ℕ → Type 0
+PackedCounts list = Told (unroomed list)

@@ -2,9 +2,8 @@
 use design_list::DesignRead;
 ghost use mathlib.Core.Path.{_≡_};
 ghost use Rattle.design_list.specs.Read.{read, answer};
-ghost use Rattle.virginalmimas.specs.Packed.{packed};
+ghost use Rattle.virginalmimas.specs.Packed.{packed, PackedVerified, PackedCounts};
 ghost use Rattle.packed_calls.specs.Packed.{PackedCheck, checkedOf, PackedEvaluation, PackedScript, PackedAnswer};
-ghost use Rattle.packed.specs.Verified.{PackedVerified, PackedCounts};
 
 // Reads a design list: the fault's number and place, or 0 and the number of slots.
 #[no_mangle]
@@ -24,7 +23,7 @@ pub extern "C" fn vm_verify(list: &[u32], calls: &mut [u32], recorded: &mut [u8]
     ensures { λ r. ⌜ PackedVerified (now (list .entry)) (now (calls .entry)) (now (recorded .entry))
         (now (calls .exit)) (now (recorded .exit)) r ⌝ }
 {
-    packed::verify(list, calls, recorded)
+    packed::packed_verified(design::verify(list, calls, recorded))
 }
 
 // What a design list's calls would come to: the answer of vm_verify where the slices have room enough, and the
@@ -33,7 +32,7 @@ pub extern "C" fn vm_verify(list: &[u32], calls: &mut [u32], recorded: &mut [u8]
 pub extern "C" fn vm_counts(list: &[u32], counts: &mut [u64]) -> u64
     ensures { λ r. ⌜ PackedCounts (now (list .entry)) (now (counts .entry)) (now (counts .exit)) r ⌝ }
 {
-    packed::counts(list, counts)
+    packed::told(design::counts(list), counts)
 }
 
 // Checks a call list: the fault's number and place, or 0 and the number of terms; the numbers of terms and of declared

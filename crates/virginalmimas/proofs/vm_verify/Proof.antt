@@ -1,7 +1,7 @@
--- `packed::verify` meets its contract: the answer of `verify` is packed as the definition says. Assumes nothing.
+-- `virginalmimas::vm_verify` meets its contract: the answer of `verify` is packed as the definition says. Assumes nothing.
 use borrow.Author.Needs.{needs}
-use Rattle.packed.proofs.verify.Statement.{statement}
-use Rattle.packed.proofs.verify.Tie as tie
+use Rattle.virginalmimas.proofs.vm_verify.Statement.{statement}
+use Rattle.virginalmimas.proofs.vm_verify.Tie as tie
 
 returns : tie.Need-returns
 returns c =
@@ -12,7 +12,7 @@ returns c =
       marks = verified .verify .ensures .marked;
     }
 
-pub verify-spec : {M : Type 1} → statement M
-verify-spec =
+pub vm-verify-spec : {M : Type 1} → statement M
+vm-verify-spec =
     tie.close
     (tie.spec (λ c κs. search needs) (λ c κs. search needs) (λ c. search needs) (λ c. search needs) returns)
