@@ -30,5 +30,6 @@ verify-whole {w} {calls} {recorded} said = rw (said .answers) (verified-whole w 
 
 -- Of vm_counts likewise.
 pub counts-whole :
-    {w before after : List ℕ} {r : ℕ} → PackedCounts w before after r → Whole (lent (unroomed w) (length before)) r
-counts-whole {w} {before} said = rw (said .answers) (unroomed-whole w (length before))
+    (w : List ℕ) {before after : List ℕ} {r : ℕ} → PackedCounts w before after r →
+    Whole (lent (unroomed w) (length before)) r
+counts-whole w {before} said = rw (said .answers) (unroomed-whole w (length before))
