@@ -25,9 +25,9 @@ use Rattle.checker.specs.declared.CallList.the-variants.{WellFormed, Mal
 use Rattle.term_table.specs.Near.{sortNear, noteSort, noteRecent, notePlace}
 use Rattle.term_table.specs.Sorted.{ReadTo}
 use Rattle.term_table.proofs.SortedLaws.{read-start}
-use Rattle.term_table.specs.NearLaws.{Spaced}
-use Rattle.term_table.proofs.NearLawsLaws.{spaced-start, spaced-more, spaced-whole, Recent, recent-start, ring-more}
-use Rattle.term_table.proofs.NearLawsLaws.{sorts-more, note-length, near-is}
+use Rattle.term_table.specs.Noted.{Spaced}
+use Rattle.term_table.proofs.NearLaws.{spaced-start, spaced-more, spaced-whole, Recent, recent-start, ring-more}
+use Rattle.term_table.proofs.NearLaws.{sorts-more, note-length, near-is}
 use Rattle.name_table.specs.Names.{topOf, noteName, noteTop}
 use Rattle.name_table.specs.Named.{NamesTo, TopsTo}
 use Rattle.name_table.proofs.NamedLaws.{names-none, names-next, tops-none, tops-next}

@@ -1,4 +1,4 @@
-pub mod NearLawsLaws
+pub mod NearLaws
 pub mod OriginsLaws
 pub mod PlacedLaws
 pub mod SortedLaws

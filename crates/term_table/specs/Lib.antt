@@ -3,4 +3,4 @@ pub mod Tables
 pub mod Near
 pub mod Sorted
 pub mod Placed
-pub mod NearLaws
+pub mod Noted

@@ -7,7 +7,7 @@ use borrow.Author.Needs.{needs}
 use native.Mathlib.Omega.{arith}
 use Rattle.engine.specs.Structure.{capped}
 use Rattle.term_table.specs.Near.{originNear, sortVia, sortNear}
-use Rattle.term_table.proofs.NearLawsLaws.{near-below, via-low, via-given, via-same, via-joined}
+use Rattle.term_table.proofs.NearLaws.{near-below, via-low, via-given, via-same, via-joined}
 use Rattle.term_table.proofs.Sums.{sum-start, sum-given, sum-joined}
 use Prim.Native.Nat.{ℕ, _<_}
 use borrow.Fn.Kinds.{In}

@@ -3,7 +3,7 @@ use borrow.Author.Needs.{needs}
 use mathlib.Core.Bool.{and-false}
 use native.Mathlib.Omega.{arith}
 use borrow.Author.Tests.{le-leb, lt-leb}
-use Rattle.term_table.proofs.NearLawsLaws.{record-low}
+use Rattle.term_table.proofs.NearLaws.{record-low}
 use Rattle.term_table.proofs.note_recent.Statement.{statement}
 use Rattle.term_table.proofs.note_recent.Tie as tie
 

@@ -1,7 +1,7 @@
 -- `term_table::note_sort` meets its contract: each way out has what its tests say. Assumes nothing.
 use borrow.Author.Needs.{needs}
 use native.Mathlib.Omega.{arith}
-use Rattle.term_table.proofs.NearLawsLaws.{record-low}
+use Rattle.term_table.proofs.NearLaws.{record-low}
 use Rattle.term_table.proofs.note_sort.Statement.{statement}
 use Rattle.term_table.proofs.note_sort.Tie as tie
 

@@ -2,7 +2,7 @@
 -- Assumes nothing.
 use borrow.Author.Needs.{needs}
 use mathlib.Core.Path.{_∙_}
-use Rattle.term_table.proofs.NearLawsLaws.{near-plain}
+use Rattle.term_table.proofs.NearLaws.{near-plain}
 use Rattle.term_table.proofs.record_sort.Statement.{statement}
 use Rattle.term_table.proofs.record_sort.Tie as tie
 

@@ -9,7 +9,7 @@ use Rattle.engine.specs.Structure.{capped}
 use native.Mathlib.Omega.{arith}
 use borrow.Author.Tests.{lt-ltb}
 use Rattle.term_table.specs.Near.{originNear}
-use Rattle.term_table.proofs.NearLawsLaws.{near-below, via-given}
+use Rattle.term_table.proofs.NearLaws.{near-below, via-given}
 use Rattle.term_table.proofs.term_sort.Statement.{statement}
 use Rattle.term_table.proofs.term_sort.Tie as tie
 

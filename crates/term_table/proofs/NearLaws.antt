@@ -34,7 +34,7 @@ use Rattle.term_table.specs.Sorted.{ReadTo}
 use Rattle.term_table.proofs.SortedLaws.{read-next, tabled-more}
 use Rattle.term_table.specs.Placed.{Placed}
 use Rattle.term_table.proofs.PlacedLaws.{next-place}
-use Rattle.term_table.specs.NearLaws.{Spaced}
+use Rattle.term_table.specs.Noted.{Spaced}
 
 -- ---- sorts by what is known of each term
 
