@@ -51,7 +51,8 @@ fn scan_entries(text: &[u8], start: usize, recorded: &[u8]) -> Step
 fn write_entries(text: &[u8], start: usize, recorded: &[u8], trits: &mut [u8])
     ensures { λ _.
         ⌜ now (trits .exit)
-        ≡ overwrite (now (trits .entry)) 0 (written 0 (now (recorded .entry)) (tokensFrom (now (text .entry)) start)) ⌝ }
+        ≡ overwrite (now (trits .entry)) 0
+        (written 0 (now (recorded .entry)) (tokensFrom (now (text .entry)) start)) ⌝ }
 {
     let mut at = start;
     let mut slot = 0;

@@ -123,7 +123,8 @@ fn head_stands(
     operation: Operation,
     n: u32,
 ) -> bool
-    requires { ⌜ (at < length (now calls)) × (opFrom operation ≡ operationAt (now calls) at) × (n ≡ countAt (now calls) at) ⌝ }
+    requires { ⌜ (at < length (now calls)) × (opFrom operation ≡ operationAt (now calls) at)
+        × (n ≡ countAt (now calls) at) ⌝ }
     ensures { λ r. ⌜ r ≡ headBy (now (names .entry)) (now (tops .entry)) (now (calls .entry)) at ⌝ }
 {
     if logic::kind(logic::word_at(calls, at)) == 2 {

@@ -1,5 +1,5 @@
--- Document 01, "Words": where a call list is malformed. Record by record, in each the head's reasons first, then its words
--- left to right: a word is wrong if its kind, number or sort cannot follow the words before it.
+-- Document 01, "Words": where a call list is malformed. Record by record, in each the head's reasons first, then its
+-- words left to right: a word is wrong if its kind, number or sort cannot follow the words before it.
 use mathlib.Core.Bool.{Bool, true, false, not, cond, _&&_, _||_}
 use mathlib.Core.List.{List, [], _∷_}
 use mathlib.Core.Option.{Option, some, none}

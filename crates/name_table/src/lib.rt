@@ -104,7 +104,8 @@ pub fn name_known(
     index: u32,
     suffix: u32,
 ) -> bool
-    ensures { λ r. ⌜ r ≡ knownBy (now (names .entry)) (now (tops .entry)) (now (calls .entry)) at letter index suffix ⌝ }
+    ensures { λ r. ⌜ r ≡ knownBy (now (names .entry)) (now (tops .entry)) (now (calls .entry))
+        at letter index suffix ⌝ }
 {
     if spells_name(letter, index, suffix) {
         let noted = name_entry(

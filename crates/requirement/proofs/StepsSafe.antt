@@ -219,7 +219,8 @@ module _ (d : Design) (laid : Laid d) (bounds : Bounds d) where
       (
         record {
           fits =
-              λ σ n. replaceNet-safe (total d) σ (readsPast d) n (p .from) (p .to) (within (total d) σ (p .from) (w .from))
+              λ σ n. replaceNet-safe (total d) σ (readsPast d) n (p .from) (p .to)
+              (within (total d) σ (p .from) (w .from))
               (within (total d) σ (p .to) (w .to));
         },
         tt,

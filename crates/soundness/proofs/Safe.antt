@@ -249,7 +249,8 @@ module _ (slots : ℕ) (σ : ℕ → Sort) where
             safe-seq i (tvIs1 (pair c)) _ (VectorOf 1) (TritsOf w)
             (tvIs1-safe i 1 (pair c) (omega arith) (omega arith)) λ j s1 lj g1.
             safe-seq j (bvToBool s0) _ (λ m k. Truth m σ k) (TritsOf w) (bvToBool-safe j s0 (omega arith)) λ k t0 lk g2.
-            safe-seq k (bvToBool s1) _ (λ m k. Truth m σ k) (TritsOf w) (bvToBool-safe k s1 (omega arith)) λ l t1 ll g3. (
+            safe-seq k (bvToBool s1) _ (λ m k. Truth m σ k) (TritsOf w)
+            (bvToBool-safe k s1 (omega arith)) λ l t1 ll g3. (
               omega arith,
               λ x1. (
                 omega arith,

@@ -1,4 +1,4 @@
--- Packing loses nothing: of the list reader's refusals, and of what vm_verify and vm_counts answer, from their contracts.
+-- Packing loses nothing: of the list reader's refusals, and of what vm_verify and vm_counts answer (their contracts).
 use mathlib.Core.Path.{_≡_}
 use mathlib.Core.List.{List}
 use Prim.Native.Nat.{_/_, _%_, _^_, ℕ}

@@ -80,7 +80,8 @@ loop-again c =
     stands-is sort w (args .terms) (args .at) (state .i)
     (tested .before .argument .ensures ∙ ap (λ (op : Op). argumentOf op (state .i)) (start .pre .1))
     (turn .before .before .before .before .argument-word .ensures)
-    (inv .1) (read .before .argument-word2 .ensures) (inv .2) (read .word-sort2 .ensures) (tested .admitted .ensures) in (
+    (inv .1) (read .before .argument-word2 .ensures) (inv .2) (read .word-sort2 .ensures)
+    (tested .admitted .ensures) in (
       omega arith,
       read .before .argument-word2 .ensures
           ∙ ap (λ (j : ℕ). getD w j 0) (let e : args .at + 1 + state .i ≡ args .at + (state .i + 1) = omega arith in e),

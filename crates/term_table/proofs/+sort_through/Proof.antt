@@ -251,7 +251,8 @@ sort-through-loop-again-2 t c =
     (args .terms) in
     let origin = sym (asked .term-origin .ensures) ∙ told .a2 .given .1 in
     let said = via-joined known below (state .k) origin in
-    let sum = c .capped-sum2 .ensures ∙ ap (λ (n : ℕ). capped (state .total + n)) (c .before .sort-through .ensures) in (
+    let sum =
+    c .capped-sum2 .ensures ∙ ap (λ (n : ℕ). capped (state .total + n)) (c .before .sort-through .ensures) in (
       omega (arith, said .0, state .inv .0),
       ap (λ (n : ℕ). capped (n + sortVia (suc (told .a2 .given .0 .0 .0)) known (told .a2 .given .0 .0 .0))) sum
           ∙ sum-joined (state .total) (sortVia (suc (told .a2 .given .0 .0 .0)) known (told .a2 .given .0 .0 .0))

@@ -1,4 +1,4 @@
--- `virginalmimas::vm_verify` meets its contract: the answer of `verify` is packed as the definition says. Assumes nothing.
+-- `virginalmimas::vm_verify` meets its contract: the answer of `verify` is packed as defined. Assumes nothing.
 use borrow.Author.Needs.{needs}
 use Rattle.virginalmimas.proofs.vm_verify.Statement.{statement}
 use Rattle.virginalmimas.proofs.vm_verify.Tie as tie
