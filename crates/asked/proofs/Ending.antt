@@ -11,7 +11,7 @@ use borrow.Author.Tests.{ne-eqb}
 use Rattle.engine.specs.Call.{Name, Call}
 use Rattle.engine.specs.Call as c
 use Rattle.engine.specs.Sorts.{Context, start, after, leaves}
-use Rattle.engine.specs.Encode.{Op, operationAt, countAt, callOf, callAt, nextAt, callsFrom, decode}
+use Rattle.engine.specs.Encode.{Op, operationAt, countAt, callOf, callAt, bare, nextAt, callsFrom, decode}
 use Rattle.engine.specs.Encode as o
 use Rattle.engine.proofs.Steps.{calls-end, calls-step}
 use Rattle.text.specs.Bytes.{ascii}
@@ -109,7 +109,7 @@ module _ {p : Call → Bool} {w : List ℕ} {i at k : ℕ} (here : NoneOf p w i 
   none-end past = rw (all, calls-end (length w - i) w at past, append-nil) (here .none)
 
   module _ (inside : at < length w) where
-    pub none-next : p (callAt w at) ≡ false → NoneOf p w (i + 1) (nextAt w at) (k + madeAt w at)
+    pub none-next : p (callAt w at) ≡ false → NoneOf p w (i + 1) (nextAt bare w at) (k + madeAt w at)
     unfolding any
     none-next other = record {
       reached = reached-next (here .reached) inside;
@@ -124,7 +124,7 @@ module _ {p : Call → Bool} {w : List ℕ} {i at k : ℕ} (here : NoneOf p w i 
     unfolding any
     some-here e =
         let left : length w - i ≡ suc (length w - i - 1) = omega (arith, here .few) in
-        let rest = callsFrom (length w - i - 1) w (nextAt w at) in
+        let rest = callsFrom (length w - i - 1) w (nextAt bare w at) in
         ap (any p)
         (all ∙ ap (λ (n : ℕ). firstCalls w i ++ callsFrom n w at) left
         ∙ ap (λ (l : List Call). firstCalls w i ++ l) (calls-step (length w - i - 1) w at inside))

@@ -5,7 +5,7 @@ use mathlib.Core.List.{List}
 use Prim.Native.Nat.{ℕ, _+_, _≤_, _<_}
 use native.Mathlib.Omega.{arith}
 use Rattle.bitvec.specs.Bits.{bit}
-use Rattle.engine.specs.Encode.{makesTerm, operationAt, nextAt}
+use Rattle.engine.specs.Encode.{makesTerm, operationAt, bare, nextAt}
 use Rattle.engine.specs.Emit.{counted, last}
 use Rattle.call_list.specs.Operations.{isDeclare}
 use Rattle.call_list.specs.declared.Cursor.{Cursor}
@@ -19,7 +19,7 @@ nothingRead = record { at = 0; terms = 0; declared = 0 }
 abbrev pub cursorNext : List ℕ → Cursor → Cursor
 cursorNext w s =
     record {
-      at = nextAt w (s .at);
+      at = nextAt bare w (s .at);
       terms = s .terms + bit (makesTerm (operationAt w (s .at)));
       declared = s .declared + bit (isDeclare (operationAt w (s .at)));
     }
@@ -32,7 +32,8 @@ counted-is : (n : ℕ) → n ≤ last → counted n ≡ n
 counted-is n h = omega arith
 
 -- Where no count is the largest number, nothing stops.
-pub passed-next : (w : List ℕ) (s : Cursor) {t : Cursor} → t ≡ passed w s → nextAt w (s .at) ≤ last → s .terms < last →
+pub passed-next : (w : List ℕ) (s : Cursor) {t : Cursor} → t ≡ passed w s → nextAt bare w (s .at) ≤ last →
+    s .terms < last →
     s .declared < last
     → t ≡ cursorNext w s
 passed-next w s e h terms declared =
@@ -40,7 +41,7 @@ passed-next w s e h terms declared =
     let declares = bit-low (isDeclare (operationAt w (s .at))) in
     e
     ∙ rw (
-      counted-is (nextAt w (s .at)) h,
+      counted-is (nextAt bare w (s .at)) h,
       counted-is (s .terms + bit (makesTerm (operationAt w (s .at)))) (omega arith),
       counted-is (s .declared + bit (isDeclare (operationAt w (s .at)))) (omega arith),
     )

@@ -11,7 +11,7 @@ use borrow.Author.Tests.{leb-true, eqb-true, ltb-true}
 use Rattle.logic.specs.Table.{tab}
 use Rattle.logic.specs.Word.{payloadOf}
 use Rattle.engine.specs.Sorts.{Sort, Context}
-use Rattle.engine.specs.Encode.{digitCount, operationAt, countAt, argumentAt, fromDigits}
+use Rattle.engine.specs.Encode.{digitCount, operationAt, countAt, bare, argumentAt, fromDigits}
 use Rattle.engine.specs.Encode as o
 use Rattle.engine.specs.WellFormed.{isWidth, isNumber, isVector, countFits, admits, argumentOf, admitted}
 use Rattle.engine.proofs.Tests.{right-of}
@@ -73,7 +73,8 @@ pub literal-fits : (w : List ℕ) (at : ℕ) (x : Context) → Right w at x → 
 literal-fits w at x right is-lit =
     let each = failing-free (admitted (x .sorts) w at) 0 (countAt w at) (right .arguments) in
     record {
-      few = few-arguments (countAt w at) (argumentAt w at 0) (rw is-lit at (stands x w at (right .head) .counted));
+      few = few-arguments (countAt w at) (argumentAt bare w at 0)
+          (rw is-lit at (stands x w at (right .head) .counted));
       low = λ j inside.
-          low-digit j (argumentAt w at 0) _ _ _ _ (rw is-lit at (each (suc j) zero-le (omega arith)));
+          low-digit j (argumentAt bare w at 0) _ _ _ _ (rw is-lit at (each (suc j) zero-le (omega arith)));
     }

@@ -11,7 +11,7 @@ use lib.ListN.{length, getD, length-append, List·getD-eq-default}
 use borrow.Author.Tests.{lt-ltb, ltb-false, leb-true, leb-false}
 use Rattle.engine.specs.Call.{Call}
 use Rattle.engine.specs.Call as c
-use Rattle.engine.specs.Encode.{makesTerm, operationAt, countAt, nextAt, callAt, callsFrom}
+use Rattle.engine.specs.Encode.{makesTerm, operationAt, countAt, bare, nextAt, callAt, callsFrom}
 use Rattle.engine.proofs.Steps.{calls-end}
 use Rattle.engine.specs.Structure.{termPlace}
 use Rattle.engine.specs.Emit.{counted, last}
@@ -32,36 +32,36 @@ word-counted w n short = go (leb n last) refl
 -- The place after some records.
 unfoldable pub placeAfter : ℕ → List ℕ → ℕ → ℕ
 placeAfter zero w at = at
-placeAfter (suc n) w at = placeAfter n w (nextAt w at)
+placeAfter (suc n) w at = placeAfter n w (nextAt bare w at)
 
 grows : (n : ℕ) (w : List ℕ) (at : ℕ) → at ≤ placeAfter n w at
 unfolding placeAfter
 grows zero w at = le-refl at
-grows (suc n) w at = le-trans (omega arith) (grows n w (nextAt w at))
+grows (suc n) w at = le-trans (omega arith) (grows n w (nextAt bare w at))
 
-place-next : (n : ℕ) (w : List ℕ) (at : ℕ) → placeAfter (suc n) w at ≡ nextAt w (placeAfter n w at)
+place-next : (n : ℕ) (w : List ℕ) (at : ℕ) → placeAfter (suc n) w at ≡ nextAt bare w (placeAfter n w at)
 unfolding placeAfter
 place-next zero w at = refl
-place-next (suc n) w at = place-next n w (nextAt w at)
+place-next (suc n) w at = place-next n w (nextAt bare w at)
 
 -- Some records, and then some more.
 pub split : (n m : ℕ) (w : List ℕ) (at : ℕ) → callsFrom (n + m) w at ≡ callsFrom n w
     at ++ callsFrom m w (placeAfter n w at)
 unfolding placeAfter callsFrom
 split zero m w at = rw zero-add
-split (suc n) m w at = rw suc-add (go (ltb at (length w)) refl (split n m w (nextAt w at)))
+split (suc n) m w at = rw suc-add (go (ltb at (length w)) refl (split n m w (nextAt bare w at)))
   where
     go : (b : Bool) → ltb at (length w) ≡ b
-        → callsFrom (n + m) w (nextAt w at)
-        ≡ callsFrom n w (nextAt w at) ++ callsFrom m w (placeAfter n w (nextAt w at))
-        → callsFrom (suc (n + m)) w at ≡ callsFrom (suc n) w at ++ callsFrom m w (placeAfter n w (nextAt w at))
+        → callsFrom (n + m) w (nextAt bare w at)
+        ≡ callsFrom n w (nextAt bare w at) ++ callsFrom m w (placeAfter n w (nextAt bare w at))
+        → callsFrom (suc (n + m)) w at ≡ callsFrom (suc n) w at ++ callsFrom m w (placeAfter n w (nextAt bare w at))
     go true e rest = rw (e, rest)
     go false e rest =
         let past : length w ≤ at = ltb-false _ _ e in
         rw (
           e,
-          calls-end m w (placeAfter n w (nextAt w at))
-              (le-trans past (le-trans (omega arith) (grows n w (nextAt w at)))),
+          calls-end m w (placeAfter n w (nextAt bare w at))
+              (le-trans past (le-trans (omega arith) (grows n w (nextAt bare w at)))),
         )
 
 made-one : (call : Call) → cond (makes call) 1 0 ≡ length (made (call ∷ []))
@@ -98,7 +98,7 @@ module _ {w : List ℕ} {records at terms : ℕ} (here : Reached w records at te
       ap (λ (n : ℕ). callsFrom n w 0) (sym (add-one records)) ∙ split records 1 w 0
       ∙ rw (← here .place, lt-ltb at (length w) inside)
 
-  pub reached-next : Reached w (records + 1) (nextAt w at) (terms + madeAt w at)
+  pub reached-next : Reached w (records + 1) (nextAt bare w at) (terms + madeAt w at)
   reached-next = record {
     place = rw (add-one records, place-next records w 0, here .place);
     many = rw (add-one records, first-more, made-append, length-append, here .many)
@@ -110,32 +110,32 @@ pub made-place : (n : ℕ) (w : List ℕ) (at k : ℕ) → k < length (made (cal
     → callAt w (termPlace n w at k) ≡ getD (made (callsFrom n w at)) k c.check
 unfolding callsFrom termPlace made
 made-place zero w at k h = absurd (omega arith)
-made-place (suc n) w at k h = go (ltb at (length w)) refl (made-place n w (nextAt w at)) h
+made-place (suc n) w at k h = go (ltb at (length w)) refl (made-place n w (nextAt bare w at)) h
   where
     go : (b : Bool) → ltb at (length w) ≡ b
-        → ((k : ℕ) → k < length (made (callsFrom n w (nextAt w at)))
-        → callAt w (termPlace n w (nextAt w at) k) ≡ getD (made (callsFrom n w (nextAt w at))) k c.check)
+        → ((k : ℕ) → k < length (made (callsFrom n w (nextAt bare w at)))
+        → callAt w (termPlace n w (nextAt bare w at) k) ≡ getD (made (callsFrom n w (nextAt bare w at))) k c.check)
         → k < length (made (callsFrom (suc n) w at))
         → callAt w (termPlace (suc n) w at k) ≡ getD (made (callsFrom (suc n) w at)) k c.check
     go false e rest l = absurd (let z : k < 0 = rw e at l in omega arith)
     go true e rest l = rw e (here (makes (callAt w at)) refl k (rw e at l))
       where
         here : (m : Bool) → makes (callAt w at) ≡ m → (k : ℕ)
-            → k < length (made (callAt w at ∷ callsFrom n w (nextAt w at)))
+            → k < length (made (callAt w at ∷ callsFrom n w (nextAt bare w at)))
             → callAt w
-            (cond (makesTerm (operationAt w at)) (cond (eqb k 0) at (termPlace n w (nextAt w at) (k - 1)))
-            (termPlace n w (nextAt w at) k))
-            ≡ getD (made (callAt w at ∷ callsFrom n w (nextAt w at))) k c.check
-        here true m zero l = rw (← made-at w at, m, made-more (callAt w at) (callsFrom n w (nextAt w at)) m)
+            (cond (makesTerm (operationAt w at)) (cond (eqb k 0) at (termPlace n w (nextAt bare w at) (k - 1)))
+            (termPlace n w (nextAt bare w at) k))
+            ≡ getD (made (callAt w at ∷ callsFrom n w (nextAt bare w at))) k c.check
+        here true m zero l = rw (← made-at w at, m, made-more (callAt w at) (callsFrom n w (nextAt bare w at)) m)
         here true m (suc k) l =
             rw (
               ← made-at w at,
               m,
-              made-more (callAt w at) (callsFrom n w (nextAt w at)) m,
+              made-more (callAt w at) (callsFrom n w (nextAt bare w at)) m,
               eqb·suc-zero k,
               sub-one (suc k),
             )
-            (rest k (le-of-suc-le-suc (rw (made-more (callAt w at) (callsFrom n w (nextAt w at)) m) at l)))
+            (rest k (le-of-suc-le-suc (rw (made-more (callAt w at) (callsFrom n w (nextAt bare w at)) m) at l)))
         here false m k l =
-            rw (← made-at w at, m, made-less (callAt w at) (callsFrom n w (nextAt w at)) m)
-            (rest k (rw (made-less (callAt w at) (callsFrom n w (nextAt w at)) m) at l))
+            rw (← made-at w at, m, made-less (callAt w at) (callsFrom n w (nextAt bare w at)) m)
+            (rest k (rw (made-less (callAt w at) (callsFrom n w (nextAt bare w at)) m) at l))

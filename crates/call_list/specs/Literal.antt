@@ -5,11 +5,11 @@ use Prim.Native.Nat.{ℕ, suc, _+_, _-_, _*_, _%_, _^_, _<_, _≤_}
 use lib.Dec.{ltb}
 use Rattle.logic.specs.Table.{tab}
 use Rattle.logic.specs.Word.{payloadOf}
-use Rattle.engine.specs.Encode.{countAt, argumentAt, fromDigits}
+use Rattle.engine.specs.Encode.{countAt, bare, argumentAt, fromDigits}
 
 -- The payloads of the arguments of the record at a place.
 abbrev pub payloads : List ℕ → ℕ → ℕ → ℕ
-payloads w at i = payloadOf (argumentAt w at i)
+payloads w at i = payloadOf (argumentAt bare w at i)
 
 -- A literal's record has at most four 16-bit numbers after its width.
 pub record LiteralFits (w : List ℕ) (head : ℕ) : Type 0 where

@@ -7,7 +7,7 @@ ghost use mathlib.Core.Path.{_≡_};
 ghost use Prim.Native.Nat.{_+_, _<_, _%_};
 ghost use lib.ListN.{length, getD};
 ghost use Rattle.logic.specs.Word.{payloadOf};
-ghost use Rattle.engine.specs.Encode.{opOf, makesTerm, offset, operationAt, countAt, argumentAt, nextAt};
+ghost use Rattle.engine.specs.Encode.{opOf, makesTerm, offset, operationAt, countAt, bare, argumentAt, nextAt};
 ghost use Rattle.engine.specs.Structure.{termPlace, placeOfTerm};
 ghost use Rattle.engine.specs.Emit.{counted};
 ghost use Rattle.call_list.specs.Operations.{opFrom, isDeclare};
@@ -140,7 +140,7 @@ pub fn is_declare(operation: Operation) -> bool
 
 // Where argument i of the record at a place stands; the largest place stays.
 pub fn argument_place(at: usize, i: usize) -> usize
-    ensures { λ r. ⌜ r ≡ counted (at + offset + i) ⌝ }
+    ensures { λ r. ⌜ r ≡ counted (at + offset bare + i) ⌝ }
 {
     if at < 18446744073709551615 - i {
         at + 1 + i
@@ -151,21 +151,21 @@ pub fn argument_place(at: usize, i: usize) -> usize
 
 // The word of argument i of the record at a place.
 pub fn argument_word(calls: &[u32], at: usize, i: usize) -> u32
-    ensures { λ r. ⌜ r ≡ argumentAt (now (calls .entry)) at i ⌝ }
+    ensures { λ r. ⌜ r ≡ argumentAt bare (now (calls .entry)) at i ⌝ }
 {
     logic::word_at(calls, argument_place(at, i))
 }
 
 // The number or the term that argument i of the record at a place has.
 pub fn argument_at(calls: &[u32], at: usize, i: usize) -> u32
-    ensures { λ r. ⌜ r ≡ payloadOf (argumentAt (now (calls .entry)) at i) ⌝ }
+    ensures { λ r. ⌜ r ≡ payloadOf (argumentAt bare (now (calls .entry)) at i) ⌝ }
 {
     logic::payload(argument_word(calls, at, i))
 }
 
 // The place after the record at a place; the largest place stays.
 pub fn next_record(calls: &[u32], at: usize) -> usize
-    ensures { λ r. ⌜ r ≡ counted (nextAt (now (calls .entry)) at) ⌝ }
+    ensures { λ r. ⌜ r ≡ counted (nextAt bare (now (calls .entry)) at) ⌝ }
 {
     argument_place(at, count_at(calls, at) as usize)
 }

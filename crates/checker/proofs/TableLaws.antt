@@ -11,7 +11,7 @@ use borrow.Author.Tests.{ltb-true, ltb-false, lt-ltb, le-ltb}
 use Rattle.logic.specs.Word.{kindOf, payloadOf}
 use Rattle.engine.specs.Sorts.{Sort, Context, sortAt}
 use Rattle.engine.specs.Reached.{Right}
-use Rattle.engine.specs.Encode.{operationAt, countAt, argumentAt}
+use Rattle.engine.specs.Encode.{operationAt, countAt, bare, argumentAt}
 use Rattle.engine.specs.WellFormed.{again, headStands, malformed, readFrom, known, sortOfWord, countFits, argumentOf}
 use Rattle.engine.specs.WellFormed.{admits, firstFailing, admitted, wrongArgument}
 use Rattle.engine.proofs.Steps.{read-head, read-wrong}
@@ -25,8 +25,8 @@ use Rattle.checker.specs.Tables.{wordSort, standsBy, wrongBy, againBy, h
 
 -- What the tests of one argument say, taken from the words one by one.
 pub stands-is : (sort : ℕ → Sort) (w : List ℕ) (terms at i : ℕ) {arg : Argument} {first before word sb s : ℕ} {r : Bool}
-    → arg ≡ argumentOf (operationAt w at) i → first ≡ argumentAt w at 0 → before ≡ getD w (at + i) 0
-    → word ≡ argumentAt w at i → sb ≡ wordSort sort terms before → s ≡ wordSort sort terms word
+    → arg ≡ argumentOf (operationAt w at) i → first ≡ argumentAt bare w at 0 → before ≡ getD w (at + i) 0
+    → word ≡ argumentAt bare w at i → sb ≡ wordSort sort terms before → s ≡ wordSort sort terms word
     → r ≡ admits arg first before word sb s → r ≡ standsBy sort w terms at i
 stands-is sort w terms at i p0 p1 p2 p3 p4 p5 e = rw (← p0, ← p1, ← p2, ← p3, ← p4, ← p5) e
 
@@ -35,7 +35,8 @@ pub head-whole : (names tops w : List ℕ) (at : ℕ) → headBy names tops w at
 head-whole names tops w at h = go (eqb (kindOf (getD w at 0)) 2) (ltb (countAt w at) (length w - at)) refl h
   where
     rest : Bool
-    rest = cond (countFits (operationAt w at) (countAt w at) (argumentAt w at 0)) (not (againBy names tops w at)) false
+    rest = cond (countFits (operationAt w at) (countAt w at) (argumentAt bare w at 0)) (not (againBy names tops w at))
+        false
 
     go : (a b : Bool) → ltb (countAt w at) (length w - at) ≡ b → cond a (cond b rest false) false ≡ true
         → at + countAt w at < length w
@@ -63,7 +64,7 @@ module _ {w : List ℕ} {at : ℕ} {x : Context} {table : List ℕ} {terms : ℕ
       go false b e = refl
 
   pub stands-admitted : (i : ℕ) → standsBy sort w terms at i ≡ admitted (x .sorts) w at i
-  stands-admitted i = rw (word-sort-is (getD w (at + i) 0), word-sort-is (argumentAt w at i))
+  stands-admitted i = rw (word-sort-is (getD w (at + i) 0), word-sort-is (argumentAt bare w at i))
 
 -- Two tests that agree fail first at one number.
 first-same : (f g : ℕ → Bool) → ((i : ℕ) → f i ≡ g i) → (i n : ℕ) → firstFailing f i n ≡ firstFailing g i n
@@ -99,11 +100,12 @@ module _ {w : List ℕ} {at : ℕ} {x : Context} {table : List ℕ} {terms : ℕ
   pub again-is : againBy names tops w at ≡ again x w at
   again-is =
       rw (
-        declares-of (operationAt w at) (countAt w at) (λ i. payloadOf (argumentAt w at i)),
-        known-is r names tops named topped (argumentAt w at 0) (argumentAt w at 1) (argumentAt w at 2),
+        declares-of (operationAt w at) (countAt w at) (λ i. payloadOf (argumentAt bare w at i)),
+        known-is r names tops named topped (argumentAt bare w at 0) (argumentAt bare w at 1)
+            (argumentAt bare w at 2),
       )
       (as-and (isDeclare (operationAt w at))
-      (known (x .names) (argumentAt w at 0) (argumentAt w at 1) (argumentAt w at 2)))
+      (known (x .names) (argumentAt bare w at 0) (argumentAt bare w at 1) (argumentAt bare w at 2)))
 
   pub head-is : at < length w → x .checked ≡ false → headStands x w at ≡ headBy names tops w at
   head-is inside open-list =
@@ -113,7 +115,7 @@ module _ {w : List ℕ} {at : ℕ} {x : Context} {table : List ℕ} {terms : ℕ
         whole-same (countAt w at) (length w) at inside,
       )
       (as-conds (eqb (kindOf (getD w at 0)) 2) (ltb (countAt w at) (length w - at))
-      (countFits (operationAt w at) (countAt w at) (argumentAt w at 0)) (not (againBy names tops w at)))
+      (countFits (operationAt w at) (countAt w at) (argumentAt bare w at 0)) (not (againBy names tops w at)))
 
   -- The fault of a record is that of reading it.
   pub fault-none : (sort : ℕ → Sort) → Says sort x →

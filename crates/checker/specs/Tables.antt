@@ -7,7 +7,7 @@ use lib.ListN.{length, getD}
 use lib.Dec.{eqb, ltb}
 use Rattle.logic.specs.Word.{kindOf, payloadOf}
 use Rattle.engine.specs.Sorts.{Sort, noSort, start, after}
-use Rattle.engine.specs.Encode.{Op, operationAt, countAt, argumentAt, callOf}
+use Rattle.engine.specs.Encode.{Op, operationAt, countAt, bare, argumentAt, callOf}
 use Rattle.engine.specs.WellFormed.{countFits, argumentOf, admits, firstFailing, Outcome, wellFormed, malformed}
 use Rattle.call_list.specs.Operations.{isDeclare}
 use Rattle.name_table.specs.Names.{knownBy}
@@ -30,8 +30,8 @@ wordSort sort terms word = cond (eqb (kindOf word) 4 && ltb (payloadOf word) ter
 -- Argument i of the record at a place may stand there.
 abbrev pub standsBy : (ℕ → Sort) → List ℕ → ℕ → ℕ → ℕ → Bool
 standsBy sort w terms at i =
-    admits (argumentOf (operationAt w at) i) (argumentAt w at 0) (getD w (at + i) 0) (argumentAt w at i)
-    (wordSort sort terms (getD w (at + i) 0)) (wordSort sort terms (argumentAt w at i))
+    admits (argumentOf (operationAt w at) i) (argumentAt bare w at 0) (getD w (at + i) 0) (argumentAt bare w at i)
+    (wordSort sort terms (getD w (at + i) 0)) (wordSort sort terms (argumentAt bare w at i))
 
 abbrev pub wrongBy : (ℕ → Sort) → List ℕ → ℕ → ℕ → Option ℕ
 wrongBy sort w terms at = firstFailing (standsBy sort w terms at) 0 (countAt w at)
@@ -45,14 +45,14 @@ wrongAs (some i) = At i
 abbrev pub againBy : List ℕ → List ℕ → List ℕ → ℕ → Bool
 againBy names tops w at =
     cond (isDeclare (operationAt w at))
-    (knownBy names tops w at (argumentAt w at 0) (argumentAt w at 1) (argumentAt w at 2)) false
+    (knownBy names tops w at (argumentAt bare w at 0) (argumentAt bare w at 1) (argumentAt bare w at 2)) false
 
 -- The head of the record at a place stands.
 abbrev pub headBy : List ℕ → List ℕ → List ℕ → ℕ → Bool
 headBy names tops w at =
     cond (eqb (kindOf (getD w at 0)) 2)
     (cond (ltb (countAt w at) (length w - at))
-    (cond (countFits (operationAt w at) (countAt w at) (argumentAt w at 0)) (not (againBy names tops w at)) false)
+    (cond (countFits (operationAt w at) (countAt w at) (argumentAt bare w at 0)) (not (againBy names tops w at)) false)
     false)
     false
 

@@ -21,7 +21,7 @@ use Rattle.engine.specs.Meaning.{All}
 use Rattle.engine.specs.Sorts.{Sort, IsBool, IsVector, sortAt, WellSorted, Context, start, after, Allowed, Formed}
 use Rattle.engine.specs.Sorts.{leaves, payloadLimit}
 use Rattle.engine.specs.Encode.{digits, digitCount, operationOf, termWords, words, recordOf, encode, letterNumber}
-use Rattle.engine.specs.Encode.{suffixNumber, operationAt, countAt, argumentAt, nextAt, callAt}
+use Rattle.engine.specs.Encode.{suffixNumber, operationAt, countAt, bare, argumentAt, nextAt, callAt}
 use Rattle.engine.specs.WellFormed.{isNumber, isVector, isWidth, sortOfWord, countFits, argumentOf, admits}
 use Rattle.engine.specs.WellFormed.{isNumberOf, spells, known, declares, again, headStands, admitted}
 use Rattle.engine.specs.WellFormed.{firstFailing, wrongArgument, Outcome, wellFormed, readFrom, outcome}
@@ -278,7 +278,7 @@ module _ (x : Context) (a b : ℕ → ℕ) (follows : (i : ℕ) → b (suc i) �
 -- ---- the whole list
 
 head-holds : (x : Context) (w : List ℕ) (at : ℕ) → x .checked ≡ false → kindOf (getD w at 0) ≡ 2
-    → at + countAt w at < length w → countFits (operationAt w at) (countAt w at) (argumentAt w at 0) ≡ true
+    → at + countAt w at < length w → countFits (operationAt w at) (countAt w at) (argumentAt bare w at 0) ≡ true
     → again x w at ≡ false → headStands x w at ≡ true
 head-holds x w at p q r s t =
     both (both (both (both (ap not p) (eq-eqb (kindOf (getD w at 0)) 2 q)) (lt-ltb (at + countAt w at) (length w) r)) s)
@@ -295,14 +295,14 @@ module _ (x : Context) (call : Call) (open-list : x .checked ≡ false) (ok : Al
       (ap kindOf (head-at x call ok pre post) ∙ kind-of-word 2 _)
       (let e = length-append pre (recordOf call ++ post) in let f = length-append (words call) post in omega arith)
       (rw (operation-at x call ok pre post, n)
-      (count-fits x call (argumentAt list (length pre)) ok (argument-at x call ok pre post)))
+      (count-fits x call (argumentAt bare list (length pre)) ok (argument-at x call ok pre post)))
       (rw (call-at x call ok pre post)
-      (not-again x call (argumentAt list (length pre)) ok (argument-at x call ok pre post)))
+      (not-again x call (argumentAt bare list (length pre)) ok (argument-at x call ok pre post)))
 
   admitted-at : (i : ℕ) → i < length (words call) → admitted (x .sorts) list (length pre) i ≡ true
   admitted-at i l =
       rw (operation-at x call ok pre post)
-      (stands x (argumentAt list (length pre)) (λ k. getD list (length pre + k) 0)
+      (stands x (argumentAt bare list (length pre)) (λ k. getD list (length pre + k) 0)
       (λ k. ap (λ (j : ℕ). getD list j 0) (let e : length pre + suc k ≡ length pre + 1 + k = omega arith in e))
       call ok (argument-at x call ok pre post) i l)
 

@@ -21,7 +21,8 @@ use Rattle.engine.specs.Call as c
 use Rattle.engine.proofs.Laws.{length-snoc}
 use Rattle.engine.specs.Sorts.{Sort, sortAt, sortOf, WellSorted, Context, start, after, Allowed, payloadLimit}
 use Rattle.engine.proofs.SortLaws.{there}
-use Rattle.engine.specs.Encode.{words, makesTerm, operationOf, operationAt, argumentAt, countAt, nextAt, callAt}
+use Rattle.engine.specs.Encode.{words, makesTerm, operationOf, operationAt, bare, argumentAt, countAt, nextAt}
+use Rattle.engine.specs.Encode.{callAt}
 use Rattle.engine.specs.WellFormed.{isNumber, isNumberOf, headStands, wrongArgument, declares, spells, known}
 use Rattle.engine.specs.WellFormed.{wellFormed, malformed, readFrom}
 use Rattle.engine.proofs.Steps.{read-step, read-head, read-wrong}
@@ -38,35 +39,37 @@ use Rattle.engine.specs.Reached.{Right, Passes, Tabled}
 
 -- Where reading from a place meets no fault, its record is right, and reading the rest meets none.
 pub right-read : (n : ℕ) (w : List ℕ) (at : ℕ) (x y : Context) → at < length w → readFrom (suc n) w at x ≡ wellFormed y
-    → Right w at x × (readFrom n w (nextAt w at) (after x (callAt w at)) ≡ wellFormed y)
+    → Right w at x × (readFrom n w (nextAt bare w at) (after x (callAt w at)) ≡ wellFormed y)
 right-read n w at x y inside e = go (headStands x w at) refl (wrongArgument (x .sorts) w at) refl
   where
     never : {k : ℕ} → malformed k ≡ wellFormed y → ⊥
     never f = let z : _≡_ {A = ℕ} 0 1 = cc in omega arith
 
     go : (h : Bool) → headStands x w at ≡ h → (a : Option ℕ) → wrongArgument (x .sorts) w at ≡ a
-        → Right w at x × (readFrom n w (nextAt w at) (after x (callAt w at)) ≡ wellFormed y)
+        → Right w at x × (readFrom n w (nextAt bare w at) (after x (callAt w at)) ≡ wellFormed y)
     go false p a q = absurd (never (sym (read-head n w at x inside p) ∙ e))
     go true p (some i) q = absurd (never (sym (read-wrong n w at x i inside p q) ∙ e))
     go true p none q =
         (record { inside = inside; head = p; arguments = q }, sym (read-step n w at x inside p q) ∙ e)
 
 pub passes-snoc : (n : ℕ) (w : List ℕ) (at : ℕ) (x : Context) (end : ℕ) (y : Context) → Passes n w at x end y
-    → Right w end y → Passes (suc n) w at x (nextAt w end) (after y (callAt w end))
+    → Right w end y → Passes (suc n) w at x (nextAt bare w end) (after y (callAt w end))
 passes-snoc zero w at x end y p r = (
   subst (λ (k : ℕ). Right w k x) (sym (p .0)) (subst (λ (z : Context). Right w end z) (sym (p .1)) r),
   (
-    ap₂ (λ (k : ℕ) (z : Context). nextAt w k) (p .0) (p .1),
+    ap₂ (λ (k : ℕ) (z : Context). nextAt bare w k) (p .0) (p .1),
     ap₂ (λ (k : ℕ) (z : Context). after z (callAt w k)) (p .0) (p .1),
   ),
 )
-passes-snoc (suc n) w at x end y p r = (p .0, passes-snoc n w (nextAt w at) (after x (callAt w at)) end y (p .1) r)
+passes-snoc (suc n) w at x end y p r =
+    (p .0, passes-snoc n w (nextAt bare w at) (after x (callAt w at)) end y (p .1) r)
 
 -- Reading goes forward, in at least as many words as records.
 pub passes-forward : (n : ℕ) (w : List ℕ) (at : ℕ) (x : Context) (end : ℕ) (y : Context) → Passes n w at x end y →
     at + n ≤ end
 passes-forward zero w at x end y p = let e = p .0 in omega arith
-passes-forward (suc n) w at x end y p = let h = passes-forward n w (nextAt w at) (after x (callAt w at)) end y (p .1) in
+passes-forward (suc n) w at x end y p = let h =
+    passes-forward n w (nextAt bare w at) (after x (callAt w at)) end y (p .1) in
     omega arith
 
 -- ---- sorts
@@ -156,7 +159,7 @@ grows zero w at x end y p k h =
     (subst (λ (z : Context). k < length (z .sorts)) (p .1) h, ap (λ (z : Context). sortAt (z .sorts) k) (sym (p .1)))
 grows (suc n) w at x end y p k h =
     let now = stays x (callAt w at) (makes-at w at x (p .0)) k h in
-    let later = grows n w (nextAt w at) (after x (callAt w at)) end y (p .1) k (now .0) in
+    let later = grows n w (nextAt bare w at) (after x (callAt w at)) end y (p .1) k (now .0) in
     (later .0, later .1 ∙ now .1)
 
 -- The record at a place says the sort of term k.
@@ -172,7 +175,7 @@ finds zero m w at x end y p h k lo hi =
     absurd (let e = ap (λ (z : Context). length (z .sorts)) (p .1) in omega arith)
 finds (suc n) zero w at x end y p h k lo hi = absurd (omega arith)
 finds (suc n) (suc m) w at x end y p h k lo hi =
-    go (λ lo′ hi′. finds n m w (nextAt w at) (after x (callAt w at)) end y (p .1) (omega arith) k lo′ hi′)
+    go (λ lo′ hi′. finds n m w (nextAt bare w at) (after x (callAt w at)) end y (p .1) (omega arith) k lo′ hi′)
     (makes-at w at x (p .0)) (ℕ-discrete k (length (x .sorts)))
   where
     here : k ≡ length (x .sorts) → (s : Sort) → after x (callAt w at) .sorts ≡ x .sorts ++ (s ∷ [])
@@ -182,7 +185,7 @@ finds (suc n) (suc m) w at x end y p h k lo hi =
         let made : sortAt (after x (callAt w at) .sorts) k ≡ s =
         ap₂ sortAt a e ∙ getD-append-seam (x .sorts) s [] 65 in
         let inside : k < length (after x (callAt w at) .sorts) = rw (a, length-snoc (x .sorts) s) (omega arith) in
-        let later = grows n w (nextAt w at) (after x (callAt w at)) end y (p .1) k inside .1 in
+        let later = grows n w (nextAt bare w at) (after x (callAt w at)) end y (p .1) k inside .1 in
         record {
           sort-is =
               later ∙ made ∙ q
@@ -192,7 +195,7 @@ finds (suc n) (suc m) w at x end y p h k lo hi =
         }
 
     go : (length (after x (callAt w at) .sorts) ≤ k → k < length (y .sorts)
-        → Says w y k (termPlace m w (nextAt w at) (k - length (after x (callAt w at) .sorts))))
+        → Says w y k (termPlace m w (nextAt bare w at) (k - length (after x (callAt w at) .sorts))))
         → Makes x (callAt w at) → Dec (k ≡ length (x .sorts)) →
         Says w y k (termPlace (suc m) w at (k - length (x .sorts)))
     go rest (one s a t q b) (yes e) =
@@ -208,7 +211,7 @@ finds (suc n) (suc m) w at x end y p h k lo hi =
         place-next w at (k - length (x .sorts)) (p .0 .inside) (suc m) (omega arith) (makes-op w at x (p .0) ∙ t)
         (λ z. absurd (omega arith)) in
         subst (Says w y k)
-        (sym (next ∙ ap₂ (λ (f j : ℕ). termPlace f w (nextAt w at) j) (sub-one (suc m))
+        (sym (next ∙ ap₂ (λ (f j : ℕ). termPlace f w (nextAt bare w at) j) (sub-one (suc m))
         (let f : k - length (x .sorts) - 1 ≡ k - length (after x (callAt w at) .sorts) = omega arith in f)))
         (rest (omega arith) hi)
     go rest (nothing a t) d =
@@ -216,7 +219,7 @@ finds (suc n) (suc m) w at x end y p h k lo hi =
         let next = place-skip w
         at (k - length (x .sorts)) (p .0 .inside) (suc m) (omega arith) (makes-op w at x (p .0) ∙ t) in
         subst (Says w y k)
-        (sym (next ∙ ap₂ (λ (f j : ℕ). termPlace f w (nextAt w at) j) (sub-one (suc m))
+        (sym (next ∙ ap₂ (λ (f j : ℕ). termPlace f w (nextAt bare w at) j) (sub-one (suc m))
         (let f : k - length (x .sorts) ≡ k - length (after x (callAt w at) .sorts) = omega arith in f)))
         (rest (omega arith) hi)
 
@@ -266,7 +269,7 @@ pub low-passes : (n : ℕ) (w : List ℕ) (at : ℕ) (x : Context) (end : ℕ) (
     → Low (y .sorts)
 low-passes zero w at x end y p low = subst (λ (z : Context). Low (z .sorts)) (p .1) low
 low-passes (suc n) w at x end y p low =
-    low-passes n w (nextAt w at) (after x (callAt w at)) end y (p .1)
+    low-passes n w (nextAt bare w at) (after x (callAt w at)) end y (p .1)
     (low-after x (callAt w at) (reads-at x w at (p .0 .head) (p .0 .arguments) .allowed) low)
 
 pub low-start : Low (start .sorts)
@@ -362,13 +365,13 @@ known-declared (suc n) zero w at x end y p h l i s = absurd (omega arith)
 known-declared (suc n) (suc m) w at x end y p h l i s =
     let r = reads-at x w at (p .0 .head) (p .0 .arguments) in
     let ahead = passes-forward (suc n) w at x end y p in
-    known-declared n m w (nextAt w at) (after x (callAt w at)) end y (p .1) (omega arith) l i s
-    ∙ ap (λ (b : Bool). b || declaredFrom m w (nextAt w at) end l i s)
-    (known-after x (callAt w at) (countAt w at) (argumentAt w at) (r .allowed) (r .written) l i s)
+    known-declared n m w (nextAt bare w at) (after x (callAt w at)) end y (p .1) (omega arith) l i s
+    ∙ ap (λ (b : Bool). b || declaredFrom m w (nextAt bare w at) end l i s)
+    (known-after x (callAt w at) (countAt w at) (argumentAt bare w at) (r .allowed) (r .written) l i s)
     ∙ go (omega arith) (declaresAt w at l i s) refl
   where
     go : at < end → (d : Bool) → declaresAt w at l i s ≡ d
-        → (d || known (x .names) l i s || declaredFrom m w (nextAt w at) end l i s)
+        → (d || known (x .names) l i s || declaredFrom m w (nextAt bare w at) end l i s)
         ≡ (known (x .names) l i s || declaredFrom (suc m) w at end l i s)
     go a true e = rw (declared-here w end l i s (suc m) at (omega arith) a e) (sym (or-true (known (x .names) l i s)))
     go a false e =

@@ -27,7 +27,7 @@ use Rattle.engine.specs.Sorts.{Sort, IsBool, IsVector, sortAt, WellSorte
 use Rattle.engine.specs.Sorts.{leaves, payloadLimit, countLimit}
 use Rattle.engine.specs.Encode.{Op, opOf, operations, numberOf, digits, digitCount, fromDigits, operationOf}
 use Rattle.engine.specs.Encode.{words, recordOf, encode, letterNumber, suffixNumber, callOf, operationAt, countAt}
-use Rattle.engine.specs.Encode.{argumentAt, nextAt, callAt, callsFrom, decode}
+use Rattle.engine.specs.Encode.{bare, argumentAt, nextAt, callAt, callsFrom, decode}
 use Rattle.engine.specs.Encode as o
 use Rattle.engine.specs.WellFormed.{isNumber, isVector, isWidth, sortOfWord, literalCount, countFits, argumentOf}
 use Rattle.engine.specs.WellFormed.{admits, isNumberOf, spells, known, declares, again, headStands, admitted}
@@ -574,7 +574,7 @@ pub record Stands (x : Context) (w : List ℕ) (at : ℕ) : Type 0 where
   pub unchecked : x .checked ≡ false
   pub head : kindOf (getD w at 0) ≡ 2
   pub whole : at + countAt w at < length w
-  pub counted : countFits (operationAt w at) (countAt w at) (argumentAt w at 0) ≡ true
+  pub counted : countFits (operationAt w at) (countAt w at) (argumentAt bare w at 0) ≡ true
   pub new : again x w at ≡ false
 
 pub stands : (x : Context) (w : List ℕ) (at : ℕ) → headStands x w at ≡ true → Stands x w at
@@ -582,7 +582,7 @@ stands x w at h =
     let t0 = not (x .checked) in
     let t1 = eqb (kindOf (getD w at 0)) 2 in
     let t2 = ltb (at + countAt w at) (length w) in
-    let t3 = countFits (operationAt w at) (countAt w at) (argumentAt w at 0) in
+    let t3 = countFits (operationAt w at) (countAt w at) (argumentAt bare w at 0) in
     let t4 = not (again x w at) in
     let h3 = left-of (t0 && t1 && t2 && t3) t4 h in
     let h2 = left-of (t0 && t1 && t2) t3 h3 in
@@ -599,10 +599,10 @@ few-words : (w : List ℕ) (at : ℕ) → countAt w at < countLimit
 few-words w at = omega arith
 
 pub reads-at : (x : Context) (w : List ℕ) (at : ℕ) → headStands x w at ≡ true → wrongArgument (x .sorts) w at ≡ none
-    → Reads x (operationAt w at) (countAt w at) (argumentAt w at)
+    → Reads x (operationAt w at) (countAt w at) (argumentAt bare w at)
 reads-at x w at h q =
     let s = stands x w at h in
-    reads x (countAt w at) (argumentAt w at) (λ k. getD w (at + k) 0)
+    reads x (countAt w at) (argumentAt bare w at) (λ k. getD w (at + k) 0)
     (λ k. ap (λ (j : ℕ). getD w j 0) (let e : at + suc k ≡ at + 1 + k = omega arith in e)) (few-words w at)
     (operationAt w at) (s .counted)
     (λ i l. failing-free (admitted (x .sorts) w at) 0 (countAt w at) q i zero-le (omega arith)) (s .new)
@@ -622,7 +622,7 @@ drop-tab w k (suc n) h =
 
 -- A record that stands is the record of its call, and the rest of the list follows.
 record-at : (x : Context) (w : List ℕ) (at : ℕ) → headStands x w at ≡ true → wrongArgument (x .sorts) w at ≡ none
-    → recordOf (callAt w at) ++ drop (nextAt w at) w ≡ drop at w
+    → recordOf (callAt w at) ++ drop (nextAt bare w at) w ≡ drop at w
 record-at x w at h q =
     let s = stands x w at h in
     let r = reads-at x w at h q in
@@ -634,7 +634,8 @@ record-at x w at h q =
     sym (drop-cons w at 0 (omega arith)
     ∙ ap₂ (λ (a : ℕ) (l : List ℕ). a ∷ l)
     (sym (ap₂ headWord number count ∙ head-back (getD w at 0) (s .head)))
-    (drop-one w at (countAt w at) (omega arith) ∙ ap (λ (l : List ℕ). l ++ drop (nextAt w at) w) (sym (r .written))))
+    (drop-one w at (countAt w at) (omega arith)
+    ∙ ap (λ (l : List ℕ). l ++ drop (nextAt bare w at) w) (sym (r .written))))
   where
     drop-one : (w : List ℕ) (at n : ℕ) → at + n < length w
         → drop (suc at) w ≡ tab n (λ i. getD w (at + 1 + i) 0) ++ drop (at + 1 + n) w
@@ -678,7 +679,7 @@ reads-from (suc n) w at x y h e =
         let inside = ltb-true at (length w) i in
         let whole = stands x w at p .whole in
         let r =
-        rest w (nextAt w at) (after x (callAt w at)) y (omega arith) (sym (read-step n w at x inside p q) ∙ e) in
+        rest w (nextAt bare w at) (after x (callAt w at)) y (omega arith) (sym (read-step n w at x inside p q) ∙ e) in
         rw i record {
           formed = (stands x w at p .unchecked, reads-at x w at p q .allowed, r .formed);
           written = ap (λ (l : List ℕ). recordOf (callAt w at) ++ l) (r .written) ∙ record-at x w at p q;

@@ -13,7 +13,7 @@ use lib.Dec.{ltb}
 use borrow.Author.Tests.{lt-ltb, le-ltb}
 use Rattle.engine.specs.Call.{Call}
 use Rattle.engine.specs.Sorts.{Context, after}
-use Rattle.engine.specs.Encode.{offset, nextAt, callAt, callsFrom}
+use Rattle.engine.specs.Encode.{offset, bare, nextAt, callAt, callsFrom}
 use Rattle.engine.specs.WellFormed.{headStands, firstFailing, admitted, wrongArgument, Outcome, wellFormed}
 use Rattle.engine.specs.WellFormed.{malformed, readFrom}
 
@@ -62,7 +62,7 @@ calls-end zero w at h = refl
 calls-end (suc n) w at h = rw (le-ltb at (length w) h)
 
 pub calls-step : (n : ℕ) (w : List ℕ) (at : ℕ) → at < length w
-    → callsFrom (suc n) w at ≡ callAt w at ∷ callsFrom n w (nextAt w at)
+    → callsFrom (suc n) w at ≡ callAt w at ∷ callsFrom n w (nextAt bare w at)
 unfolding callsFrom
 calls-step n w at h = rw (lt-ltb at (length w) h)
 
@@ -73,7 +73,7 @@ calls-enough zero m w at h k = sym (calls-end m w at (omega arith))
 calls-enough (suc n) zero w at h k = calls-end (suc n) w at (omega arith)
 calls-enough (suc n) (suc m) w at h k =
     ap (λ (r : List Call). cond (ltb at (length w)) (callAt w at ∷ r) [])
-    (calls-enough n m w (nextAt w at) (omega arith) (omega arith))
+    (calls-enough n m w (nextAt bare w at) (omega arith) (omega arith))
 
 -- ---- the outcome
 
@@ -84,7 +84,7 @@ read-end (suc n) w at x h = rw (le-ltb at (length w) h)
 
 module _ (n : ℕ) (w : List ℕ) (at : ℕ) (x : Context) where
   pub read-step : at < length w → headStands x w at ≡ true → wrongArgument (x .sorts) w at ≡ none
-      → readFrom (suc n) w at x ≡ readFrom n w (nextAt w at) (after x (callAt w at))
+      → readFrom (suc n) w at x ≡ readFrom n w (nextAt bare w at) (after x (callAt w at))
   unfolding readFrom
   read-step h e q = rw (lt-ltb at (length w) h, e, q)
 
@@ -93,6 +93,6 @@ module _ (n : ℕ) (w : List ℕ) (at : ℕ) (x : Context) where
   read-head h e = rw (lt-ltb at (length w) h, e)
 
   pub read-wrong : (i : ℕ) → at < length w → headStands x w at ≡ true → wrongArgument (x .sorts) w at ≡ some i
-      → readFrom (suc n) w at x ≡ malformed (at + offset + i)
+      → readFrom (suc n) w at x ≡ malformed (at + offset bare + i)
   unfolding readFrom
   read-wrong i h e q = rw (lt-ltb at (length w) h, e, q)

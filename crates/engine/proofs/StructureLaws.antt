@@ -10,7 +10,7 @@ use lib.Dec.{ltb}
 use borrow.Author.Tests.{lt-ltb, le-ltb, eq-eqb, ne-eqb, ltb-true}
 use Rattle.logic.specs.declared.Term.{Term}
 use Rattle.engine.specs.Sorts.{Sort}
-use Rattle.engine.specs.Encode.{makesTerm, operationAt, nextAt, callAt}
+use Rattle.engine.specs.Encode.{makesTerm, operationAt, bare, nextAt, callAt}
 use Rattle.engine.specs.Structure.{originOf, termPlace, placeOfTerm, choose, guarded, originBy, sortFrom, capped}
 use Rattle.engine.specs.Structure.{sortThrough, sortOfTerm, declaresAt, declaredFrom}
 use Rattle.engine.specs.declared.Origin.{Origin}
@@ -30,13 +30,13 @@ module _ (w : List ℕ) (at k : ℕ) (inside : at < length w) where
   place-here (suc n) h e q = rw (lt-ltb at (length w) inside, e, eq-eqb k 0 q)
 
   pub place-next : (n : ℕ) → 0 < n → makesTerm (operationAt w at) ≡ true → (k ≡ 0 → ⊥)
-      → termPlace n w at k ≡ termPlace (n - 1) w (nextAt w at) (k - 1)
+      → termPlace n w at k ≡ termPlace (n - 1) w (nextAt bare w at) (k - 1)
   unfolding termPlace
   place-next zero h e q = absurd (omega arith)
   place-next (suc n) h e q = rw (lt-ltb at (length w) inside, e, ne-eqb k 0 q, sub-one (suc n))
 
   pub place-skip : (n : ℕ) → 0 < n → makesTerm (operationAt w at) ≡ false
-      → termPlace n w at k ≡ termPlace (n - 1) w (nextAt w at) k
+      → termPlace n w at k ≡ termPlace (n - 1) w (nextAt bare w at) k
   unfolding termPlace
   place-skip zero h e = absurd (omega arith)
   place-skip (suc n) h e = rw (lt-ltb at (length w) inside, e, sub-one (suc n))
@@ -56,7 +56,7 @@ module _ (w : List ℕ) (end letter index suffix : ℕ) where
   declared-here (suc n) at h l e = rw (lt-ltb at end l, e)
 
   pub declared-next : (n at : ℕ) → 0 < n → at < end → declaresAt w at letter index suffix ≡ false
-      → declaredFrom n w at end letter index suffix ≡ declaredFrom (n - 1) w (nextAt w at) end letter index suffix
+      → declaredFrom n w at end letter index suffix ≡ declaredFrom (n - 1) w (nextAt bare w at) end letter index suffix
   unfolding declaredFrom
   declared-next zero at h l e = absurd (omega arith)
   declared-next (suc n) at h l e = rw (lt-ltb at end l, e, sub-one (suc n))

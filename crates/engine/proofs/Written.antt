@@ -24,7 +24,8 @@ use Rattle.engine.specs.Sorts.{Sort, IsBool, IsVector, sortAt, WellSorte
 use Rattle.engine.specs.Sorts.{leaves, payloadLimit, countLimit}
 use Rattle.engine.specs.Encode.{Op, opOf, numberOf, digits, digitCount, operationOfTerm, operationOf, termWords}
 use Rattle.engine.specs.Encode.{words, recordOf, encode, fromDigits, letterNumber, suffixNumber, callOf}
-use Rattle.engine.specs.Encode.{operationAt, countAt, argumentAt, nextAt, callAt, callsFrom, decode, offset}
+use Rattle.engine.specs.Encode.{operationAt, countAt, bare, argumentAt, nextAt, callAt, callsFrom, decode}
+use Rattle.engine.specs.Encode.{offset}
 use Rattle.engine.specs.Encode as o
 use Rattle.engine.proofs.Steps.{calls-end, calls-step}
 
@@ -271,16 +272,16 @@ module _ (x : Context) (call : Call) (ok : Allowed x call) (pre post : List ℕ)
       ∙ head-count (numberOf (operationOf call)) (length (words call)) (number-lt (operationOf call))
       (words-count x call ok)
 
-  pub argument-at : (i : ℕ) → i < length (words call) → argumentAt here (length pre) i ≡ getD (words call) i 0
+  pub argument-at : (i : ℕ) → i < length (words call) → argumentAt bare here (length pre) i ≡ getD (words call) i 0
   argument-at i h =
       ap (λ (k : ℕ). getD here k 0) (let e : length pre + 1 + i ≡ length pre + suc i = omega arith in e)
       ∙ getD-append-add pre (recordOf call ++ post) (suc i) 0 ∙ List·getD-append (words call) post 0 i h
 
   pub call-at : callAt here (length pre) ≡ call
   call-at =
-      rw (operation-at, count-at) (call-back x call ok (argumentAt here (length pre)) argument-at)
+      rw (operation-at, count-at) (call-back x call ok (argumentAt bare here (length pre)) argument-at)
 
-  pub next-at : nextAt here (length pre) ≡ length (pre ++ recordOf call)
+  pub next-at : nextAt bare here (length pre) ≡ length (pre ++ recordOf call)
   next-at = let e = length-append pre (recordOf call) in let n = count-at in omega arith
 
   pub before-end : length pre < length here

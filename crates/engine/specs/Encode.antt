@@ -83,9 +83,13 @@ makesTerm assert = false
 makesTerm check = false
 makesTerm unknown = false
 
+-- The form of a record: its head, then its arguments.
+pub data Form : Type 0 where
+  bare : Form
+
 -- Where a record's arguments begin, from its head.
-abbrev pub offset : ℕ
-offset = 1
+abbrev pub offset : Form → ℕ
+offset bare = 1
 
 -- letter n=0 p=1 t=2, suffix none=0 x=1 y=2
 abbrev pub letterNumber : Letter → ℕ
@@ -196,20 +200,20 @@ operationAt w at = opOf (payloadOf (getD w at 0) % 32)
 abbrev pub countAt : List ℕ → ℕ → ℕ
 countAt w at = payloadOf (getD w at 0) / 32
 
-abbrev pub argumentAt : List ℕ → ℕ → ℕ → ℕ
-argumentAt w at i = getD w (at + offset + i) 0
+abbrev pub argumentAt : Form → List ℕ → ℕ → ℕ → ℕ
+argumentAt form w at i = getD w (at + offset form + i) 0
 
 -- Where the next record begins.
-abbrev pub nextAt : List ℕ → ℕ → ℕ
-nextAt w at = at + offset + countAt w at
+abbrev pub nextAt : Form → List ℕ → ℕ → ℕ
+nextAt form w at = at + offset form + countAt w at
 
 abbrev pub callAt : List ℕ → ℕ → Call
-callAt w at = callOf (operationAt w at) (countAt w at) (λ i. payloadOf (argumentAt w at i))
+callAt w at = callOf (operationAt w at) (countAt w at) (λ i. payloadOf (argumentAt bare w at i))
 
 -- The calls of at most n records, from a place on.
 unfoldable pub callsFrom : ℕ → List ℕ → ℕ → List Call
 callsFrom zero w at = []
-callsFrom (suc n) w at = mathlib.Core.Bool.cond (ltb at (length w)) (callAt w at ∷ callsFrom n w (nextAt w at)) []
+callsFrom (suc n) w at = mathlib.Core.Bool.cond (ltb at (length w)) (callAt w at ∷ callsFrom n w (nextAt bare w at)) []
 
 -- The calls of a list of words; each record has a word or more.
 abbrev pub decode : List ℕ → List Call

@@ -7,7 +7,7 @@ use mathlib.Core.Option.{none}
 use Prim.Native.Nat.{ℕ, zero, suc, _<_}
 use lib.ListN.{length, getD}
 use Rattle.engine.specs.Sorts.{Sort, sortAt, Context, after}
-use Rattle.engine.specs.Encode.{nextAt, callAt}
+use Rattle.engine.specs.Encode.{bare, nextAt, callAt}
 use Rattle.engine.specs.WellFormed.{headStands, wrongArgument}
 
 -- A record stands at a place, after what the calls before it leave.
@@ -19,7 +19,7 @@ pub record Right (w : List ℕ) (at : ℕ) (x : Context) : Type 0 where
 -- n records are right, from a place and context to another.
 abbrev pub Passes : ℕ → List ℕ → ℕ → Context → ℕ → Context → Type 0
 Passes zero w at x end y = (at ≡ end) × (x ≡ y)
-Passes (suc n) w at x end y = Right w at x × Passes n w (nextAt w at) (after x (callAt w at)) end y
+Passes (suc n) w at x end y = Right w at x × Passes n w (nextAt bare w at) (after x (callAt w at)) end y
 
 -- A table has the sorts of the first terms.
 abbrev pub Tabled : List ℕ → List Sort → Type 0

@@ -10,7 +10,7 @@ use Rattle.logic.specs.declared.Term.{Term}
 use Rattle.engine.specs.Call.{BinaryOp, Call}
 use Rattle.engine.specs.Call as c
 use Rattle.engine.specs.Sorts.{Sort, noSort}
-use Rattle.engine.specs.Encode.{Op, makesTerm, letterNumber, suffixNumber, operationAt, argumentAt, nextAt}
+use Rattle.engine.specs.Encode.{Op, makesTerm, letterNumber, suffixNumber, operationAt, bare, argumentAt, nextAt}
 use Rattle.engine.specs.Encode.{callAt}
 use Rattle.engine.specs.WellFormed.{declares}
 use Rattle.engine.specs.declared.Origin.{Origin}
@@ -57,8 +57,8 @@ termPlace zero w at k = at
 termPlace (suc n) w at k =
     cond (ltb at (length w))
     (cond (makesTerm (operationAt w at))
-    (cond (eqb k 0) at (termPlace n w (nextAt w at) (k - 1)))
-    (termPlace n w (nextAt w at) k))
+    (cond (eqb k 0) at (termPlace n w (nextAt bare w at) (k - 1)))
+    (termPlace n w (nextAt bare w at) k))
     at
 
 abbrev pub placeOfTerm : List ℕ → ℕ → ℕ
@@ -102,14 +102,14 @@ sortOfTerm table w k = sortThrough (suc k) table w k
 -- A record before a place declares the name that three words spell.
 abbrev pub declaresAt : List ℕ → ℕ → ℕ → ℕ → ℕ → Bool
 declaresAt w at letter index suffix =
-    declares (callAt w at) && eqb (argumentAt w at 0) letter && eqb (argumentAt w at 1) index
-    && eqb (argumentAt w at 2) suffix
+    declares (callAt w at) && eqb (argumentAt bare w at 0) letter && eqb (argumentAt bare w at 1) index
+    && eqb (argumentAt bare w at 2) suffix
 
 unfoldable pub declaredFrom : ℕ → List ℕ → ℕ → ℕ → ℕ → ℕ → ℕ → Bool
 declaredFrom zero w at end letter index suffix = false
 declaredFrom (suc n) w at end letter index suffix =
     cond (ltb at end)
-    (cond (declaresAt w at letter index suffix) true (declaredFrom n w (nextAt w at) end letter index suffix))
+    (cond (declaresAt w at letter index suffix) true (declaredFrom n w (nextAt bare w at) end letter index suffix))
     false
 
 abbrev pub declaredBefore : List ℕ → ℕ → ℕ → ℕ → ℕ → Bool

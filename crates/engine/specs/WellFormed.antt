@@ -11,7 +11,7 @@ use Rattle.engine.specs.Call.{Name, Call}
 use Rattle.engine.specs.Call as c
 use Rattle.engine.specs.Sorts.{Sort, noSort, sortAt, Context, start, after}
 use Rattle.engine.specs.Encode.{Op, offset, letterNumber, suffixNumber, digitCount, operationAt, countAt}
-use Rattle.engine.specs.Encode.{argumentAt, nextAt, callAt}
+use Rattle.engine.specs.Encode.{bare, argumentAt, nextAt, callAt}
 use Rattle.engine.specs.Encode as o
 use Rattle.engine.specs.declared.Argument.{Argument}
 use Rattle.engine.specs.declared.Argument.the-variants.{Flag, AnyTerm, BoolTerm, VectorTerm, SameSort, Joined}
@@ -126,19 +126,20 @@ declares c.check = false
 
 abbrev pub again : Context → List ℕ → ℕ → Bool
 again x w at =
-    declares (callAt w at) && known (x .names) (argumentAt w at 0) (argumentAt w at 1) (argumentAt w at 2)
+    declares (callAt w at) && known (x .names) (argumentAt bare w at 0) (argumentAt bare w at 1)
+    (argumentAt bare w at 2)
 
 -- The head's reasons: after check, no head, cut short, operation or count, a name declared again.
 abbrev pub headStands : Context → List ℕ → ℕ → Bool
 headStands x w at =
     not (x .checked) && eqb (kindOf (getD w at 0)) 2 && ltb (at + countAt w at) (length w)
-    && countFits (operationAt w at) (countAt w at) (argumentAt w at 0) && not (again x w at)
+    && countFits (operationAt w at) (countAt w at) (argumentAt bare w at 0) && not (again x w at)
 
 -- Argument i of the record at a place may stand there.
 abbrev pub admitted : List Sort → List ℕ → ℕ → ℕ → Bool
 admitted sorts w at i =
-    admits (argumentOf (operationAt w at) i) (argumentAt w at 0) (getD w (at + i) 0) (argumentAt w at i)
-    (sortOfWord sorts (getD w (at + i) 0)) (sortOfWord sorts (argumentAt w at i))
+    admits (argumentOf (operationAt w at) i) (argumentAt bare w at 0) (getD w (at + i) 0) (argumentAt bare w at i)
+    (sortOfWord sorts (getD w (at + i) 0)) (sortOfWord sorts (argumentAt bare w at i))
 
 -- The first of n numbers from i on of which a test fails.
 unfoldable pub firstFailing : (ℕ → Bool) → ℕ → ℕ → Option ℕ
@@ -169,8 +170,8 @@ readFrom (suc n) w at x =
     choose (ltb at (length w))
     (choose (headStands x w at)
     (orElse (wrongArgument (x .sorts) w at)
-    (readFrom n w (nextAt w at) (after x (callAt w at)))
-    (λ i. malformed (at + offset + i)))
+    (readFrom n w (nextAt bare w at) (after x (callAt w at)))
+    (λ i. malformed (at + offset bare + i)))
     (malformed at))
     (wellFormed x)
 

@@ -16,7 +16,7 @@ use Rattle.engine.specs.Call.{Call, Name}
 use Rattle.engine.specs.Call as c
 use Rattle.engine.specs.Meaning.{Assignment, valueAt, run}
 use Rattle.engine.specs.Sorts.{Sort, sortAt, Context, start, after}
-use Rattle.engine.specs.Encode.{Op, makesTerm, operationAt, countAt, nextAt, callOf, callAt, callsFrom, decode}
+use Rattle.engine.specs.Encode.{Op, makesTerm, operationAt, countAt, bare, nextAt, callOf, callAt, callsFrom, decode}
 use Rattle.engine.specs.Encode as o
 use Rattle.engine.specs.WellFormed.{wellFormed, readFrom, outcome}
 use Rattle.engine.specs.Emit.{overwrite}
@@ -101,22 +101,25 @@ module _ (w bits : List ℕ) (at terms declared : ℕ) (inside : at < length w) 
   -- At a record, the fault of the bits is there, or what remains says it.
   fault-step : (n : ℕ) → bitsFault terms (callsFrom (suc n) w at) (drop declared bits)
       ≡ pickPlace (wrongBits w bits declared at) (some terms)
-      (bitsFault (terms + bit (makesTerm (operationAt w at))) (callsFrom n w (nextAt w at))
+      (bitsFault (terms + bit (makesTerm (operationAt w at))) (callsFrom n w (nextAt bare w at))
       (drop (declared + bit (isDeclare (operationAt w at))) bits))
   fault-step n =
       rw (calls-step n w at inside)
-      (fault-op (operationAt w at) (countAt w at) (payloads w at) (callsFrom n w (nextAt w at)) bits terms declared)
+      (fault-op (operationAt w at) (countAt w at) (payloads w at) (callsFrom n w (nextAt bare w at)) bits terms
+      declared)
 
   -- The same, where as many records may be read as words are left.
   fault-turn : bitsFault terms (callsFrom (length w - at) w at) (drop declared bits)
       ≡ pickPlace (wrongBits w bits declared at) (some terms)
-      (bitsFault (terms + bit (makesTerm (operationAt w at))) (callsFrom (length w - nextAt w at) w (nextAt w at))
+      (bitsFault (terms + bit (makesTerm (operationAt w at)))
+      (callsFrom (length w - nextAt bare w at) w (nextAt bare w at))
       (drop (declared + bit (isDeclare (operationAt w at))) bits))
   fault-turn =
       let fuel : length w - at ≡ suc (length w - at - 1) = omega arith in
       rw (
         fuel,
-        ← calls-enough (length w - at - 1) (length w - nextAt w at) w (nextAt w at) (omega arith) (omega arith),
+        ← calls-enough (length w - at - 1) (length w - nextAt bare w at) w (nextAt bare w at) (omega arith)
+            (omega arith),
       )
       (fault-step (length w - at - 1))
 
@@ -309,7 +312,8 @@ module _ {gap : ℕ} {w bits slice₀ table places slice recent : List ℕ} {don
             evaluating = rw (value, ← given) next;
             read =
                 read-next (k .read) (right .0) table _
-                (tabled-before n table w (nextAt w (done .at)) (after (k .context) (callAt w (done .at))) (k .leaving)
+                (tabled-before n table w (nextAt bare w (done .at)) (after (k .context) (callAt w (done .at)))
+                (k .leaving)
                 (right .1) (k .tabled))
                 (terms-next (k .read) (right .0));
             tabled = k .tabled;

@@ -21,6 +21,11 @@ use Rattle.fields.specs.declared.Bit.the-variants as B
 abbrev pub fault : ℕ → ℕ → Fault
 fault number place = record { number = number; place = place }
 
+-- A test of document 01's order: unless it holds, its refusal; else what comes after it.
+module _ {A : Type 0} where
+  abbrev pub unless : Bool → A → A → A
+  unless holds refusal rest = cond holds rest refusal
+
 -- What follows a scan without a fault, from the place it reached.
 abbrev pub onClean : Scan → (ℕ → Scan) → Scan
 onClean (Clean next) f = f next
@@ -29,11 +34,10 @@ onClean (Refused e) f = Refused e
 -- A number at `at` of a record that ends before `end`: outside the count 5, kind 2, above its bound 4.
 unfoldable pub numberAt : List ℕ → ℕ → ℕ → ℕ → Number
 numberAt w bound end at =
-    cond (ltb at end)
-    (cond (eqb (kindOf (getD w at 0)) 3)
-    (cond (leb (payloadOf (getD w at 0)) bound) (N.Value (payloadOf (getD w at 0)) (at + 1)) (N.Refused (fault 4 at)))
-    (N.Refused (fault 2 at)))
-    (N.Refused (fault 5 at))
+    unless (ltb at end) (N.Refused (fault 5 at))
+    (unless (eqb (kindOf (getD w at 0)) 3) (N.Refused (fault 2 at))
+    (unless (leb (payloadOf (getD w at 0)) bound) (N.Refused (fault 4 at))
+    (N.Value (payloadOf (getD w at 0)) (at + 1))))
 
 -- Constants 0, 1 and X.
 abbrev pub constantDriver : Driver → Bool
@@ -57,20 +61,18 @@ isKnown total net = knownDriver total (driverOf net)
 -- unknown slot 6.
 unfoldable pub netAt : List ℕ → ℕ → ℕ → ℕ → ℕ → Scan
 netAt w total most end at =
-    cond (ltb at end)
-    (cond (leb (kindOf (getD w at 0)) most)
-    (cond (isKnown total (payloadOf (getD w at 0))) (Clean (at + 1)) (Refused (fault 6 at)))
-    (Refused (fault 2 at)))
-    (Refused (fault 5 at))
+    unless (ltb at end) (Refused (fault 5 at))
+    (unless (leb (kindOf (getD w at 0)) most) (Refused (fault 2 at))
+    (unless (isKnown total (payloadOf (getD w at 0))) (Refused (fault 6 at))
+    (Clean (at + 1))))
 
 -- A word where only a constant may stand: outside the count 5, kind 2; else whether it is one.
 unfoldable pub bitAt : List ℕ → ℕ → ℕ → Bit
 bitAt w end at =
-    cond (ltb at end)
-    (cond (eqb (kindOf (getD w at 0)) 0)
-    (cond (isConstant (payloadOf (getD w at 0))) (B.Constant (at + 1)) B.Other)
-    (B.Refused (fault 2 at)))
-    (B.Refused (fault 5 at))
+    unless (ltb at end) (B.Refused (fault 5 at))
+    (unless (eqb (kindOf (getD w at 0)) 0) (B.Refused (fault 2 at))
+    (unless (isConstant (payloadOf (getD w at 0))) B.Other
+    (B.Constant (at + 1))))
 
 -- A net word that is no constant is fault 8.
 abbrev pub scanBit : Bit → ℕ → Scan
@@ -94,4 +96,4 @@ constantsAt w end n at = scanMany (constantAt w end) n at
 
 -- The fields end where the head's count says, or the word after them is fault 5.
 unfoldable pub endsAt : ℕ → ℕ → Scan
-endsAt end next = cond (eqb next end) (Clean end) (Refused (fault 5 next))
+endsAt end next = unless (eqb next end) (Refused (fault 5 next)) (Clean end)

@@ -13,12 +13,12 @@ use Rattle.cell.specs.declared.Decoded.{Decoded}
 use Rattle.cell.specs.declared.Decoded.the-variants.{Known, Unknown}
 use Rattle.fields.specs.declared.Head.{Head}
 use Rattle.fields.specs.declared.Head.the-variants.{Record, Refused}
-use Rattle.fields.specs.Field.{fault}
+use Rattle.fields.specs.Field.{fault, unless}
 
 -- A head's payload is the operation + 32 × the count of following words; these must be in the list.
 unfoldable pub recordOf : Operation → ℕ → ℕ → ℕ → Head
 recordOf op count len at =
-    cond (leb (at + 1 + count) len) (Record op (at + 1) (at + 1 + count)) (Refused (fault 1 len))
+    unless (leb (at + 1 + count) len) (Refused (fault 1 len)) (Record op (at + 1) (at + 1 + count))
 
 abbrev pub onKnown : Decoded → Fault → (Operation → Head) → Head
 onKnown (Known op) e f = f op
@@ -26,9 +26,7 @@ onKnown Unknown e f = Refused e
 
 unfoldable pub headAt : List ℕ → ℕ → Head
 headAt w at =
-    cond (ltb at (length w))
-    (cond (eqb (kindOf (getD w at 0)) 2)
+    unless (ltb at (length w)) (Refused (fault 1 (length w)))
+    (unless (eqb (kindOf (getD w at 0)) 2) (Refused (fault 2 at))
     (onKnown (operationOf (payloadOf (getD w at 0) % 32)) (fault 3 at)
-    (λ (op : Operation). recordOf op (payloadOf (getD w at 0) / 32) (length w) at))
-    (Refused (fault 2 at)))
-    (Refused (fault 1 (length w)))
+    (λ (op : Operation). recordOf op (payloadOf (getD w at 0) / 32) (length w) at)))

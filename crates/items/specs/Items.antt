@@ -12,7 +12,7 @@ use Rattle.fields.specs.declared.Number.{Number}
 use Rattle.fields.specs.declared.Number.the-variants as N
 use Rattle.fields.specs.declared.Scan.{Scan}
 use Rattle.fields.specs.declared.Scan.the-variants.{Clean, Refused}
-use Rattle.fields.specs.Field.{fault, numberAt, netAt}
+use Rattle.fields.specs.Field.{fault, unless, numberAt, netAt}
 use Rattle.cell_reader.specs.declared.Record.{Record}
 use Rattle.cell_reader.specs.declared.Record.the-variants as R
 use Rattle.cell_reader.specs.Record.{recordAt}
@@ -52,10 +52,11 @@ headerAt w =
 
 -- A word outside the records: missing 1, kind 2; #slot has no bound; a net's slot 6.
 unfoldable pub listedNumberAt : List ℕ → ℕ → Number
-listedNumberAt w at = cond (ltb at (length w)) (numberAt w (2 ^ 29 - 1) (length w) at) (N.Refused (fault 1 (length w)))
+listedNumberAt w at =
+    unless (ltb at (length w)) (N.Refused (fault 1 (length w))) (numberAt w (2 ^ 29 - 1) (length w) at)
 
 unfoldable pub listedNetAt : List ℕ → ℕ → ℕ → Scan
-listedNetAt w total at = cond (ltb at (length w)) (netAt w total 0 (length w) at) (Refused (fault 1 (length w)))
+listedNetAt w total at = unless (ltb at (length w)) (Refused (fault 1 (length w))) (netAt w total 0 (length w) at)
 
 abbrev pub onSlot : Number → (ℕ → ℕ → Step) → Step
 onSlot (N.Value slot next) f = f slot next
@@ -75,7 +76,7 @@ unfoldable pub replacementAt : List ℕ → ℕ → (ℕ → ℕ → Bool) → �
 replacementAt w total head least at =
     onSlot (listedNumberAt w at) (λ (slot start : ℕ).
     onNewCell (recordAt w total start) (λ (op : Operation) (width next : ℕ).
-    cond (replaces head least slot op width) (T.Read (slot + 1) next) (T.Refused (fault 12 at))))
+    unless (replaces head least slot op width) (T.Refused (fault 12 at)) (T.Read (slot + 1) next)))
 
 module _ {A : Type 0} where
   abbrev pub onStep : Step → (ℕ → ℕ → Reading A) → Reading A
@@ -104,7 +105,7 @@ unfoldable pub pairAt : List ℕ → ℕ → ℕ → ℕ → Step
 pairAt w total least at =
     onNet (listedNetAt w total at) (λ (to : ℕ).
     onNet (listedNetAt w total to) (λ (next : ℕ).
-    cond (leb least (numberIn w at)) (T.Read (numberIn w at + 1) next) (T.Refused (fault 13 at))))
+    unless (leb least (numberIn w at)) (T.Refused (fault 13 at)) (T.Read (numberIn w at + 1) next)))
 
 -- The net replacements, the payloads of their froms strictly ascending (0, 1, slots, X).
 abbrev pub netPair : List ℕ → ℕ → NetPair
@@ -115,4 +116,4 @@ netRepsFrom w total k least at = ascending (pairAt w total) (netPair w) k least 
 
 -- Words left after the last pair: fault 1 at the first.
 unfoldable pub finishAt : List ℕ → ℕ → Scan
-finishAt w at = cond (eqb at (length w)) (Clean at) (Refused (fault 1 at))
+finishAt w at = unless (eqb at (length w)) (Refused (fault 1 at)) (Clean at)

@@ -18,7 +18,7 @@ use Rattle.engine.specs.Structure.{declaresAt, declaredBefore}
 use Rattle.engine.proofs.ReadBack.{reads-at}
 use Rattle.engine.proofs.ReachedLaws.{passes-forward, known-declared, getD-tab}
 use Rattle.engine.specs.Reached.{Right}
-use Rattle.engine.specs.Encode.{words, operationAt, countAt, argumentAt, callAt, letterNumber, suffixNumber}
+use Rattle.engine.specs.Encode.{words, operationAt, countAt, bare, argumentAt, callAt, letterNumber, suffixNumber}
 use Rattle.engine.specs.WellFormed.{declares, isNumber, isNumberOf, spells, known}
 use Rattle.engine.proofs.Tests.{both, left-of, right-of, refuted}
 use Rattle.engine.proofs.Written.{letter-low, suffix-low}
@@ -39,8 +39,9 @@ at-most word bound h =
 -- A record that declares a name, by its words.
 pub declares-words : (w : List ℕ) (at letter index suffix : ℕ)
     → declaresAt w at letter index suffix
-    ≡ (isDeclare (operationAt w at) && eqb (argumentAt w at 0) letter && eqb (argumentAt w at 1) index && eqb
-    (argumentAt w at 2) suffix)
+    ≡ (isDeclare (operationAt w at) && eqb (argumentAt bare w at 0) letter && eqb (argumentAt bare w at 1) index &&
+    eqb
+    (argumentAt bare w at 2) suffix)
 declares-words w at letter index suffix = rw (declares-of (operationAt w at) (countAt w at) (payloads w at))
 
 -- ---- names in words
@@ -239,7 +240,7 @@ pub names-next : (table w : List ℕ) (at : ℕ) (x : Context) → Right w at x 
     → NamesTo (noteName table w at) (after x (callAt w at) .names)
 names-next table w at x right named-to =
     let read = reads-at x w at (right .head) (right .arguments) in
-    let numbers = name-numbers x (callAt w at) (countAt w at) (argumentAt w at) (read .allowed) (read .written) in
+    let numbers = name-numbers x (callAt w at) (countAt w at) (argumentAt bare w at) (read .allowed) (read .written) in
     rw (← declares-of (operationAt w at) (countAt w at) (payloads w at))
     (names-more table x (callAt w at) (payloads w at 0) (payloads w at 1) (payloads w at 2) numbers named-to)
 
@@ -317,7 +318,7 @@ pub tops-next : (tops w : List ℕ) (at : ℕ) (x : Context) → Right w at x �
     → TopsTo (noteTop tops w at) (after x (callAt w at) .names)
 tops-next tops w at x right nine topped =
     let read = reads-at x w at (right .head) (right .arguments) in
-    let numbers = name-numbers x (callAt w at) (countAt w at) (argumentAt w at) (read .allowed) (read .written) in
+    let numbers = name-numbers x (callAt w at) (countAt w at) (argumentAt bare w at) (read .allowed) (read .written) in
     rw (← declares-of (operationAt w at) (countAt w at) (payloads w at))
     (tops-more tops x (callAt w at) (payloads w at 0) (payloads w at 1) (payloads w at 2) numbers nine topped)
 

@@ -8,7 +8,7 @@ use Rattle.cell.specs.declared.Operation.{Operation}
 use Rattle.cell.specs.Design.{Placed}
 use Rattle.fields.specs.declared.Scan.{Scan}
 use Rattle.fields.specs.declared.Scan.the-variants.{Clean, Refused}
-use Rattle.fields.specs.Field.{fault}
+use Rattle.fields.specs.Field.{fault, unless}
 use Rattle.cell_reader.specs.declared.Record.{Record}
 use Rattle.cell_reader.specs.declared.Record.the-variants as R
 use Rattle.cell_reader.specs.Record.{recordAt}
@@ -30,8 +30,8 @@ onRecord (R.Refused e) f = P.Refused e
 unfoldable pub placedAt : List ℕ → ℕ → ℕ → ℕ → ℕ → Placing
 placedAt w base total slot at =
     onRecord (recordAt w total at) (λ (op : Operation) (width next : ℕ).
-    cond (leb (slot + max 1 width) (limitOf base total slot))
-    (P.Placed op width (record { 0 = slot + max 1 width }) next) (P.Refused (fault 11 at)))
+    unless (leb (slot + max 1 width) (limitOf base total slot)) (P.Refused (fault 11 at))
+    (P.Placed op width (record { 0 = slot + max 1 width }) next))
 
 abbrev pub onPlaced : Placing → (ℕ → ℕ → Reading Placed) → Reading Placed
 onPlaced (P.Placed op width after next) f = f (after .0) next

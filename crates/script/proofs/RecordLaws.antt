@@ -2,7 +2,7 @@
 use mathlib.Core.Path.{_≡_, ap, _∙_, sym}
 use mathlib.Core.List.{List}
 use Prim.Native.Nat.{ℕ}
-use Rattle.engine.specs.Encode.{Op, operationAt, countAt, argumentAt}
+use Rattle.engine.specs.Encode.{Op, operationAt, countAt, bare, argumentAt}
 use Rattle.call_list.specs.Records.{firstCalls}
 use Rattle.call_list.specs.Literal.{payloads}
 use Rattle.text.specs.Bytes.{ascii}
@@ -29,7 +29,7 @@ body-kind w head is-op is-body is-told = ap bodyOf (sym is-op) ∙ sym is-body �
 module _ {w places sorts : List ℕ} {records terms head : ℕ} (can : Writable w places sorts records terms head) where
   by-kind : lineAt w records head
       ≡ lineBy (lineKind w head) (firstCalls w records) (operationAt w head) (countAt w head) (payloads w head)
-  by-kind = line-by (operationAt w head) (countAt w head) (payloads w head) (argumentAt w head 0)
+  by-kind = line-by (operationAt w head) (countAt w head) (payloads w head) (argumentAt bare w head 0)
       (firstCalls w records) (can .counted)
 
   pub line-declared : lineKind w head ≡ Declare → lineAt w records head ≡ declareAt w head

@@ -12,7 +12,7 @@ use borrow.Author.Tests.{ltb-true, ltb-false}
 use Rattle.engine.specs.Call.{Call}
 use Rattle.engine.specs.Call as c
 use Rattle.engine.specs.Sorts.{sortAt, Context, start, after, Allowed, leaves}
-use Rattle.engine.specs.Encode.{Op, makesTerm, operationAt, countAt, nextAt, callAt, callsFrom, decode}
+use Rattle.engine.specs.Encode.{Op, makesTerm, operationAt, countAt, bare, nextAt, callAt, callsFrom, decode}
 use Rattle.engine.specs.Encode as o
 use Rattle.engine.specs.WellFormed.{wellFormed, readFrom, outcome}
 use Rattle.engine.proofs.Steps.{calls-end}
@@ -150,7 +150,7 @@ module _ {w table : List ℕ} {y : Context} {i at k : ℕ} (here : Walked w tabl
 
   module _ (inside : at < length w) where
     next : Right w at (leaves start (firstCalls w i))
-        × (readFrom (length w - (i + 1)) w (nextAt w at) (after (leaves start (firstCalls w i)) (callAt w at))
+        × (readFrom (length w - (i + 1)) w (nextAt bare w at) (after (leaves start (firstCalls w i)) (callAt w at))
         ≡ wellFormed y)
     next =
         let fuel : length w - i ≡ suc (length w - (i + 1)) = omega (arith, here .few) in
@@ -178,7 +178,7 @@ module _ {w table : List ℕ} {y : Context} {i at k : ℕ} (here : Walked w tabl
     table-sort tabled entered makes =
         let after-here = after (leaves start (firstCalls w i)) (callAt w at) in
         let one : k + 1 ≡ length (after-here .sorts) = rw makes at (terms-next (here .read) (next .0)) in
-        let kept = sorts-kept (length w - (i + 1)) w (nextAt w at) after-here y (next .1) k (omega arith) in
+        let kept = sorts-kept (length w - (i + 1)) w (nextAt bare w at) after-here y (next .1) k (omega arith) in
         tabled k entered (kept .0) ∙ kept .1 ∙ last-sort makes
 
     walked-sort : Tabled table (y .sorts) → makesTerm (operationAt w at) ≡ true
@@ -207,18 +207,18 @@ module _ {w table : List ℕ} {y : Context} {i at k : ℕ} (here : Walked w tabl
         ∙ ap (leaves start) (first-more (here .reached) inside)
         ∙ leaves-append start (firstCalls w i) (callAt w at ∷ [])
 
-    pub walked-next : Tabled table (y .sorts) → Walked w table y (i + 1) (nextAt w at) (k + madeAt w at)
+    pub walked-next : Tabled table (y .sorts) → Walked w table y (i + 1) (nextAt bare w at) (k + madeAt w at)
     walked-next tabled =
         let x = leaves start (firstCalls w i) in
         let before =
-        tabled-before (length w - (i + 1)) table w (nextAt w at) (after x (callAt w at)) y (next .1) tabled in
+        tabled-before (length w - (i + 1)) table w (nextAt bare w at) (after x (callAt w at)) y (next .1) tabled in
         record {
           read = rw (leaves-more, made-at w at)
               (read-next (here .read) (next .0) table _ before (terms-next (here .read) (next .0)));
           reached = reached-next (here .reached) inside;
           few = omega (arith, here .few);
           within = omega (arith, here .few);
-          left = ap (λ (x : Context). readFrom (length w - (i + 1)) w (nextAt w at) x) leaves-more ∙ next .1;
+          left = ap (λ (x : Context). readFrom (length w - (i + 1)) w (nextAt bare w at) x) leaves-more ∙ next .1;
         }
 
     -- One record more is one line more.

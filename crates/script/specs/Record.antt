@@ -6,7 +6,7 @@ use Prim.Native.Nat.{ℕ}
 use lib.Dec.{ltb}
 use lib.ListN.{length, getD}
 use Rattle.engine.specs.Sorts.{Sort}
-use Rattle.engine.specs.Encode.{operationAt, countAt, argumentAt, callAt}
+use Rattle.engine.specs.Encode.{operationAt, countAt, bare, argumentAt, callAt}
 use Rattle.engine.specs.WellFormed.{countFits}
 use Rattle.call_list.specs.Made.{made, sortsOf, sortOfCall}
 use Rattle.call_list.specs.Records.{firstCalls}
@@ -59,7 +59,7 @@ lineAt w records head = line (firstCalls w records) (callAt w head)
 -- arguments, and the tables give the names of the terms and the record's sort.
 pub record Writable (w places sorts : List ℕ) (records terms head : ℕ) : Type 0 where
   pub ready : Ready w head
-  pub counted : countFits (operationAt w head) (countAt w head) (argumentAt w head 0) ≡ true
+  pub counted : countFits (operationAt w head) (countAt w head) (argumentAt bare w head 0) ≡ true
   pub many : terms ≡ length (made (firstCalls w records))
   pub sort : lineKind w head ≡ Define
       → sortBy sorts w terms head ≡ sortOfCall (sortsOf (firstCalls w records)) (callAt w head)

@@ -17,7 +17,7 @@ use Rattle.bitvec.specs.Bits.{bit}
 use Rattle.engine.proofs.Tests.{right-of}
 use Rattle.engine.proofs.Laws.{length-snoc}
 use Rattle.engine.specs.Sorts.{Sort, Context, start, after, sortAt}
-use Rattle.engine.specs.Encode.{makesTerm, operationAt, nextAt, callAt}
+use Rattle.engine.specs.Encode.{makesTerm, operationAt, bare, nextAt, callAt}
 use Rattle.engine.specs.Structure.{originOf, capped, termPlace, placeOfTerm, choose, guarded, sortFrom, originBy}
 use Rattle.engine.specs.Structure.{sortThrough, sortOfTerm}
 use Rattle.engine.proofs.StructureLaws.{Below, sortFrom-ext, from-low, known-below, place-end, place-here, place-next}
@@ -116,8 +116,8 @@ place-enough zero m w at k h l = sym (place-end m w at k (omega arith))
 place-enough (suc n) zero w at k h l = place-end (suc n) w at k (omega arith)
 place-enough (suc n) (suc m) w at k h l =
     rw (
-      place-enough n m w (nextAt w at) (k - 1) (omega arith) (omega arith),
-      place-enough n m w (nextAt w at) k (omega arith) (omega arith),
+      place-enough n m w (nextAt bare w at) (k - 1) (omega arith) (omega arith),
+      place-enough n m w (nextAt bare w at) k (omega arith) (omega arith),
     )
 
 place-past : (m : ℕ) (w : List ℕ) (at a b n : ℕ) → length w ≤ at → termPlace m w (termPlace n w at a) b ≡ termPlace n w
@@ -130,15 +130,16 @@ place-on : (n m : ℕ) (w : List ℕ) (at a b : ℕ) → length w - at ≤ n →
     → termPlace m w (termPlace n w at a) b ≡ termPlace n w at (a + b)
 place-on zero m w at a b h l = place-past m w at a b 0 (omega arith)
 place-on (suc n) m w at a b h l =
-    go (ltb at (length w)) refl (makesTerm (operationAt w at)) refl a l (λ j p q. place-on n m w (nextAt w at) j b p q)
+    go (ltb at (length w)) refl (makesTerm (operationAt w at)) refl a l
+    (λ j p q. place-on n m w (nextAt bare w at) j b p q)
   where
     fuel : suc n - 1 ≡ n
     fuel = sub-one (suc n)
 
     go : (i : Bool) → ltb at (length w) ≡ i → (makes : Bool) → makesTerm (operationAt w at) ≡ makes → (a : ℕ)
         → length w - termPlace (suc n) w at a ≤ m
-        → ((j : ℕ) → length w - nextAt w at ≤ n → length w - termPlace n w (nextAt w at) j ≤ m
-        → termPlace m w (termPlace n w (nextAt w at) j) b ≡ termPlace n w (nextAt w at) (j + b))
+        → ((j : ℕ) → length w - nextAt bare w at ≤ n → length w - termPlace n w (nextAt bare w at) j ≤ m
+        → termPlace m w (termPlace n w (nextAt bare w at) j) b ≡ termPlace n w (nextAt bare w at) (j + b))
         → termPlace m w (termPlace (suc n) w at a) b ≡ termPlace (suc n) w at (a + b)
     go false i makes e a l on = place-past m w at a b (suc n) (ltb-false at (length w) i)
     go true i true e zero l on =
@@ -150,19 +151,20 @@ place-on (suc n) m w at a b h l =
         let inside = ltb-true at (length w) i in
         let here =
         place-next w at (suc a) inside (suc n) (omega arith) e (λ z. absurd (omega arith))
-        ∙ ap₂ (λ (f j : ℕ). termPlace f w (nextAt w at) j) fuel (sub-one (suc a)) in
+        ∙ ap₂ (λ (f j : ℕ). termPlace f w (nextAt bare w at) j) fuel (sub-one (suc a)) in
         let there =
         place-next w at (suc a + b) inside (suc n) (omega arith) e (λ z. absurd (omega arith))
-        ∙ ap₂ (λ (f j : ℕ). termPlace f w (nextAt w at) j) fuel (let z : suc a + b - 1 ≡ a + b = omega arith in z) in
+        ∙ ap₂ (λ (f j : ℕ). termPlace f w (nextAt bare w at) j) fuel (let z : suc a + b - 1 ≡ a + b = omega arith in z)
+        in
         ap (λ (q : ℕ). termPlace m w q b) here ∙ on a (omega arith) (subst (λ (q : ℕ). length w - q ≤ m) here l)
         ∙ sym there
     go true i false e a l on =
         let inside = ltb-true at (length w) i in
         let here = place-skip w at a inside (suc n) (omega arith) e
-        ∙ ap (λ (f : ℕ). termPlace f w (nextAt w at) a) fuel in
+        ∙ ap (λ (f : ℕ). termPlace f w (nextAt bare w at) a) fuel in
         let there =
         place-skip w at (a + b) inside (suc n) (omega arith) e
-        ∙ ap (λ (f : ℕ). termPlace f w (nextAt w at) (a + b)) fuel in
+        ∙ ap (λ (f : ℕ). termPlace f w (nextAt bare w at) (a + b)) fuel in
         ap (λ (q : ℕ). termPlace m w q b) here ∙ on a (omega arith) (subst (λ (q : ℕ). length w - q ≤ m) here l)
         ∙ sym there
 
@@ -264,12 +266,13 @@ module _ {w : List ℕ} {at : ℕ} {x : Context} {table : List ℕ} {terms : ℕ
     record-said b = sortFrom-ext (length (x .sorts)) sort (sortAt (x .sorts)) (originOf (callAt w at)) b agrees
 
     -- What a right record adds to the table of sorts.
-    pub sorts-more : ReadTo w (nextAt w at) next (noteSort sort table w at terms)
+    pub sorts-more : ReadTo w (nextAt bare w at) next (noteSort sort table w at terms)
         (terms + bit (makesTerm (operationAt w at)))
     sorts-more = go (makes-at w at x right)
       where
         go : Makes x (callAt w at)
-            → ReadTo w (nextAt w at) next (noteSort sort table w at terms) (terms + bit (makesTerm (operationAt w at)))
+            → ReadTo w (nextAt bare w at) next (noteSort sort table w at terms)
+            (terms + bit (makesTerm (operationAt w at)))
         go (one s a m q b) =
             let same : recordBy sort w at ≡ s = record-said b ∙ sym q in
             rw (makes-op w at x right, m)

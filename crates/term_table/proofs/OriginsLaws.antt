@@ -27,8 +27,8 @@ origin-of o.assert n p = refl
 origin-of o.check n p = refl
 origin-of o.unknown n p = refl
 
-pub origin-call : (w : List ℕ) (at : ℕ) {a b width : ℕ} → a ≡ payloadOf (o.argumentAt w at 0)
-    → b ≡ payloadOf (o.argumentAt w at 1) → width ≡ payloadOf (o.argumentAt w at 3)
+pub origin-call : (w : List ℕ) (at : ℕ) {a b width : ℕ} → a ≡ payloadOf (o.argumentAt o.bare w at 0)
+    → b ≡ payloadOf (o.argumentAt o.bare w at 1) → width ≡ payloadOf (o.argumentAt o.bare w at 3)
     → originOf (o.callOf (o.operationAt w at) 0 (payloads a b width)) ≡ originOf (o.callAt w at)
 origin-call w at p q r =
-    sym (origin-of (o.operationAt w at) (o.countAt w at) (λ i. payloadOf (o.argumentAt w at i)) ∙ rw (p, q, r))
+    sym (origin-of (o.operationAt w at) (o.countAt w at) (λ i. payloadOf (o.argumentAt o.bare w at i)) ∙ rw (p, q, r))

@@ -14,7 +14,7 @@ use Rattle.engine.specs.Structure.{termPlace, placeOfTerm}
 use Rattle.engine.proofs.StructureLaws.{place-here, place-next, place-skip}
 use Rattle.engine.proofs.ReachedLaws.{Makes, one, nothing, makes-at, makes-op, passes-forward}
 use Rattle.engine.specs.Reached.{Right, Passes}
-use Rattle.engine.specs.Encode.{makesTerm, operationAt, nextAt, callAt}
+use Rattle.engine.specs.Encode.{makesTerm, operationAt, bare, nextAt, callAt}
 use Rattle.term_table.specs.Tables.{placeBy}
 use Rattle.term_table.specs.Sorted.{ReadTo}
 use Rattle.term_table.specs.Placed.{Placed}
@@ -31,11 +31,11 @@ place-found zero m w at x end y p h inside makes =
     (omega arith, ap (λ (k : ℕ). termPlace m w k (length (y .sorts) - length (x .sorts))) e ∙ here)
 place-found (suc n) zero w at x end y p h inside makes = absurd (omega arith)
 place-found (suc n) (suc m) w at x end y p h inside makes =
-    go (place-found n m w (nextAt w at) (after x (callAt w at)) end y (p .1) (omega arith) inside makes)
+    go (place-found n m w (nextAt bare w at) (after x (callAt w at)) end y (p .1) (omega arith) inside makes)
     (makes-at w at x (p .0))
   where
     go : (length (after x (callAt w at) .sorts) ≤ length (y .sorts))
-        × (termPlace m w (nextAt w at) (length (y .sorts) - length (after x (callAt w at) .sorts)) ≡ end)
+        × (termPlace m w (nextAt bare w at) (length (y .sorts) - length (after x (callAt w at) .sorts)) ≡ end)
         → Makes x (callAt w at)
         → (length (x .sorts) ≤ length (y .sorts))
         × (termPlace (suc m) w at (length (y .sorts) - length (x .sorts)) ≡ end)
@@ -49,7 +49,7 @@ place-found (suc n) (suc m) w at x end y p h inside makes =
         (λ z. absurd (omega arith)) in
         let left : length (y .sorts) - length (x .sorts) - 1
         ≡ length (y .sorts) - length (after x (callAt w at) .sorts) = omega arith in
-        (omega arith, next ∙ ap₂ (λ (f j : ℕ). termPlace f w (nextAt w at) j) (sub-one (suc m)) left ∙ rest .1)
+        (omega arith, next ∙ ap₂ (λ (f j : ℕ). termPlace f w (nextAt bare w at) j) (sub-one (suc m)) left ∙ rest .1)
     go rest (nothing a t) =
         let same : length (after x (callAt w at) .sorts) ≡ length (x .sorts) = ap length a in
         let far = rest .0 in
@@ -58,7 +58,7 @@ place-found (suc n) (suc m) w at x end y p h inside makes =
         (makes-op w at x (p .0) ∙ t) in
         let left : length (y .sorts) - length (x .sorts) ≡ length (y .sorts) - length (after x (callAt w at) .sorts) =
         omega arith in
-        (omega arith, next ∙ ap₂ (λ (f j : ℕ). termPlace f w (nextAt w at) j) (sub-one (suc m)) left ∙ rest .1)
+        (omega arith, next ∙ ap₂ (λ (f j : ℕ). termPlace f w (nextAt bare w at) j) (sub-one (suc m)) left ∙ rest .1)
 
 module _ {w : List ℕ} {at : ℕ} {x : Context} {table : List ℕ} {terms : ℕ} (r : ReadTo w at x table terms)
     (right : Right w at x) where

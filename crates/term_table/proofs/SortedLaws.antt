@@ -19,7 +19,7 @@ use Rattle.engine.proofs.ReadBack.{stands}
 use Rattle.engine.proofs.ReachedLaws.{Makes, one, nothing, makes-at, makes-op, passes-snoc, right-read, grows}
 use Rattle.engine.proofs.ReachedLaws.{sort-said}
 use Rattle.engine.specs.Reached.{Right, Tabled}
-use Rattle.engine.specs.Encode.{makesTerm, operationAt, nextAt, callAt}
+use Rattle.engine.specs.Encode.{makesTerm, operationAt, bare, nextAt, callAt}
 use Rattle.term_table.specs.Tables.{recordSort}
 use Rattle.term_table.specs.Sorted.{ReadTo}
 
@@ -67,7 +67,7 @@ module _ {w : List ℕ} {at : ℕ} {x : Context} {table : List ℕ} {terms : ℕ
 
   -- One record more, with a table that has its term's sort.
   pub read-next : (t : List ℕ) (n : ℕ) → Tabled t (next .sorts) → n ≡ length (next .sorts) →
-      ReadTo w (nextAt w at) next t n
+      ReadTo w (nextAt bare w at) next t n
   read-next t n tabled counts = record {
     records = suc (r .records);
     passes = passes-snoc (r .records) w 0 start at x (r .passes) right;
@@ -92,16 +92,17 @@ unfolding readFrom
 sorts-kept zero w at x y e k h =
     let same : x ≡ y = cc in
     (subst (λ (z : Context). k < length (z .sorts)) same h, ap (λ (z : Context). sortAt (z .sorts) k) (sym same))
-sorts-kept (suc n) w at x y e k h = go (ltb at (length w)) refl (sorts-kept n w (nextAt w at) (after x (callAt w at)) y)
+sorts-kept (suc n) w at x y e k h =
+    go (ltb at (length w)) refl (sorts-kept n w (nextAt bare w at) (after x (callAt w at)) y)
   where
     go : (b : Bool) → ltb at (length w) ≡ b
-        → (readFrom n w (nextAt w at) (after x (callAt w at)) ≡ wellFormed y → (k : ℕ) →
+        → (readFrom n w (nextAt bare w at) (after x (callAt w at)) ≡ wellFormed y → (k : ℕ) →
         k < length (after x (callAt w at) .sorts)
         → (k < length (y .sorts)) × (sortAt (y .sorts) k ≡ sortAt (after x (callAt w at) .sorts) k))
         → (k < length (y .sorts)) × (sortAt (y .sorts) k ≡ sortAt (x .sorts) k)
     go true t rest =
         let right = right-read n w at x y (ltb-true at (length w) t) e in
-        let one-more = grows 1 w at x (nextAt w at) (after x (callAt w at)) (right .0, (refl, refl)) k h in
+        let one-more = grows 1 w at x (nextAt bare w at) (after x (callAt w at)) (right .0, (refl, refl)) k h in
         let later = rest (right .1) k (one-more .0) in
         (later .0, later .1 ∙ one-more .1)
     go false t rest =

@@ -6,7 +6,7 @@ use Prim.Native.Nat.{ℕ}
 use mathlib.Core.Path.{_≡_, sym, _∙_}
 use native.Mathlib.Omega.{arith}
 use lib.ListN.{length}
-use Rattle.engine.specs.Encode.{nextAt}
+use Rattle.engine.specs.Encode.{bare, nextAt}
 use Rattle.asked.specs.Ending.{checks}
 use Rattle.asked.proofs.Ending.{checked-any, NoneOf, none-start, none-next, none-end, some-here}
 use Rattle.asked.proofs.has_check.Statement.{statement}
@@ -49,7 +49,7 @@ loop-again c =
     let start = looped .before .before in
     let inside = turn .loop-test .taken in
     let short = start .good .0 in
-    let next : nextAt (start .args .calls .now) (looped .loop .head) ≡ c .next-record .result =
+    let next : nextAt bare (start .args .calls .now) (looped .loop .head) ≡ c .next-record .result =
     omega (arith, inside, c .next-record .ensures) in
     let none = sym (asked .checks-here .ensures) ∙ other .if1 .left in
     let step = none-next (looped .loop .inv .2) inside none in

@@ -5,7 +5,7 @@ use Prim.Native.Nat.{ℕ, _-_}
 use mathlib.Core.Path.{_≡_, sym, _∙_}
 use native.Mathlib.Omega.{arith}
 use lib.ListN.{length}
-use Rattle.engine.specs.Encode.{nextAt}
+use Rattle.engine.specs.Encode.{bare, nextAt}
 use Rattle.asked.specs.Marks.{declaresName}
 use Rattle.asked.proofs.Ending.{NoneOf, none-start, none-next, none-end, some-here}
 use Rattle.asked.proofs.is_declared.Statement.{statement}
@@ -50,7 +50,7 @@ loop-again c =
     let start = looped .before .before in
     let inside = turn .loop-test .taken in
     let short = start .good .0 in
-    let next : nextAt (start .args .calls .now) (looped .loop .head) ≡ c .next-record .result =
+    let next : nextAt bare (start .args .calls .now) (looped .loop .head) ≡ c .next-record .result =
     omega (arith, inside, c .next-record .ensures) in
     let step = none-next (looped .loop .inv .2) inside (sym (tested .declares-here .ensures) ∙ other .if1 .left) in
     (_, _, rw next at step)

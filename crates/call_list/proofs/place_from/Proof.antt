@@ -5,7 +5,7 @@ use mathlib.Core.Path.{_≡_, refl, sym, ap, _∙_}
 use borrow.Author.Needs.{needs}
 use native.Mathlib.Omega.{arith}
 use lib.ListN.{length}
-use Rattle.engine.specs.Encode.{makesTerm, nextAt}
+use Rattle.engine.specs.Encode.{makesTerm, bare, nextAt}
 use Rattle.engine.specs.Structure.{termPlace}
 use Rattle.engine.proofs.StructureLaws.{place-end, place-here, place-next, place-skip}
 use Rattle.call_list.proofs.place_from.Statement.{statement}
@@ -57,7 +57,7 @@ loop-again c =
     let inv = state .inv in
     let makes = sym (made .makes-term .ensures ∙ ap makesTerm (made .before .operation-at .ensures))
     ∙ c .before .before .if1 .taken in
-    let next : c .next-record .result ≡ nextAt w (state .at) =
+    let next : c .next-record .result ≡ nextAt bare w (state .at) =
     omega (arith, c .next-record .ensures, turn .loop-test .taken) in (
       inv .0 - 1,
       omega arith,
@@ -81,7 +81,7 @@ loop-again-2 c =
     let inv = state .inv in
     let makes = sym (made .makes-term .ensures ∙ ap makesTerm (made .before .operation-at .ensures))
     ∙ c .before .if1 .left in
-    let next : c .next-record2 .result ≡ nextAt w (state .at) =
+    let next : c .next-record2 .result ≡ nextAt bare w (state .at) =
     omega (arith, c .next-record2 .ensures, turn .loop-test .taken) in (
       inv .0 - 1,
       omega arith,

@@ -5,7 +5,7 @@ use mathlib.Core.Path.{_≡_, refl, sym, ap, _∙_}
 use borrow.Author.Needs.{needs}
 use native.Mathlib.Omega.{arith}
 use lib.ListN.{length}
-use Rattle.engine.specs.Encode.{nextAt}
+use Rattle.engine.specs.Encode.{bare, nextAt}
 use Rattle.engine.specs.Structure.{declaredFrom}
 use Rattle.engine.proofs.StructureLaws.{declared-end, declared-here, declared-next}
 use Rattle.name_table.proofs.declared_before.Statement.{statement}
@@ -65,7 +65,7 @@ loop-again c =
     let end = min (args .end) (length w) in
     let other = sym (c .before .before .declares-at .ensures) ∙ c .before .if2 .left in
     let inside = turn .loop-test .taken in
-    let next : c .next-record .result ≡ nextAt w (state .at) = omega (arith, c .next-record .ensures, inside) in (
+    let next : c .next-record .result ≡ nextAt bare w (state .at) = omega (arith, c .next-record .ensures, inside) in (
       inv .0 - 1,
       omega arith,
       inv .2

@@ -6,7 +6,7 @@ use mathlib.Core.Path.{_≡_, refl, ap, _∙_}
 use mathlib.Core.List.{[]}
 use native.Mathlib.Omega.{arith}
 use lib.ListN.{length}
-use Rattle.engine.specs.Encode.{nextAt}
+use Rattle.engine.specs.Encode.{bare, nextAt}
 use Rattle.engine.specs.Emit.{counted}
 use Rattle.call_list.specs.Records.{firstCalls, madeAt}
 use Rattle.call_list.proofs.RecordsLaws.{made-low}
@@ -73,7 +73,8 @@ loop-again c =
     let many : counted (looped .loop .terms + madeAt w (looped .loop .head))
     ≡ looped .loop .terms + madeAt w (looped .loop .head) =
     omega (arith, inv .2, inv .3 .within) in
-    let next : counted (nextAt w (looped .loop .head)) ≡ nextAt w (looped .loop .head) = omega (arith, inside) in (
+    let next : counted (nextAt bare w (looped .loop .head)) ≡ nextAt bare w (looped .loop .head) =
+    omega (arith, inside) in (
       inv .0,
       written .put-record .kept .0 ∙ inv .1,
       omega (arith, after .terms-after .ensures, inv .2),
