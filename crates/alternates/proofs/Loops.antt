@@ -9,7 +9,7 @@ use lib.ListN.{drop}
 use Rattle.logic.specs.Net.{Net}
 use Rattle.logic.specs.declared.Trit.{Trit}
 use Rattle.logic.specs.declared.Trit.the-variants.{Zero, One, Undef}
-use Rattle.smt.specs.Prog.{Prog, _>>=_, TritVec}
+use Rattle.smt.specs.Prog.{_>>=_, TritVec}
 use Rattle.smt.specs.Builder.{tvLit, tvOr, product, sum}
 use Rattle.builder.specs.declared.Counts.{Counts}
 use Rattle.builder.specs.Ran.{Ran}

@@ -1,4 +1,4 @@
--- The entries read slot by slot are the table of the bits that the grammar reads for the names asked.
+-- The entries of the table, slot by slot, as the tokens give them.
 use mathlib.Core.Bool.{Bool, true, false}
 use mathlib.Core.List.{List, [], _∷_}
 use Prim.Native.Nat.{ℕ, suc}

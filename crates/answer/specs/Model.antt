@@ -1,7 +1,7 @@
 -- What follows sat, as the code goes through it: marks one by one, then the list's parts and the end of the text.
 use mathlib.Core.Path.{_≡_}
 use mathlib.Core.Bool.{Bool}
-use mathlib.Core.List.{List, []}
+use mathlib.Core.List.{List}
 use Prim.Native.Nat.{ℕ}
 use Rattle.engine.specs.Call.{Name}
 use Rattle.reply.specs.declared.Step.{Step}

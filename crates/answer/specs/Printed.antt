@@ -1,4 +1,4 @@
--- What a solver prints for a table reads back as that table, whatever y it gives under an X.
+-- What a solver prints for a table, with any y under an X, and the tables that fit recorded marks.
 use mathlib.Core.Path.{_≡_}
 use mathlib.Core.Bool.{Bool, true, false, cond}
 use mathlib.Core.List.{List, [], _∷_, _++_}

@@ -15,7 +15,7 @@ use Rattle.engine.specs.Encode.{Op, operationAt, countAt, callOf, callAt, bare,
 use Rattle.engine.specs.Encode as o
 use Rattle.engine.proofs.Steps.{calls-end, calls-step}
 use Rattle.text.specs.Bytes.{ascii}
-use Rattle.text.specs.Names.{nameText, spelling, namesOfMark, bothNames, askedFrom, asked}
+use Rattle.text.specs.Names.{nameText, namesOfMark, bothNames, askedFrom, asked}
 use Rattle.call_list.specs.Records.{firstCalls, madeAt}
 use Rattle.call_list.proofs.RecordsLaws.{Reached, reached-start, reached-next, first-more, split}
 use Rattle.call_list.specs.Literal.{payloads}

@@ -1,14 +1,13 @@
 -- Literals of zeros and of ones, by their numbers. Assumes nothing.
-use mathlib.Core.Path.{_≡_, refl, sym, ap, ap₂, _∙_}
+use mathlib.Core.Path.{_≡_, refl, ap, ap₂, _∙_}
 use mathlib.Core.Bool.{true, false}
-use mathlib.Core.List.{List, [], _∷_}
+use mathlib.Core.List.{_∷_}
 use Prim.Native.Nat.{ℕ, zero, suc, _+_, _*_, _-_, _/_, _%_, _^_, _≤_, min}
 use native.Mathlib.Omega.{arith}
 use native.Mathlib.Nat.{suc-add, pow-suc}
 use lib.Dec.{eqb}
 use lib.ListN.{replicate}
-use Rattle.bitvec.specs.Bits.{bit, nat2bv}
-use Rattle.bitvec.proofs.Laws.{nat2bv-cons}
+use Rattle.bitvec.specs.Bits.{nat2bv}
 
 -- A width of at most 64 is that of its literal.
 pub narrow : (w : ℕ) → w ≤ 64 → min w 64 ≡ w

@@ -10,7 +10,7 @@ use Rattle.engine.specs.Encode.{encode, recordOf}
 use Rattle.engine.specs.Emit.{Wrote}
 use Rattle.engine.proofs.EmitLaws.{length-overwrite}
 use Rattle.smt.specs.Prog.{ret, bind, bind2}
-use Rattle.smt.specs.Emit.{St, emit, tempName}
+use Rattle.smt.specs.Emit.{emit, tempName}
 use Rattle.builder.specs.declared.Counts.{Counts}
 use Rattle.builder.specs.declared.Built.{Built}
 use Rattle.builder.specs.Ran.{stateOf, Ends, Writes, following, builtAt}

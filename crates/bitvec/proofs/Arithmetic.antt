@@ -1,5 +1,5 @@
 -- Numbers modulo powers of two: what the proofs of this crate need beyond the kit. Assumes nothing.
-use mathlib.Core.Path.{_≡_, sym, ap, ap₂, _∙_, subst, subst⁻¹}
+use mathlib.Core.Path.{_≡_, sym, ap, ap₂, _∙_, subst⁻¹}
 use Prim.Native.Nat.{ℕ, suc, _+_, _-_, _*_, _/_, _%_, _^_, _≤_, _<_}
 use native.Mathlib.Nat.{add-mul, mul-right-comm, mul-add-mod-self-right, div-add-mod', mul-comm, le-dest}
 use native.Mathlib.Nat.{div-lt-iff-lt-mul, mod-lt, one-mul, mul-le-mul-left, mul-lt-mul-of-pos-right, le-of-lt}

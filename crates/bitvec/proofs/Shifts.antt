@@ -1,6 +1,6 @@
 -- Laws of the shifts, proved once over the width: by numbers, at and above the width, and as lists. Assumes nothing.
 use mathlib.Core.Path.{_≡_, refl, sym, ap, ap₂, _∙_}
-use mathlib.Core.Bool.{Bool, true, false, not, cond}
+use mathlib.Core.Bool.{Bool, true, false, cond}
 use mathlib.Core.List.{[], _∷_, _++_}
 use Prim.Native.Nat.{ℕ, zero, suc, _+_, _-_, _*_, _/_, _%_, _^_, _≤_, _<_}
 use native.Mathlib.Nat.{pow-suc, mul-one, div-eq-of-lt, mod-eq-of-lt, lt-of-lt-of-le, lt-of-le-of-lt, div-le-self}
@@ -8,7 +8,7 @@ use native.Mathlib.Nat.{sub-add-cancel, sub-zero, mul-assoc, mul-mod-left}
 use native.Mathlib.Omega.{arith}
 use lib.ListN.{length, take, drop, replicate, length-append, length-replicate, length-drop}
 use lib.Pow.{pow-add, pow-mono}
-use Rattle.bitvec.specs.Bits.{Bits, bit, bv2nat, nat2bv}
+use Rattle.bitvec.specs.Bits.{Bits, bv2nat, nat2bv}
 use Rattle.bitvec.specs.Ops as bv
 use Rattle.bitvec.proofs.Laws.{length-bvnot, length-bvlshr, nat2bv-cons, nat2bv-bv2nat, bv2nat-nat2bv, bv2nat-lt}
 use Rattle.bitvec.proofs.Numbers.{bv2nat-bvnot, bv2nat-drop}

@@ -1,20 +1,20 @@
 -- What each function of the builder costs, in words of calls. Vectors are at most 64 wide, as in an accepted list.
-use mathlib.Core.Path.{_≡_, refl, sym, ap, _∙_, subst}
+use mathlib.Core.Path.{_≡_, refl, ap, subst}
 use mathlib.Core.Bool.{Bool, true, false, cond}
-use mathlib.Core.List.{List, [], _∷_, _++_, map}
-use Prim.Native.Nat.{ℕ, zero, suc, _+_, _-_, _*_, _/_, _≤_, _<_}
+use mathlib.Core.List.{List, [], _∷_}
+use Prim.Native.Nat.{ℕ, suc, _+_, _-_, _*_, _≤_}
 use native.Mathlib.Omega.{arith}
 use lib.ListN.{length, length-map, length-replicate}
 use Rattle.logic.specs.Trit.{xOf, yOf}
 use Rattle.logic.specs.Net.{Net, constant, slot}
 use Rattle.logic.specs.declared.Trit.{Trit}
 use Rattle.cell.specs.Cell.{Control}
-use Rattle.smt.specs.Prog.{Prog, ret, op, declare, bind, bind2, _>>=_, Age, curr, past, Half, TritVec, tv, BitVec}
+use Rattle.smt.specs.Prog.{Prog, ret, _>>=_, Age, curr, past, TritVec, tv, BitVec}
 use Rattle.smt.specs.Prog.{buildConcat}
-use Rattle.smt.specs.Builder.{bvConcat, bvConcatOn, bvIsZero, bvToBool, boolToBv, zeros, ones, tvLit, tvConst, tvConcat}
+use Rattle.smt.specs.Builder.{bvIsZero, bvToBool, boolToBv, tvLit, tvConst, tvConcat}
 use Rattle.smt.specs.Builder.{tvConcatOn, tvExtract, tvIs0, tvIs1, tvEq, tvRefines, tvNot, tvAnd, tvOr, tvXor, tvMux}
-use Rattle.smt.specs.Builder.{collect, netOf, valueOf, invertNet, clockNet, bvNoX, net, controlNet}
-use Rattle.bound.proofs.CostsLaws.{termCost, Costs, CostsOnly, costs-ret, costs-more, costs-seq, sum-each}
+use Rattle.smt.specs.Builder.{collect, netOf, valueOf, invertNet, bvNoX, net}
+use Rattle.bound.proofs.CostsLaws.{Costs, CostsOnly, costs-ret, costs-more, costs-seq, sum-each}
 use Rattle.bound.specs.Costs.{sumBy}
 
 -- ---- straight lines of calls: the count is computed

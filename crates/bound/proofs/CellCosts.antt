@@ -1,8 +1,8 @@
 -- What a cell's terms, its claim and its obligation cost, for each word of its record.
-use mathlib.Core.Path.{_≡_, refl, sym, ap, _∙_, subst}
+use mathlib.Core.Path.{subst}
 use mathlib.Core.Bool.{Bool}
 use mathlib.Core.List.{List, [], _∷_, _++_}
-use Prim.Native.Nat.{ℕ, zero, suc, _+_, _-_, _*_, _≤_, _<_, min}
+use Prim.Native.Nat.{ℕ, _+_, _-_, _*_, _≤_}
 use native.Mathlib.Omega.{arith}
 use lib.ListN.{length, take, drop, length-append, length-take, length-drop}
 use Rattle.logic.proofs.TableLaws.{length-tab}
@@ -12,9 +12,9 @@ use Rattle.cell.specs.Cell.{Cell, outputLen}
 use Rattle.cell.specs.Cell as c
 use Rattle.working_out.specs.Reading.{Each}
 use Rattle.working_out.specs.Laid.{Shaped}
-use Rattle.smt.specs.Prog.{Prog, _>>=_, curr}
+use Rattle.smt.specs.Prog.{curr}
 use Rattle.smt.specs.Builder.{cell, currNet, currValue, outputNets, overwritten}
-use Rattle.bound.proofs.CostsLaws.{Costs, CostsOnly, costs-ret, costs-more, costs-seq}
+use Rattle.bound.proofs.CostsLaws.{CostsOnly, costs-ret, costs-more}
 use Rattle.bound.specs.Costs.{sumBy}
 use Rattle.bound.proofs.Builder.{tvNot-costs, tvAnd-costs, tvMux-costs, netOf-costs, net-costs, valueOf-costs}
 use Rattle.bound.proofs.Cells.{then, matchCost, value-costs, controlNet-costs, tvBinary-costs, shifted-costs}

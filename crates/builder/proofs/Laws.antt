@@ -2,20 +2,20 @@
 -- writing calls one after the other (`wrote-call`, `wrote-calls`).
 use mathlib.Core.Path.{_≡_, refl, sym, ap, ap₂, subst, _∙_}
 use mathlib.Core.List.{List, [], _∷_, _++_, append-assoc, append-nil}
-use Prim.Native.Nat.{ℕ, zero, suc, _+_, _<_, _≤_, _^_, min}
+use Prim.Native.Nat.{ℕ, zero, suc, _+_, _<_, _≤_, _^_}
 use native.Mathlib.Omega.{arith}
-use lib.ListN.{length, getD, set}
+use lib.ListN.{length, getD}
 use Rattle.engine.specs.Call.{Call, Term, term}
 use Rattle.engine.specs.Call as k
 use Rattle.engine.specs.Encode.{encode, recordOf}
-use Rattle.engine.specs.Emit.{Wrote, counted, last}
+use Rattle.engine.specs.Emit.{Wrote}
 use Rattle.engine.proofs.EmitLaws.{wrote-then, wrote-none, length-overwrite}
 use Rattle.smt.specs.Prog.{Prog, ret, op, declare, bind, bind2, _>>=_}
 use Rattle.smt.specs.Emit.{St, Out, after, emit, at, learn, reread, place, known, netName}
 use Rattle.smt.proofs.WpLaws.{emit-seq}
 use Rattle.builder.specs.declared.Counts.{Counts}
 use Rattle.builder.specs.declared.Built.{Built}
-use Rattle.builder.specs.Ran.{stateOf, Lent, Fits, Ends, Ran, Writes, following, builtAt}
+use Rattle.builder.specs.Ran.{stateOf, Lent, Fits, Ends, Ran, Writes, builtAt}
 
 -- ---- counts only grow
 

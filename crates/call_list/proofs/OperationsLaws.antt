@@ -5,7 +5,6 @@ use native.Mathlib.Omega.{arith}
 use lib.ListN.{List·getD-eq-default}
 use Rattle.engine.specs.WellFormed.{declares}
 use Rattle.engine.specs.Encode as o
-use Rattle.call_list.specs.declared.Operation.the-variants as op
 use Rattle.call_list.specs.Operations.{isDeclare}
 
 -- A number that is none of 0, 1, .. k - 1.

@@ -1,6 +1,6 @@
 -- Records by their number: where record j begins, and the calls before it.
 use mathlib.Core.Bool.{cond}
-use mathlib.Core.List.{List, []}
+use mathlib.Core.List.{List}
 use Prim.Native.Nat.{ℕ}
 use Rattle.engine.specs.Call.{Call}
 use Rattle.engine.specs.Encode.{callAt, callsFrom}

@@ -1,5 +1,4 @@
--- What is known of a record that was read: its operation, its end, and that the cell it stands for has the width that
--- was counted.
+-- What is known of a record that was read: its numbers, its fields and its end.
 use Prim.Native.Nat.{ℕ, _+_, _<_, _≤_}
 use mathlib.Core.Path.{_≡_}
 use mathlib.Core.List.{List}

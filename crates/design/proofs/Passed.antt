@@ -1,8 +1,8 @@
 -- A pass: the steps of an accepted list, then check, leave its calls, its marks and its counts. That the counts fit is
 -- met here, once, from the bound of the whole list. Assumes nothing.
 use mathlib.Core.Path.{_≡_, refl, sym, ap, ap₂, subst, _∙_}
-use mathlib.Core.List.{List, [], _∷_, _++_}
-use Prim.Native.Nat.{ℕ, suc, _+_, _*_, _≤_, _<_, _^_}
+use mathlib.Core.List.{List, [], _∷_}
+use Prim.Native.Nat.{ℕ, _+_, _*_, _<_, _^_}
 use native.Mathlib.Omega.{arith}
 use lib.ListN.{length, replicate}
 use Rattle.cell.specs.Design.{Design, total}
@@ -12,15 +12,15 @@ use Rattle.engine.specs.Encode.{encode}
 use Rattle.engine.specs.Emit.{Wrote}
 use Rattle.engine.proofs.EmitLaws.{length-overwrite}
 use Rattle.smt.specs.Prog.{_>>=_}
-use Rattle.smt.specs.Emit.{St, Out, emit}
+use Rattle.smt.specs.Emit.{St, emit}
 use Rattle.design_list.specs.Read.{accepted, read}
-use Rattle.order.specs.Verify.{steps, work, start, built, query, asked, verify}
+use Rattle.order.specs.Verify.{steps, start, built, query, asked, verify}
 use Rattle.order.proofs.Numbered.{terms-append, work-next}
 use Rattle.builder.specs.declared.Counts.{Counts}
 use Rattle.builder.specs.Ran.{stateOf}
 use Rattle.builder.proofs.Laws.{wrote-calls}
 use Rattle.net_steps.specs.Did.{Did, Asks, queryTerms}
-use Rattle.requirement.specs.Verified.{temporaries, counted}
+use Rattle.requirement.specs.Verified.{temporaries}
 use Rattle.requirement.proofs.AnsweredLaws.{few-counts, temporaries-are}
 use Rattle.running.specs.Passes.{nothing}
 use Rattle.requirement.proofs.Passes.{Passed}

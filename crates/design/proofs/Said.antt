@@ -2,9 +2,7 @@
 -- answer other than a refusal means that the list is accepted and both slices have room; the rest is what `Answered`,
 -- `Required` and `Marks` have of such a list. Assumes nothing.
 use mathlib.Core.Path.{_≡_, refl, sym, ap, subst, _∙_}
-use mathlib.Core.Logic.{_↔_}
 use mathlib.Core.List.{List, [], _∷_}
-use mathlib.Core.Option.{none}
 use Prim.Native.Nat.{ℕ, _≤_, _<_}
 use native.Mathlib.Omega.{arith}
 use native.Mathlib.Decide.{decLt}
@@ -15,7 +13,6 @@ use Rattle.engine.specs.Encode.{decode}
 use Rattle.engine.specs.WellFormed.{malformedAt, placeOf}
 use Rattle.builder.specs.declared.Counts.{Counts}
 use Rattle.design_list.specs.Read.{Read, refused, accepted, read}
-use Rattle.working_out.specs.Obligations.{obligations}
 use Rattle.order.specs.Verify.{built, verify}
 use Rattle.requirement.specs.declared.Verified.{Verified}
 use Rattle.requirement.specs.declared.Verified.the-variants.{NothingAsked}

@@ -18,16 +18,16 @@ use Rattle.bitvec.proofs.Laws.{bv2nat-lt}
 use Rattle.engine.specs.Call.{Letter, Suffix, Name, Call}
 use Rattle.engine.specs.Call as c
 use Rattle.engine.specs.Meaning.{All}
-use Rattle.engine.specs.Sorts.{Sort, IsBool, IsVector, sortAt, WellSorted, Context, start, after, Allowed, Formed}
+use Rattle.engine.specs.Sorts.{Sort, IsBool, IsVector, sortAt, Context, start, after, Allowed, Formed}
 use Rattle.engine.specs.Sorts.{leaves, payloadLimit}
-use Rattle.engine.specs.Encode.{digits, digitCount, operationOf, termWords, words, recordOf, encode, letterNumber}
-use Rattle.engine.specs.Encode.{suffixNumber, operationAt, countAt, bare, argumentAt, nextAt, callAt}
+use Rattle.engine.specs.Encode.{digits, digitCount, operationOf, words, recordOf, encode, letterNumber}
+use Rattle.engine.specs.Encode.{suffixNumber, operationAt, countAt, bare, argumentAt}
 use Rattle.engine.specs.WellFormed.{isNumber, isVector, isWidth, sortOfWord, countFits, argumentOf, admits}
 use Rattle.engine.specs.WellFormed.{isNumberOf, spells, known, declares, again, headStands, admitted}
-use Rattle.engine.specs.WellFormed.{firstFailing, wrongArgument, Outcome, wellFormed, readFrom, outcome}
+use Rattle.engine.specs.WellFormed.{wrongArgument, wellFormed, readFrom, outcome}
 use Rattle.engine.proofs.Tests.{both, left-of, right-of, refuted}
 use Rattle.engine.proofs.Steps.{none-failing, read-end, read-step}
-use Rattle.engine.proofs.Written.{length-digits, length-literal, letter-back, suffix-back, letter-low}
+use Rattle.engine.proofs.Written.{length-literal, letter-back, suffix-back, letter-low}
 use Rattle.engine.proofs.Written.{suffix-low, bit-low, head-at, operation-at, count-at, argument-at, call-at}
 use Rattle.engine.proofs.Written.{next-at, before-end}
 

@@ -18,8 +18,6 @@ use Rattle.bitvec.proofs.WordLaws.{reduced}
 use Rattle.engine.specs.Call as c
 use Rattle.engine.specs.Encode.{digits, recordOf}
 use Rattle.engine.proofs.Written.{length-literal}
-use Rattle.engine.specs.declared.BinaryOp.the-variants as b
-use Rattle.engine.specs.declared.Letter.the-variants as l
 use Rattle.engine.specs.Emit.{overwrite, last, counted, Wrote}
 
 pub length-overwrite : (words : List ℕ) (at : ℕ) (new : List ℕ) → length (overwrite words at new) ≡ length words

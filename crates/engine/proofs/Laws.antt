@@ -1,7 +1,7 @@
 -- Laws of the meaning of calls: later calls leave earlier values alone, and a list is satisfied exactly where some
 -- valuation of its terms meets every call.
 use mathlib.Core.Path.{_≡_, refl, sym, ap, ap₂, _∙_}
-use mathlib.Core.Bool.{Bool, true, false}
+use mathlib.Core.Bool.{Bool, false}
 use mathlib.Core.List.{List, [], _∷_, _++_, map}
 use Prim.Native.Nat.{ℕ, suc, _+_, _<_}
 use native.Mathlib.Nat.{le-refl}

@@ -1,6 +1,6 @@
 -- Laws of the definitions of Meaning.
 use mathlib.Core.Path.{_≡_}
-use mathlib.Core.List.{List, []}
+use mathlib.Core.List.{List}
 use Prim.Native.Nat.{ℕ, _<_}
 use lib.ListN.{length}
 use Rattle.engine.specs.Meaning.{Value, valueAt}

@@ -23,15 +23,15 @@ use Rattle.engine.specs.Call.{Name, BinaryOp, Compare, Call}
 use Rattle.engine.specs.Call as c
 use Rattle.engine.specs.Meaning.{All, Earlier}
 use Rattle.engine.proofs.SortLaws.{formed-earlier}
-use Rattle.engine.specs.Sorts.{Sort, IsBool, IsVector, sortAt, WellSorted, Context, start, after, Allowed, Formed}
+use Rattle.engine.specs.Sorts.{Sort, IsBool, IsVector, sortAt, Context, start, after, Allowed, Formed}
 use Rattle.engine.specs.Sorts.{leaves, payloadLimit, countLimit}
 use Rattle.engine.specs.Encode.{Op, opOf, operations, numberOf, digits, digitCount, fromDigits, operationOf}
 use Rattle.engine.specs.Encode.{words, recordOf, encode, letterNumber, suffixNumber, callOf, operationAt, countAt}
 use Rattle.engine.specs.Encode.{bare, argumentAt, nextAt, callAt, callsFrom, decode}
 use Rattle.engine.specs.Encode as o
 use Rattle.engine.specs.WellFormed.{isNumber, isVector, isWidth, sortOfWord, literalCount, countFits, argumentOf}
-use Rattle.engine.specs.WellFormed.{admits, isNumberOf, spells, known, declares, again, headStands, admitted}
-use Rattle.engine.specs.WellFormed.{firstFailing, wrongArgument, Outcome, wellFormed, malformed, readFrom}
+use Rattle.engine.specs.WellFormed.{admits, spells, known, declares, again, headStands, admitted}
+use Rattle.engine.specs.WellFormed.{wrongArgument, wellFormed, malformed, readFrom}
 use Rattle.engine.specs.WellFormed.{outcome}
 use Rattle.engine.proofs.Tests.{both, left-of, right-of, not-of}
 use Rattle.engine.proofs.Steps.{failing-free, read-end, read-step, read-head, read-wrong}

@@ -10,14 +10,14 @@ use lib.ListN.{length, List·getD-append}
 use lib.Seq.{getD-append-seam}
 use Rattle.bitvec.specs.Bits.{Bits}
 use Rattle.bitvec.proofs.Laws.{length-concat, length-extract, length-bvnot, length-bvand, length-bvor, length-bvxor}
-use Rattle.bitvec.proofs.Laws.{length-bvadd, length-bvcomp, length-bvshl, length-bvlshr, length-bvashr, length-bvmul}
+use Rattle.bitvec.proofs.Laws.{length-bvadd, length-bvshl, length-bvlshr, length-bvashr, length-bvmul}
 use Rattle.engine.specs.Call.{BinaryOp, Term, Call}
 use Rattle.engine.specs.Call as c
 use Rattle.engine.specs.Meaning.{Value, bool, bits, asBool, asBits, Assignment, denote, denoteOp, valueAt, run}
-use Rattle.engine.specs.Meaning.{Fits, argumentsOf, All, Earlier, terms}
+use Rattle.engine.specs.Meaning.{Fits, argumentsOf, All, Earlier}
 use Rattle.engine.proofs.Laws.{All-map, length-snoc}
-use Rattle.engine.specs.Sorts.{Sort, IsBool, IsVector, sortAt, binarySort, sortOf, WellSorted, Context, after}
-use Rattle.engine.specs.Sorts.{Allowed, Formed, leaves}
+use Rattle.engine.specs.Sorts.{Sort, IsVector, sortAt, binarySort, sortOf, WellSorted, Context}
+use Rattle.engine.specs.Sorts.{Formed, leaves}
 use Rattle.engine.proofs.SortsLaws.{OfSort}
 
 -- ---- never forward

@@ -1,6 +1,5 @@
 -- Laws of the definitions of Sorts.
 use mathlib.Core.Path.{_≡_}
-use mathlib.Core.List.{[]}
 use lib.ListN.{length}
 use Rattle.engine.specs.Meaning.{Value, bool, bits}
 use Rattle.engine.specs.Sorts.{Sort, IsBool, IsVector}

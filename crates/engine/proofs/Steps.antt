@@ -14,7 +14,7 @@ use borrow.Author.Tests.{lt-ltb, le-ltb}
 use Rattle.engine.specs.Call.{Call}
 use Rattle.engine.specs.Sorts.{Context, after}
 use Rattle.engine.specs.Encode.{offset, bare, nextAt, callAt, callsFrom}
-use Rattle.engine.specs.WellFormed.{headStands, firstFailing, admitted, wrongArgument, Outcome, wellFormed}
+use Rattle.engine.specs.WellFormed.{headStands, firstFailing, wrongArgument, wellFormed}
 use Rattle.engine.specs.WellFormed.{malformed, readFrom}
 
 -- ---- the first failing number

@@ -20,12 +20,11 @@ use Rattle.engine.specs.Call.{Letter, Suffix, BinaryOp, Compare, Call}
 use Rattle.engine.specs.Call as c
 use Rattle.engine.specs.Meaning.{All}
 use Rattle.engine.proofs.Laws.{All-map}
-use Rattle.engine.specs.Sorts.{Sort, IsBool, IsVector, sortAt, WellSorted, Context, start, after, Allowed, Formed}
-use Rattle.engine.specs.Sorts.{leaves, payloadLimit, countLimit}
-use Rattle.engine.specs.Encode.{Op, opOf, numberOf, digits, digitCount, operationOfTerm, operationOf, termWords}
+use Rattle.engine.specs.Sorts.{Context, start, after, Allowed, Formed}
+use Rattle.engine.specs.Sorts.{payloadLimit, countLimit}
+use Rattle.engine.specs.Encode.{Op, opOf, numberOf, digits, digitCount, operationOf, termWords}
 use Rattle.engine.specs.Encode.{words, recordOf, encode, fromDigits, letterNumber, suffixNumber, callOf}
 use Rattle.engine.specs.Encode.{operationAt, countAt, bare, argumentAt, nextAt, callAt, callsFrom, decode}
-use Rattle.engine.specs.Encode.{offset}
 use Rattle.engine.specs.Encode as o
 use Rattle.engine.proofs.Steps.{calls-end, calls-step}
 

@@ -1,6 +1,6 @@
 -- Records written into a lent slice of words at a count: what each function that makes a call leaves.
 use mathlib.Core.Path.{_≡_}
-use mathlib.Core.List.{List, []}
+use mathlib.Core.List.{List}
 use Prim.Native.Nat.{ℕ, _+_, min}
 use lib.ListN.{length}
 use lib.Seq.{sets}

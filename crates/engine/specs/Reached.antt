@@ -1,8 +1,7 @@
--- What the scans of a call list find, in a list read well so far: the sort of a term is what its record says, and a
--- name is known exactly if a record before declares it.
+-- What holds of a call list that was read well so far: its records, and the sorts of their terms.
 use mathlib.Core.Path.{_≡_}
 use mathlib.Core.Bool.{true}
-use mathlib.Core.List.{List, []}
+use mathlib.Core.List.{List}
 use mathlib.Core.Option.{none}
 use Prim.Native.Nat.{ℕ, zero, suc, _<_}
 use lib.ListN.{length, getD}

@@ -10,7 +10,7 @@ use Rattle.logic.specs.declared.Term.{Term}
 use Rattle.engine.specs.Call.{BinaryOp, Call}
 use Rattle.engine.specs.Call as c
 use Rattle.engine.specs.Sorts.{Sort, noSort}
-use Rattle.engine.specs.Encode.{Op, makesTerm, letterNumber, suffixNumber, operationAt, bare, argumentAt, nextAt}
+use Rattle.engine.specs.Encode.{makesTerm, operationAt, bare, argumentAt, nextAt}
 use Rattle.engine.specs.Encode.{callAt}
 use Rattle.engine.specs.WellFormed.{declares}
 use Rattle.engine.specs.declared.Origin.{Origin}

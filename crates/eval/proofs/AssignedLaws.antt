@@ -12,7 +12,7 @@ use Rattle.bitvec.proofs.Laws.{length-nat2bv}
 use Rattle.engine.specs.Call.{Letter, Suffix, Name, Call}
 use Rattle.engine.specs.Call as c
 use Rattle.engine.specs.Meaning.{Assignment, Fits}
-use Rattle.engine.specs.Sorts.{Context, after, Formed}
+use Rattle.engine.specs.Sorts.{Context, Formed}
 use Rattle.engine.specs.Encode.{letterNumber, suffixNumber}
 use Rattle.engine.proofs.Written.{letter-back, suffix-back}
 use Rattle.engine.proofs.Tests.{both, left-of, right-of, refuted}

@@ -1,6 +1,6 @@
--- One record more: what the evaluator's loops keep from turn to turn.
+-- What evaluating record by record asks of a list, its bits and its tables.
 use mathlib.Core.Path.{_≡_}
-use mathlib.Core.List.{List, []}
+use mathlib.Core.List.{List}
 use mathlib.Core.Option.{none}
 use Prim.Native.Nat.{ℕ, _≤_}
 use lib.ListN.{length}

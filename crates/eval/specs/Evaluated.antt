@@ -14,7 +14,6 @@ use Rattle.engine.specs.Encode.{letterNumber, suffixNumber, decode}
 use Rattle.engine.specs.WellFormed.{Outcome, wellFormed, malformed, outcome}
 use Rattle.engine.specs.Emit.{overwrite}
 use Rattle.term_values.specs.Values.{valueNumber}
-use Rattle.logic.specs.declared.Fault.{Fault}
 use Rattle.eval.specs.declared.Evaluation.{Evaluation}
 use Rattle.eval.specs.declared.Evaluation.the-variants.{Evaluated, Refused}
 

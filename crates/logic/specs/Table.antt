@@ -1,5 +1,4 @@
--- Lists of one length: every operation element by element is a table of one function, so that one induction serves all
--- of them.
+-- Lists made element by element: from two lists, and from a function of the place.
 use mathlib.Core.List.{List, [], _∷_}
 use Prim.Native.Nat.{ℕ, zero, suc}
 

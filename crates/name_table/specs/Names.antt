@@ -1,12 +1,11 @@
 -- The table of names: where a name stands in it, and what it answers.
-use mathlib.Core.Path.{_≡_}
 use mathlib.Core.Bool.{Bool, cond, _&&_, false}
 use mathlib.Core.List.{List}
 use Prim.Native.Nat.{ℕ, _+_, _*_, min}
 use lib.ListN.{length, getD, set}
 use lib.Dec.{eqb, leb, ltb}
 use Rattle.logic.specs.Word.{payloadOf}
-use Rattle.engine.specs.Encode.{operationAt, argumentAt}
+use Rattle.engine.specs.Encode.{operationAt}
 use Rattle.engine.specs.WellFormed.{isNumber}
 use Rattle.engine.specs.Structure.{declaredBefore}
 use Rattle.call_list.specs.Operations.{isDeclare}

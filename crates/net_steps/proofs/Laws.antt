@@ -2,21 +2,21 @@
 -- nothing.
 use mathlib.Core.Path.{_≡_, refl, sym, ap, ap₂, subst, _∙_}
 use mathlib.Core.List.{List, [], _∷_, _++_, append-assoc, append-nil}
-use Prim.Native.Nat.{ℕ, suc, _+_, _≤_, _<_, _^_}
+use Prim.Native.Nat.{ℕ, _+_}
 use native.Mathlib.Omega.{arith}
 use lib.ListN.{length}
-use Rattle.engine.specs.Call.{Call, assert, check}
+use Rattle.engine.specs.Call.{assert, check}
 use Rattle.engine.specs.Encode.{encode, recordOf}
 use Rattle.engine.specs.Emit.{Wrote}
 use Rattle.engine.proofs.EmitLaws.{wrote-none, length-overwrite}
 use Rattle.smt.specs.Prog.{Prog, TritVec, _>>=_}
-use Rattle.smt.specs.Emit.{St, Out, after, emit}
+use Rattle.smt.specs.Emit.{St, Out, emit}
 use Rattle.builder.specs.declared.Counts.{Counts}
 use Rattle.builder.specs.declared.Built.{Built}
 use Rattle.builder.specs.Ran.{stateOf, Lent, Fits, Ends, Ran, Writes}
-use Rattle.builder.proofs.Laws.{Grows, emit-grows, encode-append, wrote-call, wrote-calls}
+use Rattle.builder.proofs.Laws.{Grows, emit-grows, wrote-call, wrote-calls}
 use Rattle.order.specs.Verify.{Step, declared, asserted, obliged, work, query, asked}
-use Rattle.net_steps.specs.Did.{Did, Asserts, Asked, Asks}
+use Rattle.net_steps.specs.Did.{Did, Asserts, Asks}
 
 work-grows : (steps : List Step) (s : St) → Grows s ((work steps s) .st)
 unfolding work

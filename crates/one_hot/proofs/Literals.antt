@@ -1,8 +1,8 @@
 -- Literals of trits, none of which is X, by their numbers: all zero, and one hot. Assumes nothing.
 use mathlib.Core.Path.{_≡_, refl, sym, ap, ap₂, _∙_}
 use mathlib.Core.Bool.{Bool, true, false, cond}
-use mathlib.Core.List.{List, [], _∷_, map}
-use Prim.Native.Nat.{ℕ, zero, suc, _+_, _*_, _/_, _%_, _^_, _<_}
+use mathlib.Core.List.{_∷_, map}
+use Prim.Native.Nat.{ℕ, zero, suc, _*_, _/_, _%_, _^_}
 use native.Mathlib.Omega.{arith}
 use native.Mathlib.Nat.{pow-suc}
 use lib.Dec.{eqb, eqb·zero-suc, eqb·suc-zero, eqb·suc-suc}
@@ -10,7 +10,6 @@ use lib.ListN.{replicate}
 use Rattle.logic.specs.Table.{tab}
 use Rattle.logic.proofs.TableLaws.{tab-ext, tab-const, map-tab}
 use Rattle.logic.specs.Trit.{xOf, yOf}
-use Rattle.logic.specs.declared.Trit.{Trit}
 use Rattle.logic.specs.declared.Trit.the-variants.{Zero, One}
 use Rattle.bitvec.specs.Bits.{nat2bv}
 use Rattle.bits.proofs.Literals.{zeros-lit}

@@ -1,23 +1,21 @@
 -- The cell of a record, read from the part of the list that begins at the record's first field: every number, net,
 -- control, constant and pattern of the part is that of the list so many places on. Assumes nothing.
-use mathlib.Core.Path.{_≡_, refl, sym, ap, ap₂, _∙_}
+use mathlib.Core.Path.{_≡_, refl, ap, ap₂, _∙_}
 use mathlib.Core.Bool.{Bool}
-use mathlib.Core.List.{List, [], _∷_}
-use Prim.Native.Nat.{ℕ, zero, suc, _+_, _*_, _-_, _≤_}
-use native.Mathlib.Nat.{add-assoc}
+use mathlib.Core.List.{List, _∷_}
+use Prim.Native.Nat.{ℕ, zero, suc, _+_, _*_, _-_}
 use native.Mathlib.Omega.{arith}
 use lib.Dec.{eqb}
 use lib.ListN.{getD, drop, take, length, length-drop}
 use lib.Seq.{getD-drop, take-all}
 use Rattle.logic.specs.Net.{Net}
-use Rattle.logic.specs.Table.{tab}
 use Rattle.logic.proofs.TableLaws.{tab-ext}
 use Rattle.logic.specs.declared.Trit.{Trit}
 use Rattle.cell.specs.Cell as C
 use Rattle.cell.specs.Cell.{Cell, Control}
 use Rattle.cell.specs.declared.Operation.{Operation}
 use Rattle.cell.specs.declared.Operation.the-variants as O
-use Rattle.cell_reader.specs.Parse.{numberIn, netIn, controlIn, tritIn, netsIn, tritsIn, patternsIn, cellIn}
+use Rattle.cell_reader.specs.Parse.{numberIn, netIn, controlIn, netsIn, tritsIn, patternsIn, cellIn}
 
 -- A part up to the end of the list.
 pub part-all : (w : List ℕ) (at : ℕ) → take (length w - at) (drop at w) ≡ drop at w

@@ -1,5 +1,4 @@
 -- Laws of the definitions of Reads.
-use mathlib.Core.List.{[]}
 use Rattle.engine.specs.Call.{Name}
 use Rattle.smt.specs.Emit.{netName}
 use Rattle.order.specs.Reads.{NetRead}

@@ -1,6 +1,5 @@
--- Packing loses nothing: what was packed can be taken back out of the answer, for every list and every slice.
+-- What can be taken back out of a packed answer: the number, the value, and whether anything is asked.
 use mathlib.Core.Path.{_≡_}
-use mathlib.Core.List.{[]}
 use Prim.Native.Nat.{ℕ, _/_, _%_, _^_}
 use Rattle.requirement.specs.declared.Verified.{Verified}
 use Rattle.requirement.specs.Verified.{numberOf, valueOf}

@@ -1,7 +1,7 @@
--- Laws that the loop over the cells goes by: filling a table, and one turn.
+-- Document 01, fault 11: a cell as it was placed, its record and the slots that it takes up to the limit.
 use Prim.Native.Nat.{ℕ, _+_, _≤_, max}
 use mathlib.Core.Path.{_≡_}
-use mathlib.Core.List.{List, []}
+use mathlib.Core.List.{List}
 use Rattle.cell.specs.declared.Operation.{Operation}
 use Rattle.cell_reader.specs.Accepted.{IsRecord}
 use Rattle.placing.specs.Cells.{limitOf}

@@ -2,7 +2,7 @@
 -- fits, and what is written for each answer of `verify`.
 use mathlib.Core.Path.{_≡_, refl, sym, ap, _∙_}
 use mathlib.Core.Bool.{Bool, true, false}
-use mathlib.Core.List.{List, [], _∷_, _++_}
+use mathlib.Core.List.{List}
 use mathlib.Core.Option.{Option, some, none}
 use Prim.Native.Nat.{ℕ, _+_, _/_, _%_, _<_, _≤_, _^_}
 use native.Mathlib.Omega.{arith}
@@ -16,24 +16,23 @@ use Rattle.fields.specs.Field.{fault}
 use Rattle.design_list.specs.declared.Extent.{Extent}
 use Rattle.design_list.specs.declared.DesignRead.the-variants as D
 use Rattle.design_list.specs.Read.{Read, refused, accepted, read, answer}
-use Rattle.engine.specs.Emit.{Wrote, counted}
+use Rattle.engine.specs.Emit.{Wrote}
 use Rattle.text.proofs.Write.{overwrite-fits}
 use Rattle.engine.specs.WellFormed.{malformedAt}
 use Rattle.engine.specs.Encode.{decode}
 use Rattle.asked.specs.Marks.{badMark}
 use Rattle.asked.specs.declared.Mark.{Mark}
 use Rattle.asked.specs.declared.Mark.the-variants.{Fine, Bad}
-use Rattle.script.specs.declared.Written.{Written}
 use Rattle.script.specs.declared.Written.the-variants.{Bytes, Refused}
-use Rattle.script.specs.Written.{scriptOf, roomFor, onFine, onFormed, marked, written, textAfter, Scripted}
+use Rattle.script.specs.Written.{scriptOf, roomFor, onFine, onFormed, marked, written, Scripted}
 use Rattle.builder.specs.declared.Counts.{Counts}
 use Rattle.requirement.specs.declared.Verified.{Verified}
 use Rattle.requirement.specs.declared.Verified.the-variants as design
 use Rattle.requirement.specs.Verified.{verified, callWords, marks}
 use Rattle.design.specs.Verifies.{Verifies}
-use Rattle.design.specs.Said.{Says, Said}
+use Rattle.design.specs.Said.{Says}
 use Rattle.design.proofs.Said.{verify-said}
-use Rattle.program.specs.Output.{wordAt, firstWords, wordsOf, refusalLine, scriptOr, scriptText, ofVerified}
+use Rattle.program.specs.Output.{wordAt, firstWords, wordsOf, refusalLine, scriptText, ofVerified}
 use Rattle.program.specs.Output.{listOutput, outputIn, slotsIn}
 
 -- ---- the words of the input

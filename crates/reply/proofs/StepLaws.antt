@@ -1,6 +1,6 @@
 -- Laws of the definitions of Step.
 use mathlib.Core.Path.{_≡_, refl}
-use mathlib.Core.List.{List, []}
+use mathlib.Core.List.{List}
 use Prim.Native.Nat.{ℕ}
 use Rattle.tokens.specs.Token.{tokensOf}
 use Rattle.tokens.specs.Place.{tokensFrom}

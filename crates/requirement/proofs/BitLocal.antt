@@ -17,8 +17,8 @@ use Rattle.working_out.specs.Reading.{Each}
 use Rattle.smt.specs.Prog.{Age, curr, past, Half, isUndef, isOne}
 use Rattle.smt.specs.Builder.{outputNets, zext, extended, shiftWidth, overwritten, hasClear}
 use Rattle.smt.specs.Formula.{TritBits, tb, NetBits, bitOf, readBits, litBits}
-use Rattle.smt.specs.CellBits.{ageOf, valueBits, netBit, pastBits, currBits, controlBits, clockBits, shiftedBits}
-use Rattle.smt.specs.CellBits.{shiftCellBits, comparedBits, productBits, sumBits, matchesBits, matchBits, loadedBits}
+use Rattle.smt.specs.CellBits.{ageOf, valueBits, netBit, pastBits, currBits, controlBits, shiftedBits}
+use Rattle.smt.specs.CellBits.{shiftCellBits, comparedBits, productBits, sumBits, matchBits, loadedBits}
 use Rattle.smt.specs.CellBits.{clockedBits, clearedBits, adcCellBits, cellBits}
 
 -- The same bits, now on the slots of a list, before on every slot.

@@ -2,7 +2,7 @@
 -- writer never gives fault 2 at a mark), and no net of a slot that is marked none is: a slot's mark is that of its last
 -- read, and the declared names are those that are read.
 use mathlib.Core.Path.{_≡_}
-use mathlib.Core.List.{List, []}
+use mathlib.Core.List.{List}
 use Prim.Native.Nat.{ℕ, _≤_, _<_}
 use lib.ListN.{length, getD}
 use Rattle.engine.specs.Call.{Call}
@@ -10,8 +10,6 @@ use Rattle.smt.specs.Prog.{Age, curr, past, Half}
 use Rattle.smt.specs.Emit.{netName}
 use Rattle.requirement.specs.Requirement3.{IsDeclared, Declared}
 use Rattle.requirement.specs.Verified.{marks}
-
--- ---- the marks of a design
 
 -- Marks and calls: a mark for each slot, 0 (none), 1 (n) or 2 (p). A slot marked none has no net declared, and both
 -- names of a marked slot are.

@@ -1,7 +1,7 @@
 -- Laws of the definitions of Examples.
 use mathlib.Core.Path.{_≡_, refl}
 use mathlib.Core.Bool.{Bool}
-use mathlib.Core.List.{List, [], map}
+use mathlib.Core.List.{List, map}
 use Prim.Native.Nat.{ℕ}
 use Rattle.logic.specs.Table.{tab}
 use Rattle.rules.specs.Trits.{anyX, number}

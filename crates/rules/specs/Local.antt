@@ -1,7 +1,5 @@
--- Cells: turning Xs into 0 or 1 in what a cell reads changes no defined trit of what its rule gives. Hence its rule
--- looks at nothing but past trits and the current trits of its current reads. The exception is an IoBuf as a
--- replacement's new cell: it counts no read, and shows the slots as read.
-use mathlib.Core.List.{List, []}
+-- Turning Xs into 0 or 1 in what a cell reads: on the slots of a list now, on every slot before.
+use mathlib.Core.List.{List}
 use mathlib.Core.List.{List·Memᴰ}
 use Prim.Native.Nat.{ℕ}
 use Rattle.rules.specs.CellRule.{Trits}

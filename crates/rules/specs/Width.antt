@@ -1,7 +1,6 @@
--- The widths of what the rules give.
+-- A statement about each element of a list.
 use mathlib.Core.List.{List, [], _∷_}
 
--- A statement about each element of a list.
 module _ {A : Type 0} where
   abbrev pub Each : (A → Type 0) → List A → Type 0
   Each P [] = Unit {0}

@@ -1,6 +1,6 @@
 -- Going through a well-formed call list record by record: at each place the record is one that the writer can write.
 use mathlib.Core.Path.{_≡_}
-use mathlib.Core.List.{List, []}
+use mathlib.Core.List.{List}
 use Prim.Native.Nat.{ℕ}
 use lib.ListN.{length}
 use Rattle.engine.specs.Sorts.{Context, start, leaves}

@@ -11,7 +11,6 @@ use Rattle.logic.specs.declared.Trit.{Trit}
 use Rattle.logic.specs.declared.Trit.the-variants.{Zero, One, Undef}
 use Rattle.bitvec.specs.Bits.{nat2bv}
 use Rattle.bitvec.specs.Ops.{bvmul}
-use Rattle.engine.specs.Call as c
 use Rattle.engine.specs.Call.{BinaryOp}
 use Rattle.engine.specs.Meaning.{Value, Assignment}
 use Rattle.cell.specs.Cell.{Cell, Control, FlipFlop, Shift, Binary, binaryWidth, outputLen}

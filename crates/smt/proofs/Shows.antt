@@ -19,7 +19,6 @@ use Rattle.rules.specs.Rules as r
 use Rattle.smt.proofs.Terms.{extract-one}
 use Rattle.smt.specs.Formula.{TritBits, tb, litBits, concatBits, extractBits, notBits, andBits, orBits, xorBits}
 use Rattle.smt.specs.Formula.{muxBits, invertBits}
-use Rattle.smt.proofs.FormulaLaws.{show}
 
 -- An element that is there does not ask for the default.
 pub getD-any : {A : Type 0} (l : List A) (i : ℕ) (d e : A) → i < length l → getD l i d ≡ getD l i e

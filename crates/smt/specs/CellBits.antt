@@ -1,4 +1,4 @@
--- The bits of a cell's terms, of the bits of the nets, and that the calls of `cell` give just these.
+-- The bits of a cell's terms, of the bits of the nets: for each operation the formula that its calls spell.
 use mathlib.Core.Path.{_≡_}
 use mathlib.Core.Bool.{Bool, true, false, not, cond}
 use mathlib.Core.List.{List, [], _∷_, _++_, map}
@@ -124,8 +124,6 @@ module _ (readsPast : ℕ → Bool) (b : NetBits) where
   cellBits s w (cells.assign nets enable update offset) =
       muxBits (netBit enable) (valueBits (overwritten nets offset update)) (valueBits nets)
   cellBits s w (cells.dff f) = clearedBits (hasClear f) f (clockedBits f (outputNets s w))
-
--- ---- the calls
 
 -- An Input has no terms; nor have a Void and a Note, which have no output.
 abbrev pub NotInput : Cell → Type 0

@@ -1,13 +1,12 @@
 -- Requirement 2: the bits of a cell's terms show the cell's rule on what its nets show, whatever their hidden bits.
 use mathlib.Core.Path.{_≡_}
-use mathlib.Core.List.{List, []}
+use mathlib.Core.List.{List}
 use Prim.Native.Nat.{ℕ}
 use lib.ListN.{length}
 use Rattle.logic.specs.Table.{zipWith}
 use Rattle.logic.specs.Trit.{shows}
 use Rattle.logic.specs.declared.Trit.{Trit}
 use Rattle.engine.specs.Meaning.{Value, asBits}
-use Rattle.rules.specs.Rules as r
 use Rattle.rules.specs.CellRule.{Trits}
 use Rattle.smt.specs.Prog.{curr, past, isUndef, isOne, TritVec}
 use Rattle.smt.specs.Formula.{NetBits}
@@ -18,8 +17,6 @@ tritsOf b = record {
   now = λ i. shows (b curr i isUndef) (b curr i isOne);
   was = λ i. shows (b past i isUndef) (b past i isOne);
 }
-
--- ---- the calls
 
 -- A pair of terms shows these trits: its bits have their width, and the trits are those that its bits show.
 pub record TermsShow (v : ℕ → Value) (r : TritVec) (ts : List Trit) : Type 0 where

@@ -1,7 +1,7 @@
 -- What holds of the result of a run of the builder, under any valuation of the terms that meets what it emits. The
 -- rule of each kind of call is a weakest precondition with no state in it, so a run's parts are judged one by one.
 use mathlib.Core.Path.{_≡_}
-use mathlib.Core.List.{List, []}
+use mathlib.Core.List.{List}
 use Prim.Native.Nat.{ℕ, suc}
 use lib.ListN.{length, getD}
 use Rattle.engine.specs.Call.{Call}

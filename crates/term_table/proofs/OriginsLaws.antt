@@ -1,7 +1,7 @@
 -- Laws of the definitions of Origins.
 use Prim.Native.Nat.{ℕ}
 use mathlib.Core.Path.{_≡_, refl, sym, _∙_}
-use mathlib.Core.List.{List, []}
+use mathlib.Core.List.{List}
 use Rattle.logic.specs.Word.{payloadOf}
 use Rattle.bitvec.proofs.Laws.{length-nat2bv}
 use Rattle.engine.specs.Structure.{originOf}

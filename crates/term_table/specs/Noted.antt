@@ -1,6 +1,6 @@
--- The sorts and places of terms past the tables are those of the terms read so far.
+-- The places of terms that are noted past the tables.
 use mathlib.Core.Path.{_≡_}
-use mathlib.Core.List.{List, []}
+use mathlib.Core.List.{List}
 use Prim.Native.Nat.{ℕ, _+_, _*_, _≤_, _<_}
 use lib.ListN.{length, getD}
 use Rattle.engine.specs.Structure.{placeOfTerm}

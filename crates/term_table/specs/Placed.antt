@@ -1,6 +1,6 @@
 -- The table of places, record by record: it has the place of every term read so far.
 use mathlib.Core.Path.{_≡_}
-use mathlib.Core.List.{List, []}
+use mathlib.Core.List.{List}
 use Prim.Native.Nat.{ℕ, _≤_, _<_}
 use lib.ListN.{length, getD}
 use Rattle.engine.specs.Structure.{placeOfTerm}

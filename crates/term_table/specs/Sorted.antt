@@ -1,6 +1,6 @@
 -- The table of sorts, record by record: it has the sort of every term read so far.
 use mathlib.Core.Path.{_≡_}
-use mathlib.Core.List.{List, []}
+use mathlib.Core.List.{List}
 use Prim.Native.Nat.{ℕ, _≤_}
 use lib.ListN.{length}
 use Rattle.engine.specs.Sorts.{Context, start}

@@ -1,5 +1,4 @@
--- The evaluator's numbers: the number of each term, from the numbers and the sorts of its arguments, is that of its
--- value.
+-- The evaluator's numbers: the number of each term, from the numbers and the sorts of its arguments.
 use Rattle.engine.specs.Encode.{Op}
 use mathlib.Core.Bool.{cond, not}
 use mathlib.Core.List.{List, [], _∷_}

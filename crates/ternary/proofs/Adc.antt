@@ -1,10 +1,9 @@
 -- An Adc by its count of positions: with none it is its carry's net. Assumes nothing.
-use mathlib.Core.Path.{_≡_, refl, ap}
+use mathlib.Core.Path.{_≡_, ap}
 use mathlib.Core.Bool.{Bool}
 use mathlib.Core.List.{List}
 use Prim.Native.Nat.{ℕ, zero, suc, _<_}
 use native.Mathlib.Omega.{arith}
-use lib.ListN.{length}
 use Rattle.logic.specs.Net.{Net}
 use Rattle.logic.specs.Table.{tab}
 use Rattle.logic.proofs.TableLaws.{length-tab}

@@ -1,5 +1,4 @@
 -- Laws of the definitions of Names.
-use mathlib.Core.List.{[]}
 use Prim.Native.Nat.{ℕ, _<_, _≤_, _^_}
 use native.Mathlib.Omega.{arith}
 use lib.ListN.{length, length-append}

@@ -1,4 +1,4 @@
--- The reader accepts exactly the words of the valid designs: each as that design, and nothing else.
+-- What an accepted list is: the words of its design, with its replacements and pairs at their places.
 use mathlib.Core.Path.{_≡_}
 use mathlib.Core.List.{List}
 use Prim.Native.Nat.{ℕ, _≤_}

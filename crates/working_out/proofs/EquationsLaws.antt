@@ -1,7 +1,7 @@
 -- Laws of the definitions of Equations.
 use mathlib.Core.Path.{_≡_}
 use mathlib.Core.Bool.{true}
-use mathlib.Core.List.{[], List·Memᴰ}
+use mathlib.Core.List.{List·Memᴰ}
 use Prim.Native.Nat.{ℕ}
 use lib.ListN.{length, getD}
 use Rattle.cell.specs.Cell.{Cell, outputLen}

@@ -8,7 +8,6 @@ use native.Mathlib.Omega.{arith}
 use lib.Dec.{eqb}
 use Rattle.logic.specs.Net.{Net}
 use Rattle.cell.specs.Cell.{outputLen, slotsOf}
-use Rattle.cell.specs.Cell as c
 use Rattle.cell.specs.Design.{Design, Placed, total}
 use Rattle.working_out.proofs.OrderLaws.{eqb-false}
 use Rattle.working_out.specs.Reading.{cellOf, Role, void, given, dff, other, role, isVoid, replacement, sourceBy}

@@ -1,4 +1,4 @@
--- Finite search, and the pigeonhole: a walk of n + 1 places among n numbers meets a number twice.
+-- Finite search: the lowest number below a bound that passes a test.
 use mathlib.Core.Bool.{Bool, true, false, cond}
 use mathlib.Core.Option.{Option, none, some}
 use Prim.Native.Nat.{ℕ, zero, suc}

@@ -1,6 +1,5 @@
 -- A system of equations over slots, for any type of values: a slot is a source, or belongs to a node, named by its
--- first slot. Working out fills the nodes in the order of their reads. It solves the equations; and a relation that
--- every equation keeps holds between two solutions: equality (there is one solution), or refinement (it is monotone).
+-- first slot. Working out fills the nodes in the order of their reads.
 use mathlib.Core.Bool.{Bool, false, not, cond, _&&_, _||_}
 use mathlib.Core.Option.{Option}
 use mathlib.Core.List.{List, [], _∷_}
