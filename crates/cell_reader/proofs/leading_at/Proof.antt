@@ -20,7 +20,7 @@ returns-2 c =
       ne-eqb _ _ (at-if1 .if1 .left),
       ← at-number-at .number-at .ensures,
       at-n .n .given .1,
-      lt-ltb _ _ (c .if2 .taken),
+      lt-ltb _ (at-if1 .before .before .before .args .numbers .least) (c .if2 .taken),
     )
 
 returns-3 : tie.Need-returns-3

@@ -39,8 +39,8 @@ returns-3 c =
       at-patterns .patterns .given .1,
       ← at-patterns-at .patterns-at .ensures,
       at-next .next .given .1,
-      ← c .ends-at .ensures,
     )
+    (c .ends-at .ensures)
 
 pub tail-at-spec : {M : Type 1} → statement M
 tail-at-spec =

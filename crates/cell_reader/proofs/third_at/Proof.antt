@@ -1,5 +1,6 @@
 -- `cell_reader::third_at` meets its contract: each answer rewrites the definition by the tests and calls that lead to
 -- it. Assumes nothing.
+use Prim.Native.Nat.{_+_}
 use borrow.Author.Tests.{lt-ltb, le-ltb}
 use Rattle.cell_reader.specs.Record.{thirdAt}
 use borrow.Author.Needs.{needs}
@@ -12,11 +13,12 @@ returns c =
     let at-if1 = c .before in
     let at-offset = at-if1 .before .before in
     let at-number-at = at-offset .before .before in
+    let start = at-number-at .before .before in
     rw (
       ← at-number-at .number-at .ensures,
       at-offset .offset .given .1,
       at-if1 .if1 .taken,
-      lt-ltb _ _ (c .if2 .taken),
+      lt-ltb (start .args .n) (at-offset .offset .given .0 .0 + start .args .m) (c .if2 .taken),
     )
 
 returns-2 : tie.Need-returns-2

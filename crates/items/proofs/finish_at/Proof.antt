@@ -1,5 +1,6 @@
 -- `items::finish_at` meets its contract: each answer rewrites the definition by the tests and calls that lead to it.
 -- Assumes nothing.
+use lib.ListN.{length}
 use borrow.Author.Tests.{eq-eqb, ne-eqb}
 use Rattle.items.specs.Items.{finishAt}
 use Rattle.items.proofs.finish_at.Statement.{statement}
@@ -7,7 +8,7 @@ use Rattle.items.proofs.finish_at.Tie as tie
 
 returns : tie.Need-returns
 unfolding finishAt
-returns c = rw (eq-eqb _ _ (c .if1 .taken))
+returns c = let start = c .before in rw (eq-eqb _ (length (start .args .list .now)) (c .if1 .taken))
 
 returns-2 : tie.Need-returns-2
 unfolding finishAt
