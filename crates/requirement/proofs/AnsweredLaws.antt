@@ -22,7 +22,7 @@ use Rattle.order.proofs.StepsMean.{steps-are}
 use Rattle.requirement.proofs.Exists as terms-asked
 use Rattle.requirement.proofs.Theorem.{asked-each}
 use Rattle.requirement.proofs.WellFormed.{few-words, few-terms, few-temporaries}
-use Rattle.requirement.specs.Verified.{temporaries, counted, told, ofDesign, ofRead, verified, ofReadUnroomed}
+use Rattle.requirement.specs.Verified.{roomed, temporaries, counted, told, ofDesign, ofRead, verified, ofReadUnroomed}
 use Rattle.requirement.specs.Verified.{unroomed, over, onSuccess, callWords, marks, callsAfter, recordedAfter}
 use Rattle.requirement.proofs.Required.{is-accepted, words-are}
 use Rattle.requirement.specs.Answered.{Few}
@@ -112,7 +112,9 @@ module _ (w : List ℕ) {d : Design} {reps pairs : ℕ} (is : read w ≡ accepte
   unfolding verified
   answered calls marks =
       let enough : length (encode (verify d)) ≤ room = rw (words-are w is) at calls in
-      ap (λ r. ofRead r room recorded) is ∙ rw (le-ltb _ _ enough, le-ltb _ _ marks)
+      let fits : roomed d room recorded ≡ told ((built d) .res) (counted (verify d)) =
+      rw (le-ltb _ _ enough, le-ltb _ _ marks) in
+      ap (λ r. ofRead r room recorded) is ∙ fits
 
   -- What it is answered is what `unroomed` says.
   pub answered-unroomed : length (callWords w) ≤ room → total d ≤ recorded → verified w room recorded ≡ unroomed w

@@ -17,7 +17,7 @@ returns c = rw (lt-ltb _ _ (c .if1 .taken)) (refl, tt)
 
 returns-2 : tie.Need-returns-2
 unfolding read Stored
-returns-2 c = rw (le-ltb _ _ (c .before .if1 .left), lt-ltb _ _ (c .if2 .taken)) (refl, tt)
+returns-2 c = rw (le-ltb _ _ (c .before .if1 .left), lt-ltb _ 4 (c .if2 .taken)) (refl, tt)
 
 read-cells-requires : tie.Need-read-cells-requires
 read-cells-requires c κs =

@@ -19,7 +19,7 @@ returns c =
       ← at-kind .kind .ensures,
       eq-eqb _ _ (at-if2 .if2 .taken),
       ← at-payload .payload .ensures,
-      le-leb _ _ (c .if3 .taken),
+      le-leb (at-payload .payload .result) _ (c .if3 .taken),
     )
 
 returns-2 : tie.Need-returns-2

@@ -1,5 +1,6 @@
 -- `placing::placed_at` meets its contract: it follows the definition; the slots of a cell that was read are at most 64.
 -- Assumes nothing.
+use Prim.Native.Nat.{_+_}
 use native.Mathlib.Omega.{arith}
 use mathlib.Core.Path.{sym, _∙_}
 use Rattle.cell_reader.proofs.AcceptedLaws.{record-read}
@@ -37,12 +38,13 @@ returns-2 c =
     let at-slots-of = at-limit-of .before in
     let at-op = at-slots-of .before .before .before in
     let at-record-in = at-op .before .before in
+    let start = at-record-in .before .before in
     rw (
       ← at-record-in .record-in .ensures,
       at-op .op .given .1,
       ← at-slots-of .slots-of .ensures,
       ← at-limit-of .limit-of .ensures,
-      le-leb _ _ (c .if1 .taken),
+      le-leb (start .args .slot .0 + at-slots-of .slots-of .result) _ (c .if1 .taken),
     )
 
 returns-3 : tie.Need-returns-3
