@@ -1,5 +1,5 @@
 -- Laws of the definitions of System.
-use mathlib.Core.Path.{_≡_, refl, sym, _∙_}
+use mathlib.Core.Path.{_≡_, refl, sym, ap, _∙_}
 use mathlib.Core.Bool.{Bool, true, false, not, cond, _&&_, _||_, false≢true, true≢false}
 use mathlib.Core.Option.{Option, none, some}
 use mathlib.Core.List.{List, [], _∷_, List·Memᴰ, List·Memᴰ·head, List·Memᴰ·tail}
@@ -71,7 +71,8 @@ module _ (N : ℕ) (owner : ℕ → Option ℕ) (owned : Owned N owner) (current
       go (some b) q =
           let low = owned .low b b (owned .first j b q) in
           let read = any-mem (owns owner b) m (owns-own owner b j q) in
-          h j b q (ready .has b low (rw (owns-own owner a a e) read))
+          let node = ap (λ (t : Bool). t && any (owns owner b) (current a)) (owns-own owner a a e) in
+          h j b q (ready .has b low (node ∙ read))
 
 -- A relation that the equations keep holds between two solutions.
 module _ {A B : Type 0} (N : ℕ) (owner : ℕ → Option ℕ) (owned : Owned N owner) (current : ℕ → List ℕ)
@@ -119,7 +120,7 @@ module _ {A : Type 0} (N : ℕ) (owner : ℕ → Option ℕ) (owned : Owned N ow
       (ready : Ready N (reads owner current) done b) where
     fill-own : (i : ℕ) → owner i ≡ some b → fill owner F b val i ≡ F i val
     unfolding fill
-    fill-own i e = rw (owns-own owner b i e)
+    fill-own i e = ap (λ (t : Bool). cond t (F i val) (val i)) (owns-own owner b i e)
 
     fill-other : (i : ℕ) → (owner i ≡ some b → ⊥) → val i ≡ fill owner F b val i
     unfolding fill

@@ -20,11 +20,12 @@ returns : tie.Need-returns
 returns c =
     let at-if1 = c .before .before .before in
     let at-kind = at-if1 .before in
+    let start = at-kind .before .before .before .before .before in
     rw (
       ← at-kind .kind .ensures,
       eq-eqb _ _ (at-if1 .if1 .taken),
       ← c .before .before .payload .ensures,
-      lt-ltb _ _ (c .before .if2 .taken),
+      lt-ltb _ (start .args .terms) (c .before .if2 .taken),
       c .term-sort .ensures,
     )
 

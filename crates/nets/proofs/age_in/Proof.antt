@@ -13,7 +13,7 @@ returns c =
     let at-driver-of = at-slot .before .before in
     λ low.
     let net-is = drives-output _ low (sym (at-driver-of .driver-of .ensures) ∙ at-slot .slot .given .1) in
-    rw (net-is, ← at-word-at .word-at .ensures, eq-eqb _ _ (c .if1 .taken))
+    rw (net-is, ← at-word-at .word-at .ensures, eq-eqb _ 1 (c .if1 .taken))
 
 returns-2 : tie.Need-returns-2
 returns-2 c =
