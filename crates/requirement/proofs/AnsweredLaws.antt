@@ -22,7 +22,8 @@ use Rattle.order.proofs.StepsMean.{steps-are}
 use Rattle.requirement.proofs.Exists as terms-asked
 use Rattle.requirement.proofs.Theorem.{asked-each}
 use Rattle.requirement.proofs.WellFormed.{few-words, few-terms, few-temporaries}
-use Rattle.requirement.specs.Verified.{roomed, temporaries, counted, told, ofDesign, ofRead, verified, ofReadUnroomed}
+use Rattle.requirement.specs.Verified.{roomed, temporaries, counted, told, ofDesign, ofRead, verified}
+use Rattle.requirement.specs.Verified.{ofReadUnroomed}
 use Rattle.requirement.specs.Verified.{unroomed, over, onSuccess, callWords, marks, callsAfter, recordedAfter}
 use Rattle.requirement.proofs.Required.{is-accepted, words-are}
 use Rattle.requirement.specs.Answered.{Few}
