@@ -7,17 +7,13 @@ use native.Mathlib.Nat.{add-zero}
 use native.Mathlib.Omega.{arith}
 use lib.ListN.{length, set, length-append}
 use lib.Seq.{sets, length-sets}
+use Rattle.stores.proofs.Laws.{sets-append}
 use Rattle.builder.specs.declared.Built.{Built}
 use Rattle.order.specs.Verify.{Step, declared, asserted, obliged}
 use Rattle.net_steps.specs.Did.{Did}
 use Rattle.net_steps.proofs.Laws.{did-none, did-append}
 use Rattle.net_pairs.specs.declared.Walked.{Walked}
 use Rattle.net_pairs.specs.Does.{obligedIn, Kept, Pushed, Does}
-
-sets-append : (t : List ℕ) (i : ℕ) (a b : List ℕ) → sets t i (a ++ b) ≡ sets (sets t i a) (i + length a) b
-sets-append t i [] b = rw add-zero
-sets-append t i (v ∷ a) b = let shift : i + suc (length a) ≡ suc i + length a = omega arith in
-    sets-append (set t i v) (suc i) a b ∙ rw shift
 
 pub obliged-append : (xs ys : List Step) → obligedIn (xs ++ ys) ≡ obligedIn xs + obligedIn ys
 unfolding obligedIn

@@ -18,7 +18,8 @@ use Rattle.cell_reader.specs.Parse.{netsIn}
 use Rattle.smt.specs.Builder.{outputNets, extended, overwritten}
 use Rattle.operands.proofs.WordsLaws.{netOfWord}
 use Rattle.operands.specs.Words.{wordsIn, outputWords, msbWord, extension, extendedWords}
-use Rattle.operands.proofs.Stores.{sets-append, sets-front, sets-within}
+use Rattle.stores.proofs.Laws.{sets-append}
+use Rattle.operands.proofs.Stores.{sets-front, sets-within}
 
 -- ---- lists of words and lists of nets
 
@@ -68,7 +69,7 @@ nets-output l s w room low =
 -- What is stored behind the n words at the start is stored with them.
 behind : (l ws more : List ℕ) (n : ℕ) → length ws ≡ n → sets (sets l 0 ws) n more ≡ sets l 0 (ws ++ more)
 behind l ws more n e =
-    let place : n ≡ 0 + length ws = omega arith in rw place (sets-append l 0 ws more)
+    let place : n ≡ 0 + length ws = omega arith in rw place (sym (sets-append l 0 ws more))
 
 extended-words : (signed : Bool) (ws : List ℕ) (w : ℕ)
     → map netOfWord (extendedWords signed ws w) ≡ extended signed (map netOfWord ws) w

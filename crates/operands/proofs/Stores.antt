@@ -38,23 +38,7 @@ module _ (f : ℕ → ℕ) where
   unfolding tab
   rest-none l at n i done = let none : n - i ≡ 0 = omega arith in rw none
 
--- ---- a loop that stores one word from a place to another
-
-pub fill-turn : (l : List ℕ) (at end word : ℕ) → at < end
-    → sets l at (replicate (end - at) word) ≡ sets (set l at word) (at + 1) (replicate (end - (at + 1)) word)
-fill-turn l at end word more = let left : end - at ≡ suc (end - (at + 1)) = omega arith in rw (left, add-one at)
-
-pub fill-none : (l : List ℕ) (at end word : ℕ) → end ≤ at → sets l at (replicate (end - at) word) ≡ l
-fill-none l at end word done = let none : end - at ≡ 0 = omega arith in rw none
-
 -- ---- stores after stores
-
--- What is stored behind stored words is stored with them.
-pub sets-append : (l : List ℕ) (at : ℕ) (a b : List ℕ) → sets (sets l at a) (at + length a) b ≡ sets l at (a ++ b)
-sets-append l at [] b = rw add-zero
-sets-append l at (v ∷ a) b =
-    let place : at + suc (length a) ≡ suc at + length a = omega arith in
-    rw place (sets-append (set l at v) (suc at) a b)
 
 -- What is stored at the start of a list stands there, before the rest.
 pub sets-front : (l vs : List ℕ) → length vs ≤ length l → sets l 0 vs ≡ vs ++ drop (length vs) l

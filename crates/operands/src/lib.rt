@@ -9,7 +9,7 @@ ghost use mathlib.Core.Path.{_≡_};
 ghost use mathlib.Core.Bool.{cond};
 ghost use mathlib.Core.List.{[], _∷_, _++_, map};
 ghost use Prim.Native.Nat.{ℕ, _+_, _-_, _^_, _≤_, _<_, min, max};
-ghost use lib.ListN.{length, getD, replicate};
+ghost use lib.ListN.{length, getD};
 ghost use lib.Seq.{sets};
 ghost use Rattle.logic.specs.Net.{constant, netOf, netOfSlot};
 ghost use Rattle.logic.specs.Trit.{xOf, yOf};
@@ -30,17 +30,6 @@ fn copy(out: &mut [u32], to: u32, words: &[u32], from: u32, n: u32)
         let word = logic::word_at(words, from as usize + i as usize);
         logic::put(out, to as usize + i as usize, word);
         i += 1;
-    }
-}
-
-// One word at every place from a start to an end.
-fn fill(out: &mut [u32], start: u32, end: u32, word: u32)
-    ensures { λ _. ⌜ now (out .exit) ≡ sets (now (out .entry)) start (replicate (end - start) word) ⌝ }
-{
-    let mut at = start;
-    while at < end {
-        logic::put(out, at as usize, word);
-        at += 1;
     }
 }
 
@@ -90,7 +79,8 @@ pub fn extended_nets(out: &mut [u32], words: &[u32], at: u32, n: u32, width: u32
         → netsIn (now (out .exit)) width 0 ≡ extended signed (netsIn (now (words .entry)) n at) width) ⌝ }
 {
     copy(out, 0, words, at, n);
-    fill(out, n, width, extension(words, at, n, signed));
+    let word = extension(words, at, n, signed);
+    stores::fill(out, n as usize, width as usize, word);
 }
 
 // A value of n nets with one net X above them, as XShr shifts it.

@@ -11,6 +11,7 @@ use lib.Seq.{sets, length-sets}
 use lib.Dec.{ltb, leb}
 use borrow.Author.Tests.{lt-ltb, le-ltb, leb-true}
 use Rattle.logic.specs.declared.Fault.{Fault}
+use Rattle.stores.proofs.Laws.{sets-append}
 use Rattle.logic.specs.declared.Slot.{Slot}
 use Rattle.cell.specs.Cell.{outputLen, slotsOf}
 use Rattle.cell.specs.Design.{Placed}
@@ -30,19 +31,6 @@ use Rattle.placing.specs.Slots.{covering, markOf, markWord, marks}
 use Rattle.items.specs.Items.{Reading, stop, push}
 use Rattle.placing.specs.Cells.{limitOf, onRecord, placedAt, cellsFrom, cellsOf, counted}
 use Rattle.placing.specs.Placement.{IsPlaced}
-
-pub fill-none : (t : List ℕ) (at end v : ℕ) → end ≤ at → sets t at (replicate (end - at) v) ≡ t
-fill-none t at end v past = let none : end - at ≡ 0 = omega arith in rw none
-
-pub fill-turn :
-    (t : List ℕ) (at end v : ℕ) →
-    at < end → sets t at (replicate (end - at) v) ≡ sets (set t at v) (at + 1) (replicate (end - (at + 1)) v)
-fill-turn t at end v inside = let more : end - at ≡ suc (end - (at + 1)) = omega arith in rw (more, add-one at)
-
-sets-append : (t : List ℕ) (i : ℕ) (a b : List ℕ) → sets t i (a ++ b) ≡ sets (sets t i a) (i + length a) b
-sets-append t i [] b = rw add-zero
-sets-append t i (v ∷ a) b = let shift : i + suc (length a) ≡ suc i + length a = omega arith in
-    sets-append (set t i v) (suc i) a b ∙ rw shift
 
 map-append : {A B : Type 0} (f : A → B) (a b : List A) → map f (a ++ b) ≡ map f a ++ map f b
 map-append f [] b = refl

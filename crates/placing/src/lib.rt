@@ -5,7 +5,6 @@ use logic::Fault;
 use logic::Slot;
 ghost use mathlib.Core.Path.{_≡_};
 ghost use Prim.Native.Nat.{_+_, _-_, _<_, _≤_, _^_, max};
-ghost use lib.ListN.{replicate};
 ghost use lib.Seq.{sets};
 ghost use Rattle.placing.specs.Slots.{markWord, marks};
 ghost use Rattle.placing.specs.Cells.{limitOf, placedAt, cellsOf, counted};
@@ -84,17 +83,6 @@ fn mark_word(base: usize, stands: u32, width: usize, first: Slot) -> u32
     }
 }
 
-// One word at every place from a start to an end.
-fn fill(table: &mut [u32], start: usize, end: usize, word: u32)
-    ensures { λ _. ⌜ now (table .exit) ≡ sets (now (table .entry)) start (replicate (end - start) word) ⌝ }
-{
-    let mut at = start;
-    while at < end {
-        logic::put(table, at, word);
-        at += 1;
-    }
-}
-
 // The cells up to a total of slots, with the word for each slot that they take stored in the table.
 fn cells_within(list: &[u32], base: usize, total: usize, table: &mut [u32]) -> Cells
     requires { ⌜ (base ≤ total) × (total < 2 ^ 17) ⌝ }
@@ -116,7 +104,7 @@ fn cells_within(list: &[u32], base: usize, total: usize, table: &mut [u32]) -> C
                 after,
                 next,
             } => {
-                fill(
+                stores::fill(
                     table,
                     slot.0 as usize,
                     after.0 as usize,

@@ -11,8 +11,8 @@ use Rattle.operands.proofs.extended_nets.Tie as tie
 returns : tie.Need-returns
 returns c =
     let filled = c .before .before in
-    let by = filled .before in
-    let again = by .before .before in
+    let by = filled .before .before in
+    let again = by .before in
     let copied = again .before .before in
     let entered = copied .before .before in
     let args = entered .before .before .args in
