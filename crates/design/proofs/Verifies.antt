@@ -27,12 +27,15 @@ use Rattle.walk.proofs.Room.{most-low}
 use Rattle.running.specs.declared.Tally.{Tally}
 use Rattle.running.specs.Passes as running
 use Rattle.running.specs.Passes.{nothing}
-use Rattle.requirement.specs.declared.Verified.the-variants.{Refused, NothingAsked, Asked}
-use Rattle.requirement.specs.Verified.{told, verified, unroomed, over, callWords, marks, writtenMarks}
+use Rattle.requirement.specs.declared.Verified.the-variants.{Refused}
+use Rattle.requirement.specs.declared.Room.{Room}
+use Rattle.requirement.specs.declared.Room.the-variants.{Short}
+use Rattle.requirement.specs.Verified.{told, toldBy, verified, unroomed, over, callWords, marks, writtenMarks}
+use Rattle.requirement.specs.Verified.{roomFor, inRoom, ofDesign}
 use Rattle.requirement.proofs.AnsweredLaws.{refused-as-read, unroomed-refused, unroomed-accepted, answered}
-use Rattle.requirement.proofs.AnsweredLaws.{short-of-words, short-of-marks, untouched, slices-after}
+use Rattle.requirement.proofs.AnsweredLaws.{roomed-as, untouched, slices-after}
 use Rattle.requirement.proofs.Required.{words-are}
-use Rattle.design.specs.Verifies.{Ready, Blank, toldBy, Tallied, Passes, Verifies}
+use Rattle.design.specs.Verifies.{Ready, Blank, Tallied, Passes, Verifies}
 use Rattle.design.proofs.Passed.{passed}
 
 -- ---- lists of zeros
@@ -67,21 +70,6 @@ blank-again {table} blank kept unnamed lent unmarked = record {
   unmarked = unmarked ∙ ap (λ (k : ℕ). replicate k 0) (sym lent);
 }
 
-drop-all : (l : List ℕ) (n : ℕ) → n ≡ length l → drop n l ≡ []
-drop-all [] n h = rw h
-drop-all (x ∷ l) zero h = absurd (omega arith)
-drop-all (x ∷ l) (suc n) h = drop-all l n (omega arith)
-
--- Zeros stored in the whole of a list.
-pub all-zeros : (l : List ℕ) → sets l 0 (replicate (length l - 0) 0) ≡ replicate (length l) 0
-all-zeros l =
-    let zeros : List ℕ = replicate (length l) 0 in
-    let many : length zeros ≡ length l = length-replicate {A = ℕ} (length l) 0 in
-    let whole : length l - 0 ≡ length l = omega arith in
-    let none : drop (0 + length zeros) l ≡ [] = drop-all l (0 + length zeros) (omega arith) in
-    ap (λ (n : ℕ). sets l 0 (replicate n 0)) whole ∙ sets-eq zeros l 0 (omega arith)
-    ∙ ap (λ (m : List ℕ). zeros ++ m) none ∙ append-nil zeros
-
 -- ---- a pass
 
 told-as : (k : ℕ) (l : List ℕ) (n : Counts) → k ≡ length l → toldBy k n ≡ told l n
@@ -89,13 +77,6 @@ told-as zero [] n h = refl
 told-as zero (o ∷ l) n h = absurd (omega arith)
 told-as (suc k) [] n h = absurd (omega arith)
 told-as (suc k) (o ∷ l) n h = refl
-
-pub told-none : (k : ℕ) (n : Counts) → k ≡ 0 → NothingAsked n ≡ toldBy k n
-told-none k n h = rw h
-
-pub told-some : (k : ℕ) (n : Counts) → (k ≡ 0 → ⊥) → Asked n ≡ toldBy k n
-told-some zero n h = absurd (h refl)
-told-some (suc k) n h = refl
 
 module _ {w : List ℕ} {x : Extent} {table : List ℕ} (ready : Ready w x table) where
   pub table-low : length table ≤ 4096
@@ -153,19 +134,13 @@ module _ {w : List ℕ} {x : Extent} {table : List ℕ} (ready : Ready w x table
   needs-words : words ≡ length (callWords w)
   needs-words = room ∙ ap length (sym (words-are w (ready .is)))
 
-  pub short-calls : length calls < words →
-      Verifies w calls recorded calls recorded (Refused (record { number = 14; place = words }))
-  short-calls short =
-      let need = needs-words in
-      refuses w calls recorded (short-of-words w (ready .is) (length calls) (length recorded) (omega arith) ∙ rw need)
-
-  pub short-marks : words ≤ length calls → length recorded < length table
-      → Verifies w calls recorded calls recorded (Refused (record { number = 14; place = length table }))
-  short-marks enough short =
-      let need = needs-words in
-      let size = ready .size in
+  pub short-room : {place : ℕ} → Short place ≡ roomFor words (length calls) (length table) (length recorded) →
+      Verifies w calls recorded calls recorded (Refused (record { number = 14; place = place }))
+  short-room short =
+      let needed = rw (room, ready .size) at short in
       refuses w calls recorded
-      (short-of-marks w (ready .is) (length calls) (length recorded) (omega arith) (omega arith) ∙ rw size)
+      (roomed-as w (ready .is) (length calls) (length recorded)
+      ∙ ap (λ (r : Room). inRoom r (ofDesign (ready .d))) (sym needed))
 
   pub both-fit : {calls′ marks′ : List ℕ} {p : Tally} → words ≤ length calls → length table ≤ length recorded →
       length marks′ ≡ length table

@@ -2,7 +2,7 @@
 -- two slices as it says.
 use mathlib.Core.Path.{_≡_}
 use mathlib.Core.List.{List}
-use Prim.Native.Nat.{ℕ, zero, suc, _*_, _≤_}
+use Prim.Native.Nat.{ℕ, _*_, _≤_}
 use lib.ListN.{length, replicate}
 use Rattle.cell.specs.Design.{Design, total}
 use Rattle.engine.specs.Encode.{encode}
@@ -15,8 +15,7 @@ use Rattle.slots.specs.Tells.{Tells}
 use Rattle.walk.specs.Works.{mostObligations}
 use Rattle.running.specs.declared.Tally.{Tally}
 use Rattle.requirement.specs.declared.Verified.{Verified}
-use Rattle.requirement.specs.declared.Verified.the-variants.{NothingAsked, Asked}
-use Rattle.requirement.specs.Verified.{counted, told, verified, callsAfter, recordedAfter}
+use Rattle.requirement.specs.Verified.{counted, told, toldBy, verified, callsAfter, recordedAfter}
 
 -- An accepted list with the table of its slots and what the reader counted.
 pub record Ready (w : List ℕ) (x : Extent) (table : List ℕ) : Type 0 where
@@ -34,11 +33,6 @@ pub record Blank (table names marks : List ℕ) : Type 0 where
 -- Room for the terms of its obligations.
 abbrev pub Roomy : List ℕ → Extent → List ℕ → ℕ → Type 0
 Roomy w x table room = (ready : Ready w x table) → mostObligations (ready .d) ≤ room
-
--- The answer of a pass, by its number of obligations.
-abbrev pub toldBy : ℕ → Counts → Verified
-toldBy zero n = NothingAsked n
-toldBy (suc k) n = Asked n
 
 -- What a pass counts, wherever it writes.
 pub record Tallied (d : Design) (p : Tally) : Type 0 where

@@ -4,13 +4,14 @@ use builder::Counts;
 use design_list::Extent;
 use design_list::SlotTable;
 use logic::Fault;
+use requirement::Room;
 use requirement::Verified;
 use running::Tally;
 ghost use mathlib.Core.Path.{_≡_};
 ghost use Prim.Native.Nat.{_≤_};
-ghost use lib.ListN.{length, replicate};
-ghost use Rattle.requirement.specs.Verified.{unroomed};
-ghost use Rattle.design.specs.Verifies.{Ready, Blank, Roomy, toldBy, Tallied, Passes, Verifies};
+ghost use lib.ListN.{length};
+ghost use Rattle.requirement.specs.Verified.{toldBy, unroomed};
+ghost use Rattle.design.specs.Verifies.{Ready, Blank, Roomy, Tallied, Passes, Verifies};
 
 // The steps of an accepted list and `check`, from no names and no marks, with room for its obligations' terms.
 fn pass(
@@ -49,37 +50,11 @@ fn dry_run(
     pass(list, x, table, &mut none[..0], names, marks, eqs)
 }
 
-// No mark at any slot.
-fn clear(marks: &mut [u8])
-    ensures { λ _. ⌜ now (marks .exit) ≡ replicate (length (now (marks .entry))) 0 ⌝ }
-{
-    let mut at: usize = 0;
-    while at < marks.len() {
-        marks[at] = 0;
-        at += 1;
-    }
-}
-
-// No name for any slot.
-fn clear_names(names: &mut [u32])
-    ensures { λ _. ⌜ now (names .exit) ≡ replicate (length (now (names .entry))) 0 ⌝ }
-{
-    let mut place: usize = 0;
-    while place < names.len() {
-        names[place] = 0;
-        place += 1;
-    }
-}
-
 // What a pass answers.
 fn told(p: Tally) -> Verified
     ensures { λ r. ⌜ r ≡ toldBy (p .obligations) (p .counts) ⌝ }
 {
-    let counts = p.counts;
-    if p.obligations == 0 {
-        return Verified::NothingAsked(counts);
-    }
-    Verified::Asked(counts)
+    requirement::told(p.obligations, p.counts)
 }
 
 // Nothing is written unless all fits. The two passes share the lent tables.
@@ -99,24 +74,16 @@ fn verify_in(
         (now (calls .exit)) (now (recorded .exit)) r ⌝ }
 {
     let dry = dry_run(list, x, table, names, marks, eqs);
-    let words = dry.counts.words;
-    if calls.len() < words {
-        return Verified::Refused(Fault {
-            number: 14,
-            place: words,
-        });
-    }
     let slots = table.len();
-    if recorded.len() < slots {
-        return Verified::Refused(Fault {
-            number: 14,
-            place: slots,
-        });
+    match requirement::room_for(dry.counts.words, calls.len(), slots, recorded.len()) {
+        Room::Short(place) => Verified::Refused(Fault { number: 14, place }),
+        Room::Enough => {
+            let written = &mut recorded[..slots];
+            stores::clear(written);
+            stores::clear_words(names);
+            told(pass(list, x, table, calls, names, written, eqs))
+        }
     }
-    let written = &mut recorded[..slots];
-    clear(written);
-    clear_names(names);
-    told(pass(list, x, table, calls, names, written, eqs))
 }
 
 // A design of at most 256 slots and 384 net replacements, with tables of its size.

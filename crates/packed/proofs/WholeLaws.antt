@@ -18,7 +18,8 @@ use Rattle.order.specs.Verify.{built, verify}
 use Rattle.requirement.specs.declared.Verified.{Verified}
 use Rattle.requirement.specs.declared.Verified.the-variants.{Refused, NothingAsked, Asked}
 use Rattle.requirement.specs.Verified.{numberOf, valueOf, counted, told, ofDesign, roomed, ofRead, verified}
-use Rattle.requirement.specs.Verified.{ofReadUnroomed, unroomed}
+use Rattle.requirement.specs.Verified.{ofReadUnroomed, unroomed, roomFor, inRoom}
+use Rattle.requirement.specs.declared.Room.the-variants.{Enough, Short}
 use Rattle.requirement.proofs.AnsweredLaws.{few-counts}
 use Rattle.packed.specs.Verified.{packedVerified, lent}
 use Rattle.packed.specs.Whole.{Whole}
@@ -46,10 +47,11 @@ module _ (w : List ℕ) where
     answered-low = told-low ((built d) .res) (counted (verify d)) (few-counts w is 0 0 .words)
 
     roomed-low : (room recorded : ℕ) → Low (roomed d room recorded)
+    unfolding roomFor
     roomed-low room recorded = go (ltb room (length (encode (verify d)))) (ltb recorded (total d))
       where
-        go : (a b : Bool) → Low (cond a (Refused (record { number = 14; place = length (encode (verify d)) }))
-            (cond b (Refused (record { number = 14; place = total d })) (ofDesign d)))
+        go : (a b : Bool)
+            → Low (inRoom (cond a (Short (length (encode (verify d)))) (cond b (Short (total d)) Enough)) (ofDesign d))
         go true b = let few = few-counts w is 0 0 .words in (omega arith, few)
         go false true = let low = accepted-read w is .low in (omega arith, omega arith)
         go false false = answered-low

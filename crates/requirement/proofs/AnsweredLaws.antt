@@ -5,7 +5,6 @@ use mathlib.Core.List.{List, [], _∷_, _++_}
 use Prim.Native.Nat.{ℕ, zero, suc, _+_, _≤_, _<_}
 use native.Mathlib.Omega.{arith}
 use lib.ListN.{length, getD}
-use borrow.Author.Tests.{lt-ltb, le-ltb}
 use Rattle.logic.specs.declared.Fault.{Fault}
 use Rattle.builder.specs.declared.Counts.{Counts}
 use Rattle.requirement.specs.declared.Verified.the-variants.{Refused, NothingAsked}
@@ -23,7 +22,9 @@ use Rattle.requirement.proofs.Exists as terms-asked
 use Rattle.requirement.proofs.Theorem.{asked-each}
 use Rattle.requirement.proofs.WellFormed.{few-words, few-terms, few-temporaries}
 use Rattle.requirement.specs.Verified.{roomed, temporaries, counted, told, ofDesign, ofRead, verified}
-use Rattle.requirement.specs.Verified.{ofReadUnroomed}
+use Rattle.requirement.specs.Verified.{roomFor, inRoom, ofReadUnroomed}
+use Rattle.requirement.specs.declared.Room.{Room}
+use Rattle.requirement.proofs.RoomLaws.{short-words, short-slots, enough}
 use Rattle.requirement.specs.Verified.{unroomed, over, onSuccess, callWords, marks, callsAfter, recordedAfter}
 use Rattle.requirement.proofs.Required.{is-accepted, words-are}
 use Rattle.requirement.specs.Answered.{Few}
@@ -107,15 +108,21 @@ unfolding unroomed
 unroomed-accepted w is = ap ofReadUnroomed is
 
 module _ (w : List ℕ) {d : Design} {reps pairs : ℕ} (is : read w ≡ accepted d reps pairs) (room recorded : ℕ) where
+  -- An accepted list is answered by its room.
+  pub roomed-as : verified w room recorded ≡ roomed d room recorded
+  unfolding verified
+  roomed-as = ap (λ r. ofRead r room recorded) is
+
+  by-room : {r : Room} → r ≡ roomFor (length (encode (verify d))) room (total d) recorded
+      → verified w room recorded ≡ inRoom r (ofDesign d)
+  by-room found = roomed-as ∙ ap (λ (r : Room). inRoom r (ofDesign d)) (sym found)
+
   -- With room, every accepted list is answered.
   pub answered : length (callWords w) ≤ room → total d ≤ recorded → verified w room recorded
       ≡ told ((built d) .res) (counted (verify d))
-  unfolding verified
   answered calls marks =
-      let enough : length (encode (verify d)) ≤ room = rw (words-are w is) at calls in
-      let fits : roomed d room recorded ≡ told ((built d) .res) (counted (verify d)) =
-      rw (le-ltb _ _ enough, le-ltb _ _ marks) in
-      ap (λ r. ofRead r room recorded) is ∙ fits
+      let words : length (encode (verify d)) ≤ room = rw (words-are w is) at calls in
+      by-room (enough (length (encode (verify d))) room (total d) recorded words marks)
 
   -- What it is answered is what `unroomed` says.
   pub answered-unroomed : length (callWords w) ≤ room → total d ≤ recorded → verified w room recorded ≡ unroomed w
@@ -132,17 +139,15 @@ module _ (w : List ℕ) {d : Design} {reps pairs : ℕ} (is : read w ≡ accepte
   -- 14 at the room needed: the call slice first, then the recorded one.
   pub short-of-words : room < length (callWords w) → verified w room recorded
       ≡ Refused (record { number = 14; place = length (callWords w) })
-  unfolding verified
   short-of-words short =
       let few : room < length (encode (verify d)) = rw (words-are w is) at short in
-      ap (λ r. ofRead r room recorded) is ∙ rw (lt-ltb _ _ few, words-are w is)
+      by-room (short-words (length (encode (verify d))) room (total d) recorded few) ∙ rw (words-are w is)
 
   pub short-of-marks : length (callWords w) ≤ room → recorded < total d
       → verified w room recorded ≡ Refused (record { number = 14; place = total d })
-  unfolding verified
   short-of-marks calls short =
-      let enough : length (encode (verify d)) ≤ room = rw (words-are w is) at calls in
-      ap (λ r. ofRead r room recorded) is ∙ rw (le-ltb _ _ enough, lt-ltb _ _ short)
+      let words : length (encode (verify d)) ≤ room = rw (words-are w is) at calls in
+      by-room (short-slots (length (encode (verify d))) room (total d) recorded words short)
 
   -- An obligation's term for each obligation.
   pub asked-obligations : length ((built d) .res) ≡ length (obligations d)

@@ -10,6 +10,7 @@ pub mod MarksLaws
 pub mod Passes
 pub mod Prefix
 pub mod Required
+pub mod RoomLaws
 pub mod Solved
 pub mod StepsSafe
 pub mod Theorem

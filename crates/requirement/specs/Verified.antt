@@ -3,12 +3,14 @@
 use mathlib.Core.Path.{_≡_}
 use mathlib.Core.Bool.{cond}
 use mathlib.Core.List.{List, [], _∷_, _++_}
-use Prim.Native.Nat.{ℕ, _+_}
+use Prim.Native.Nat.{ℕ, zero, suc, _+_}
 use lib.Dec.{ltb}
 use lib.ListN.{length, drop}
 use Rattle.builder.specs.declared.Counts.{Counts}
 use Rattle.requirement.specs.declared.Verified.{Verified}
 use Rattle.requirement.specs.declared.Verified.the-variants.{Refused, NothingAsked, Asked}
+use Rattle.requirement.specs.declared.Room.{Room}
+use Rattle.requirement.specs.declared.Room.the-variants.{Enough, Short}
 use Rattle.cell.specs.Design.{Design, total}
 use Rattle.engine.specs.Call.{Letter, Suffix, Call}
 use Rattle.engine.specs.Call as c
@@ -47,15 +49,27 @@ abbrev pub told : List ℕ → Counts → Verified
 told [] n = NothingAsked n
 told (o ∷ more) n = Asked n
 
+-- The same, by the number of obligations.
+abbrev pub toldBy : ℕ → Counts → Verified
+toldBy zero n = NothingAsked n
+toldBy (suc k) n = Asked n
+
 -- What an accepted list is answered where there is room.
 abbrev pub ofDesign : Design → Verified
 ofDesign d = told ((built d) .res) (counted (verify d))
 
--- 14, the call slice before the recorded one, each at the room needed.
+-- Whether so many call words and slots have room: the call slice before the recorded one, each at the room needed.
+unfoldable pub roomFor : ℕ → ℕ → ℕ → ℕ → Room
+roomFor words room slots recorded =
+    cond (ltb room words) (Short words) (cond (ltb recorded slots) (Short slots) Enough)
+
+-- Too little room is 14.
+abbrev pub inRoom : Room → Verified → Verified
+inRoom Enough answer = answer
+inRoom (Short place) answer = Refused (record { number = 14; place = place })
+
 abbrev pub roomed : Design → ℕ → ℕ → Verified
-roomed d room recorded =
-    cond (ltb room (length (encode (verify d)))) (Refused (record { number = 14; place = length (encode (verify d)) }))
-    (cond (ltb recorded (total d)) (Refused (record { number = 14; place = total d })) (ofDesign d))
+roomed d room recorded = inRoom (roomFor (length (encode (verify d))) room (total d) recorded) (ofDesign d)
 
 abbrev pub ofRead : Read → ℕ → ℕ → Verified
 ofRead (refused e) room recorded = Refused e
