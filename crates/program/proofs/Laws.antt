@@ -1,18 +1,18 @@
--- Laws of what the program writes: the words of the input one by one, the slots of an accepted list, a script that
--- fits, and what is written for each answer of `verify`.
+-- Laws of what the program writes: the slots of an accepted list, a script that fits, what is written for each answer
+-- of `verify`, and what for each input.
 use mathlib.Core.Path.{_≡_, refl, sym, ap, _∙_}
 use mathlib.Core.Bool.{Bool, true, false}
 use mathlib.Core.List.{List}
 use mathlib.Core.Option.{Option, some, none}
-use Prim.Native.Nat.{ℕ, _+_, _/_, _%_, _<_, _≤_, _^_}
+use Prim.Native.Nat.{ℕ, _+_, _<_, _≤_, _^_}
 use native.Mathlib.Omega.{arith}
-use native.Mathlib.Numerals.{add-one}
 use lib.Dec.{ltb}
-use lib.ListN.{length, take, set}
-use lib.Seq.{take-suc-set}
-use borrow.Author.Tests.{ltb-false, lt-ltb, le-ltb, eq-eqb, ne-eqb}
+use lib.ListN.{length, take}
+use borrow.Author.Tests.{ltb-false}
 use Rattle.logic.specs.declared.Fault.{Fault}
-use Rattle.fields.specs.Field.{fault}
+use Rattle.little_endian.specs.declared.Input.{Input}
+use Rattle.little_endian.specs.declared.Input.the-variants as input
+use Rattle.little_endian.specs.Words.{wordsOf, inputOf}
 use Rattle.design_list.specs.declared.Extent.{Extent}
 use Rattle.design_list.specs.declared.DesignRead.the-variants as D
 use Rattle.design_list.specs.Read.{Read, refused, accepted, read, answer}
@@ -32,20 +32,7 @@ use Rattle.requirement.specs.Verified.{verified, callWords, marks}
 use Rattle.design.specs.Verifies.{Verifies}
 use Rattle.design.specs.Said.{Says}
 use Rattle.design.proofs.Said.{verify-said}
-use Rattle.program.specs.Output.{wordAt, firstWords, wordsOf, refusalLine, scriptText, ofVerified}
-use Rattle.program.specs.Output.{listOutput, outputIn, slotsIn}
-
--- ---- the words of the input
-
-pub words-start : (bytes words : List ℕ) → take 0 words ≡ firstWords bytes 0
-unfolding firstWords
-words-start bytes words = refl
-
-pub words-turn : (bytes words : List ℕ) (i : ℕ) → i < length words → take i words ≡ firstWords bytes i
-    → take (i + 1) (set words i (wordAt bytes i)) ≡ firstWords bytes (i + 1)
-unfolding firstWords
-words-turn bytes words i inside before =
-    rw (add-one i, take-suc-set words i (wordAt bytes i) inside, before)
+use Rattle.program.specs.Output.{refusalLine, scriptText, ofVerified, listOutput, ofInput, outputIn, slotsIn}
 
 -- ---- the slots of an accepted list
 
@@ -147,15 +134,10 @@ module _ {w calls recorded calls′ recorded′ : List ℕ} {r : Verified}
 -- ---- the bytes of the input
 
 module _ (bytes : List ℕ) (room : ℕ) where
-  pub too-long : 65536 < length bytes → outputIn bytes room ≡ refusalLine (fault 4 16384)
+  pub input-refused : {e : Fault} → input.Refused e ≡ inputOf bytes → outputIn bytes room ≡ refusalLine e
   unfolding outputIn
-  too-long long = rw (lt-ltb 65536 (length bytes) long)
+  input-refused is = ap (λ (a : Input). ofInput a (wordsOf bytes) room) (sym is)
 
-  pub broken-word : length bytes ≤ 65536 → (length bytes % 4 ≡ 0 → ⊥) → outputIn bytes room
-      ≡ refusalLine (fault 1 (length bytes / 4))
+  pub input-read : {n : ℕ} → input.Words n ≡ inputOf bytes → outputIn bytes room ≡ listOutput (wordsOf bytes) room
   unfolding outputIn
-  broken-word short broken = rw (le-ltb 65536 (length bytes) short, ne-eqb _ _ broken)
-
-  pub whole-words : length bytes ≤ 65536 → length bytes % 4 ≡ 0 → outputIn bytes room ≡ listOutput (wordsOf bytes) room
-  unfolding outputIn
-  whole-words short whole = rw (le-ltb 65536 (length bytes) short, eq-eqb _ _ whole)
+  input-read is = ap (λ (a : Input). ofInput a (wordsOf bytes) room) (sym is)

@@ -1,13 +1,12 @@
 -- Document 01, "Examples": "The program reads little-endian words from standard input and writes the script, or
 -- `refused N at P`. It lends 16,384 call words and 65,536 text bytes; a broken last word is fault 1 there, after 4 for
 -- a 16,385th word." What it writes, for every input.
-use mathlib.Core.Bool.{cond}
 use mathlib.Core.List.{List, [], _∷_, _++_}
-use Prim.Native.Nat.{ℕ, zero, suc, _+_, _*_, _/_, _%_, _^_}
-use lib.Dec.{eqb, ltb}
-use lib.ListN.{length, getD}
+use Prim.Native.Nat.{ℕ}
 use Rattle.logic.specs.declared.Fault.{Fault}
-use Rattle.fields.specs.Field.{fault}
+use Rattle.little_endian.specs.declared.Input.{Input}
+use Rattle.little_endian.specs.declared.Input.the-variants as input
+use Rattle.little_endian.specs.Words.{wordsOf, inputOf}
 use Rattle.design_list.specs.Read.{Read, refused, accepted}
 use Rattle.cell.specs.Design.{total}
 use Rattle.text.specs.Bytes.{ascii, decimal}
@@ -17,22 +16,6 @@ use Rattle.script.specs.Written.{written, scriptOf}
 use Rattle.requirement.specs.declared.Verified.{Verified}
 use Rattle.requirement.specs.declared.Verified.the-variants as design
 use Rattle.requirement.specs.Verified.{verified, callWords, marks}
-
--- ---- the words of the input
-
--- Word i: four bytes, the lowest first.
-abbrev pub wordAt : List ℕ → ℕ → ℕ
-wordAt bytes i =
-    getD bytes (4 * i) 0 + 2 ^ 8 * getD bytes (4 * i + 1) 0 + 2 ^ 16 * getD bytes (4 * i + 2) 0
-    + 2 ^ 24 * getD bytes (4 * i + 3) 0
-
-unfoldable pub firstWords : List ℕ → ℕ → List ℕ
-firstWords bytes zero = []
-firstWords bytes (suc n) = firstWords bytes n ++ (wordAt bytes n ∷ [])
-
--- Its whole words.
-abbrev pub wordsOf : List ℕ → List ℕ
-wordsOf bytes = firstWords bytes (length bytes / 4)
 
 -- ---- the answer
 
@@ -57,12 +40,13 @@ ofVerified (design.Asked n) text = text
 unfoldable pub listOutput : List ℕ → ℕ → List ℕ
 listOutput w room = ofVerified (verified w 16384 4096) (scriptText (callWords w) (marks w) room)
 
--- What is written for the bytes of the input: a byte after the 16,384th word is 4, a broken last word 1, both before
--- anything else.
+-- What is written for the bytes of the input: its own faults before anything else, then what its words say.
+abbrev pub ofInput : Input → List ℕ → ℕ → List ℕ
+ofInput (input.Refused e) words room = refusalLine e
+ofInput (input.Words n) words room = listOutput words room
+
 unfoldable pub outputIn : List ℕ → ℕ → List ℕ
-outputIn bytes room =
-    cond (ltb 65536 (length bytes)) (refusalLine (fault 4 16384))
-    (cond (eqb (length bytes % 4) 0) (listOutput (wordsOf bytes) room) (refusalLine (fault 1 (length bytes / 4))))
+outputIn bytes room = ofInput (inputOf bytes) (wordsOf bytes) room
 
 -- What the program writes.
 abbrev pub output : List ℕ → List ℕ

@@ -1,38 +1,15 @@
 // The program below its input and output: the bytes of a design list to the bytes of its script, or of its refusal.
 use design_list::DesignRead;
+use little_endian::Input;
 use logic::Fault;
 use requirement::Verified;
 use script::Written;
 ghost use mathlib.Core.Path.{_≡_};
-ghost use Prim.Native.Nat.{_/_, _<_, _≤_};
+ghost use Prim.Native.Nat.{_≤_};
 ghost use lib.ListN.{length, take};
 ghost use Rattle.design_list.specs.Read.{read};
 ghost use Rattle.engine.specs.Emit.{Wrote};
-ghost use Rattle.program.specs.Output.{wordAt, wordsOf, refusalLine, scriptText, listOutput, outputIn, slotsIn};
-
-// The word that begins at byte 4 * i.
-fn word(input: &[u8], i: usize) -> u32
-    requires { ⌜ i < length (now input) / 4 ⌝ }
-    ensures { λ r. ⌜ r ≡ wordAt (now (input .entry)) i ⌝ }
-{
-    let at = 4 * i;
-    let low = text::byte_at(input, at) as u32 + 256 * (text::byte_at(input, at + 1) as u32);
-    let high = text::byte_at(input, at + 2) as u32 + 256 * (text::byte_at(input, at + 3) as u32);
-    low + 65536 * high
-}
-
-// The words of the input, from the start of a slice on.
-fn load(input: &[u8], words: &mut [u32])
-    requires { ⌜ length (now input) / 4 ≤ length (now words) ⌝ }
-    ensures { λ _. ⌜ take (length (now (input .entry)) / 4) (now (words .exit)) ≡ wordsOf (now (input .entry)) ⌝ }
-{
-    let whole = input.len() / 4;
-    let mut i: usize = 0;
-    while i < whole {
-        logic::put(words, i, word(input, i));
-        i += 1;
-    }
-}
+ghost use Rattle.program.specs.Output.{refusalLine, scriptText, listOutput, outputIn, slotsIn};
 
 // Writes `refused N at P` and a line feed.
 fn put_refusal(text: &mut [u8], fault: Fault) -> usize
@@ -89,26 +66,9 @@ pub fn output(input: &[u8], text: &mut [u8]) -> usize
     ensures { λ r. ⌜ Wrote (now (text .entry)) 0 (outputIn (now (input .entry)) (length (now (text .entry))))
         (now (text .exit)) r ⌝ }
 {
-    if 65536 < input.len() {
-        return put_refusal(
-            text,
-            Fault {
-                number: 4,
-                place: 16384,
-            },
-        );
-    }
-    let whole = input.len() / 4;
-    if input.len() % 4 != 0 {
-        return put_refusal(
-            text,
-            Fault {
-                number: 1,
-                place: whole,
-            },
-        );
-    }
     let mut words = [0u32; 16384];
-    load(input, &mut words);
-    put_list(text, &words[..whole])
+    match little_endian::words(input, &mut words) {
+        Input::Refused(f) => put_refusal(text, f),
+        Input::Words(n) => put_list(text, &words[..n]),
+    }
 }
