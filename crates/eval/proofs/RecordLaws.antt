@@ -80,18 +80,7 @@ fault-op : (op : Op) (m : ℕ) (p : ℕ → ℕ) (cs : List Call) (l : List ℕ)
     ≡ pickPlace (cond (isDeclare op) (bitsWrong l d (p 3)) false) (some k)
     (bitsFault (k + bit (makesTerm op)) cs (drop (d + bit (isDeclare op)) l))
 unfolding bitsFault
-fault-op o.boolLit m p cs l k d = rw (add-one k, add-zero d)
-fault-op o.boolIte m p cs l k d = rw (add-one k, add-zero d)
-fault-op o.not m p cs l k d = rw (add-one k, add-zero d)
-fault-op o.and m p cs l k d = rw (add-one k, add-zero d)
-fault-op o.lit m p cs l k d = rw (add-one k, add-zero d)
-fault-op o.equal m p cs l k d = rw (add-one k, add-zero d)
-fault-op o.ite m p cs l k d = rw (add-one k, add-zero d)
-fault-op o.concat m p cs l k d = rw (add-one k, add-zero d)
-fault-op o.extract m p cs l k d = rw (add-one k, add-zero d)
-fault-op o.bvnot m p cs l k d = rw (add-one k, add-zero d)
-fault-op (o.op2 op) m p cs l k d = rw (add-one k, add-zero d)
-fault-op (o.compare op) m p cs l k d = rw (add-one k, add-zero d)
+fault-op (o.term op) m p cs l k d = rw (add-one k, add-zero d)
 fault-op o.declare m p cs l k d = rw (add-one k, add-one d) (declare-fault k (nameOf p) (p 3) cs l d)
 fault-op o.assert m p cs l k d = rw (add-zero k, add-zero d)
 fault-op o.check m p cs l k d = rw (add-zero k, add-zero d)
@@ -171,29 +160,7 @@ module _ {cs : List Call} {ρ : Assignment} {slice₀ slice : List ℕ} {terms f
       (drop (declared + bit (isDeclare op)) bits) todo (terms + bit (makesTerm op))
       (falses + falseOf op (numberIn slice (p 0)))
       (after x (callOf op m p))
-  evaluating-op o.boolLit m p e low =
-      rw (add-zero declared, add-zero falses) (evaluating-term _ s (first (drop declared bits)) e room agrees)
-  evaluating-op o.boolIte m p e low =
-      rw (add-zero declared, add-zero falses) (evaluating-term _ s (first (drop declared bits)) e room agrees)
-  evaluating-op o.not m p e low =
-      rw (add-zero declared, add-zero falses) (evaluating-term _ s (first (drop declared bits)) e room agrees)
-  evaluating-op o.and m p e low =
-      rw (add-zero declared, add-zero falses) (evaluating-term _ s (first (drop declared bits)) e room agrees)
-  evaluating-op o.lit m p e low =
-      rw (add-zero declared, add-zero falses) (evaluating-term _ s (first (drop declared bits)) e room agrees)
-  evaluating-op o.equal m p e low =
-      rw (add-zero declared, add-zero falses) (evaluating-term _ s (first (drop declared bits)) e room agrees)
-  evaluating-op o.ite m p e low =
-      rw (add-zero declared, add-zero falses) (evaluating-term _ s (first (drop declared bits)) e room agrees)
-  evaluating-op o.concat m p e low =
-      rw (add-zero declared, add-zero falses) (evaluating-term _ s (first (drop declared bits)) e room agrees)
-  evaluating-op o.extract m p e low =
-      rw (add-zero declared, add-zero falses) (evaluating-term _ s (first (drop declared bits)) e room agrees)
-  evaluating-op o.bvnot m p e low =
-      rw (add-zero declared, add-zero falses) (evaluating-term _ s (first (drop declared bits)) e room agrees)
-  evaluating-op (o.op2 op) m p e low =
-      rw (add-zero declared, add-zero falses) (evaluating-term _ s (first (drop declared bits)) e room agrees)
-  evaluating-op (o.compare op) m p e low =
+  evaluating-op (o.term op) m p e low =
       rw (add-zero declared, add-zero falses) (evaluating-term _ s (first (drop declared bits)) e room agrees)
   evaluating-op o.declare m p e low =
       rw (add-one declared, add-zero falses, ← rest-drop bits declared)
@@ -219,20 +186,9 @@ bits-low bits declared width = go (ltb declared (length bits)) (ltb (getD bits d
 
 -- An operation is at most one false assertion.
 pub false-low : (op : Op) (v : ℕ) → falseOf op v ≤ 1
-false-low o.assert v = bit-low (eqb v 0)
-false-low o.boolLit v = omega arith
-false-low o.boolIte v = omega arith
-false-low o.not v = omega arith
-false-low o.and v = omega arith
-false-low o.lit v = omega arith
-false-low o.equal v = omega arith
-false-low o.ite v = omega arith
-false-low o.concat v = omega arith
-false-low o.extract v = omega arith
-false-low o.bvnot v = omega arith
-false-low (o.op2 op) v = omega arith
-false-low (o.compare op) v = omega arith
+false-low (o.term op) v = omega arith
 false-low o.declare v = omega arith
+false-low o.assert v = bit-low (eqb v 0)
 false-low o.check v = omega arith
 false-low o.unknown v = omega arith
 

@@ -51,10 +51,10 @@ and-scan slice w at n =
     and-from (numberIn slice) (payloads w at) (payloads w at) 0 n (λ j. ap (payloads w at) (omega arith))
 
 -- A vector's literal.
-literal-value : (w : List ℕ) (at : ℕ) (x : Context) → Right w at x → operationAt w at ≡ o.lit
+literal-value : (w : List ℕ) (at : ℕ) (x : Context) → Right w at x → operationAt w at ≡ o.term o.lit
     → literalValue w at ≡ bv2nat (nat2bv (payloads w at 0) (literalNumber w at))
 literal-value w at x right is-lit =
-    let allowed : Allowed x (o.callOf o.lit (countAt w at) (payloads w at)) =
+    let allowed : Allowed x (o.callOf (o.term o.lit) (countAt w at) (payloads w at)) =
     rw is-lit at (reads-at x w at (right .head) (right .arguments) .allowed) in
     let vector : IsVector (payloads w at 0) =
     subst IsVector (length-nat2bv (payloads w at 0) (literalNumber w at)) (allowed .0) in

@@ -149,22 +149,22 @@ module _ {sorts : List Sort} {l : List Value} (g : Sorted sorts l) (given : ℕ)
 
 -- The number of a record's term, by its operation, payloads p and literal.
 pub value-of : (s : ℕ → Sort) (v : ℕ → ℕ) (given : ℕ) (op : Op) (m : ℕ) (p : ℕ → ℕ) (literal : ℕ)
-    → (op ≡ o.lit → literal ≡ bv2nat (nat2bv (p 0) (fromDigits (tab (m - 1) (λ i. p (suc i))))))
+    → (op ≡ o.term o.lit → literal ≡ bv2nat (nat2bv (p 0) (fromDigits (tab (m - 1) (λ i. p (suc i))))))
     → valueOf op (andNumber v (tab m p)) literal given (p 0) (p 1) (v (p 0)) (v (p 1)) (v (p 2)) (s (p 0)) (s (p 1))
     (s (p 2))
     ≡ valueBy s v given (callOf op m p)
-value-of s v given o.boolLit m p literal h = refl
-value-of s v given o.boolIte m p literal h = refl
-value-of s v given o.not m p literal h = refl
-value-of s v given o.and m p literal h = refl
-value-of s v given o.lit m p literal h = h refl
-value-of s v given o.equal m p literal h = refl
-value-of s v given o.ite m p literal h = refl
-value-of s v given o.concat m p literal h = refl
-value-of s v given o.extract m p literal h = refl
-value-of s v given o.bvnot m p literal h = refl
-value-of s v given (o.op2 op) m p literal h = refl
-value-of s v given (o.compare op) m p literal h = refl
+value-of s v given (o.term o.boolLit) m p literal h = refl
+value-of s v given (o.term o.boolIte) m p literal h = refl
+value-of s v given (o.term o.not) m p literal h = refl
+value-of s v given (o.term o.and) m p literal h = refl
+value-of s v given (o.term o.lit) m p literal h = h refl
+value-of s v given (o.term o.equal) m p literal h = refl
+value-of s v given (o.term o.ite) m p literal h = refl
+value-of s v given (o.term o.concat) m p literal h = refl
+value-of s v given (o.term o.extract) m p literal h = refl
+value-of s v given (o.term o.bvnot) m p literal h = refl
+value-of s v given (o.term (o.op2 op)) m p literal h = refl
+value-of s v given (o.term (o.compare op)) m p literal h = refl
 value-of s v given o.declare m p literal h = refl
 value-of s v given o.assert m p literal h = refl
 value-of s v given o.check m p literal h = refl

@@ -25,18 +25,18 @@ andNumber v (k ∷ ks) = cond (eqb (v k) 1) (andNumber v ks) 0
 -- terms that its arguments refer to. Those of an and of all arguments and of a literal are handed over, as is that of a
 -- declared name.
 abbrev pub valueOf : Op → ℕ → ℕ → ℕ → ℕ → ℕ → ℕ → ℕ → ℕ → Sort → Sort → Sort → ℕ
-valueOf o.boolLit all literal given a b va vb vc sa sb sc = bit (eqb a 1)
-valueOf o.boolIte all literal given a b va vb vc sa sb sc = cond (eqb va 1) vb vc
-valueOf o.not all literal given a b va vb vc sa sb sc = cond (eqb va 1) 0 1
-valueOf o.and all literal given a b va vb vc sa sb sc = all
-valueOf o.lit all literal given a b va vb vc sa sb sc = literal
-valueOf o.equal all literal given a b va vb vc sa sb sc = bit (eqb va vb)
-valueOf o.ite all literal given a b va vb vc sa sb sc = cond (eqb va 1) vb vc
-valueOf o.concat all literal given a b va vb vc sa sb sc = concatAt sa va sb vb
-valueOf o.extract all literal given a b va vb vc sa sb sc = extractAt sc a b vc
-valueOf o.bvnot all literal given a b va vb vc sa sb sc = atWidth sa (bv.bvnot (nat2bv sa va))
-valueOf (o.op2 op) all literal given a b va vb vc sa sb sc = atWidth sa (denoteOp op (nat2bv sa va) (nat2bv sa vb))
-valueOf (o.compare op) all literal given a b va vb vc sa sb sc =
+valueOf (o.term o.boolLit) all literal given a b va vb vc sa sb sc = bit (eqb a 1)
+valueOf (o.term o.boolIte) all literal given a b va vb vc sa sb sc = cond (eqb va 1) vb vc
+valueOf (o.term o.not) all literal given a b va vb vc sa sb sc = cond (eqb va 1) 0 1
+valueOf (o.term o.and) all literal given a b va vb vc sa sb sc = all
+valueOf (o.term o.lit) all literal given a b va vb vc sa sb sc = literal
+valueOf (o.term o.equal) all literal given a b va vb vc sa sb sc = bit (eqb va vb)
+valueOf (o.term o.ite) all literal given a b va vb vc sa sb sc = cond (eqb va 1) vb vc
+valueOf (o.term o.concat) all literal given a b va vb vc sa sb sc = concatAt sa va sb vb
+valueOf (o.term o.extract) all literal given a b va vb vc sa sb sc = extractAt sc a b vc
+valueOf (o.term o.bvnot) all literal given a b va vb vc sa sb sc = atWidth sa (bv.bvnot (nat2bv sa va))
+valueOf (o.term (o.op2 op)) all literal given a b va vb vc sa sb sc = atWidth sa (denoteOp op (nat2bv sa va) (nat2bv sa vb))
+valueOf (o.term (o.compare op)) all literal given a b va vb vc sa sb sc =
     bit (holdsAt sa (denoteCompare op (nat2bv sa va) (nat2bv sa vb)))
 valueOf o.declare all literal given a b va vb vc sa sb sc = given
 valueOf o.assert all literal given a b va vb vc sa sb sc = 0
