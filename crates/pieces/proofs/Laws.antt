@@ -101,7 +101,8 @@ module _ (f : ℕ → List ℕ) where
   unfolding tab
   conjunction-one n e = rw e
 
-  pub conjunction-more : (n : ℕ) → (n ≡ 1 → ⊥) → conjunction (tab n f) ≡ applied (operationText (o.term o.and)) (tab n f)
+  pub conjunction-more : (n : ℕ) → (n ≡ 1 → ⊥)
+      → conjunction (tab n f) ≡ applied (operationText (o.term o.and)) (tab n f)
   unfolding tab
   conjunction-more zero e = refl
   conjunction-more (suc zero) e = absurd (e refl)

@@ -27,7 +27,8 @@ returns-4 c =
     rw (told .before .before .before .operation .given .1, told .enum-told4 .given .1) (w .put-bytes3 .ensures)
 
 returns-5 : tie.Need-returns-5
-returns-5 c = rw (c .before .before .before .operation .given .1, c .enum-told5 .given .1) (wrote-none _ _ (omega arith))
+returns-5 c =
+    rw (c .before .before .before .operation .given .1, c .enum-told5 .given .1) (wrote-none _ _ (omega arith))
 
 returns-6 : tie.Need-returns-6
 returns-6 c =
@@ -48,7 +49,8 @@ returns-8 c =
     rw (told .before .before .before .operation .given .1, told .enum-told8 .given .1) (w .put-bytes6 .ensures)
 
 returns-9 : tie.Need-returns-9
-returns-9 c = rw (c .before .before .before .operation .given .1, c .enum-told9 .given .1) (wrote-none _ _ (omega arith))
+returns-9 c =
+    rw (c .before .before .before .operation .given .1, c .enum-told9 .given .1) (wrote-none _ _ (omega arith))
 
 returns-10 : tie.Need-returns-10
 returns-10 c =
