@@ -1,5 +1,6 @@
 // The arguments of call records: how many an operation has, what each of them is, and which words may stand as them.
 use call_list::Operation;
+use call_list::TermOp;
 use engine::Argument;
 ghost use mathlib.Core.Path.{_≡_};
 ghost use mathlib.Core.Bool.{_&&_};
@@ -53,18 +54,20 @@ pub fn count_fits(operation: Operation, n: u32, first: u32) -> bool
     ensures { λ r. ⌜ r ≡ countFits (opFrom operation) n first ⌝ }
 {
     match operation {
-        Operation::BoolLit => n == 1,
-        Operation::BoolIte => n == 3,
-        Operation::Not => n == 1,
-        Operation::And => 1 <= n,
-        Operation::Lit => literal_count(n, first),
-        Operation::Equal => n == 2,
-        Operation::Ite => n == 3,
-        Operation::Concat => n == 2,
-        Operation::Extract => n == 3,
-        Operation::BvNot => n == 1,
-        Operation::Binary(_) => n == 2,
-        Operation::Compare(_) => n == 2,
+        Operation::Term(term) => match term {
+            TermOp::BoolLit => n == 1,
+            TermOp::BoolIte => n == 3,
+            TermOp::Not => n == 1,
+            TermOp::And => 1 <= n,
+            TermOp::Lit => literal_count(n, first),
+            TermOp::Equal => n == 2,
+            TermOp::Ite => n == 3,
+            TermOp::Concat => n == 2,
+            TermOp::Extract => n == 3,
+            TermOp::BvNot => n == 1,
+            TermOp::Binary(_) => n == 2,
+            TermOp::Compare(_) => n == 2,
+        },
         Operation::Declare => n == 4,
         Operation::Assert => n == 1,
         Operation::Check => n == 0,
@@ -132,18 +135,20 @@ pub fn argument(operation: Operation, i: usize) -> Argument
     ensures { λ r. ⌜ r ≡ argumentOf (opFrom operation) i ⌝ }
 {
     match operation {
-        Operation::BoolLit => Argument::Flag,
-        Operation::BoolIte => Argument::BoolTerm,
-        Operation::Not => Argument::BoolTerm,
-        Operation::And => Argument::BoolTerm,
-        Operation::Lit => literal_argument(i),
-        Operation::Equal => first_or(i, Argument::AnyTerm, Argument::SameSort),
-        Operation::Ite => ite_argument(i),
-        Operation::Concat => first_or(i, Argument::VectorTerm, Argument::Joined),
-        Operation::Extract => extraction_argument(i),
-        Operation::BvNot => Argument::VectorTerm,
-        Operation::Binary(_) => first_or(i, Argument::VectorTerm, Argument::SameSort),
-        Operation::Compare(_) => first_or(i, Argument::VectorTerm, Argument::SameSort),
+        Operation::Term(term) => match term {
+            TermOp::BoolLit => Argument::Flag,
+            TermOp::BoolIte => Argument::BoolTerm,
+            TermOp::Not => Argument::BoolTerm,
+            TermOp::And => Argument::BoolTerm,
+            TermOp::Lit => literal_argument(i),
+            TermOp::Equal => first_or(i, Argument::AnyTerm, Argument::SameSort),
+            TermOp::Ite => ite_argument(i),
+            TermOp::Concat => first_or(i, Argument::VectorTerm, Argument::Joined),
+            TermOp::Extract => extraction_argument(i),
+            TermOp::BvNot => Argument::VectorTerm,
+            TermOp::Binary(_) => first_or(i, Argument::VectorTerm, Argument::SameSort),
+            TermOp::Compare(_) => first_or(i, Argument::VectorTerm, Argument::SameSort),
+        },
         Operation::Declare => declaration_argument(i),
         Operation::Assert => Argument::BoolTerm,
         Operation::Check => Argument::Nothing,

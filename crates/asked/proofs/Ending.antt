@@ -37,18 +37,7 @@ isCheck Assert = false
 isCheck Check = true
 
 checks-by : (op : Op) (n : ℕ) (a : ℕ → ℕ) → checks (callOf op n a) ≡ isCheck (lineOf op)
-checks-by o.boolLit n a = refl
-checks-by o.boolIte n a = refl
-checks-by o.not n a = refl
-checks-by o.and n a = refl
-checks-by o.lit n a = refl
-checks-by o.equal n a = refl
-checks-by o.ite n a = refl
-checks-by o.concat n a = refl
-checks-by o.extract n a = refl
-checks-by o.bvnot n a = refl
-checks-by (o.op2 op) n a = refl
-checks-by (o.compare op) n a = refl
+checks-by (o.term op) n a = refl
 checks-by o.declare n a = refl
 checks-by o.assert n a = refl
 checks-by o.check n a = refl

@@ -29,18 +29,7 @@ use Rattle.asked.specs.Marks.{standsBy, badBy}
 declares-by : (op : Op) (n : ℕ) (a : ℕ → ℕ) (letter index suffix : ℕ)
     → declaresName letter index suffix (callOf op n a)
     ≡ cond (isDeclare op) (isName letter index suffix (nameOf a)) false
-declares-by o.boolLit n a letter index suffix = refl
-declares-by o.boolIte n a letter index suffix = refl
-declares-by o.not n a letter index suffix = refl
-declares-by o.and n a letter index suffix = refl
-declares-by o.lit n a letter index suffix = refl
-declares-by o.equal n a letter index suffix = refl
-declares-by o.ite n a letter index suffix = refl
-declares-by o.concat n a letter index suffix = refl
-declares-by o.extract n a letter index suffix = refl
-declares-by o.bvnot n a letter index suffix = refl
-declares-by (o.op2 op) n a letter index suffix = refl
-declares-by (o.compare op) n a letter index suffix = refl
+declares-by (o.term op) n a letter index suffix = refl
 declares-by o.declare n a letter index suffix = refl
 declares-by o.assert n a letter index suffix = refl
 declares-by o.check n a letter index suffix = refl

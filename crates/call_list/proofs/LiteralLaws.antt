@@ -46,7 +46,7 @@ four-digits w head fits = joined-digits (payloads w head) (countAt w head) (fits
 
 -- ---- A literal that stands in a list has its numbers.
 
-few-arguments : (n first : ℕ) → countFits o.lit n first ≡ true → n ≤ 5
+few-arguments : (n first : ℕ) → countFits (o.term o.lit) n first ≡ true → n ≤ 5
 few-arguments n first h = go (isWidth first) refl h
   where
     go : (wide : Bool) → isWidth first ≡ wide →
@@ -59,8 +59,8 @@ few-arguments n first h = go (isWidth first) refl h
         omega arith
     go false w h = leb-true n 5 (right-of (leb 2 n) (leb n 5) h)
 
-low-digit : (j first before word : ℕ) (sb s : Sort) → admits (argumentOf o.lit (suc j)) first before word sb s ≡ true
-    → payloadOf word < 2 ^ 16
+low-digit : (j first before word : ℕ) (sb s : Sort)
+    → admits (argumentOf (o.term o.lit) (suc j)) first before word sb s ≡ true → payloadOf word < 2 ^ 16
 low-digit j first before word sb s h =
     let left = payloadOf first - 16 * (suc j - 1) in
     let digit : (isNumber word && ltb (payloadOf word) (2 ^ min 16 left)) ≡ true = rw (eqb·suc-zero j) at h in
@@ -69,7 +69,8 @@ low-digit j first before word sb s h =
     (right-of (isNumber word) (ltb (payloadOf word) (2 ^ min 16 left)) digit) in
     lt-of-lt-of-le below (pow-mono {i = min 16 left} {j = 16} (min-le-left 16 left))
 
-pub literal-fits : (w : List ℕ) (at : ℕ) (x : Context) → Right w at x → operationAt w at ≡ o.lit → LiteralFits w at
+pub literal-fits : (w : List ℕ) (at : ℕ) (x : Context) → Right w at x → operationAt w at ≡ o.term o.lit
+    → LiteralFits w at
 literal-fits w at x right is-lit =
     let each = failing-free (admitted (x .sorts) w at) 0 (countAt w at) (right .arguments) in
     record {

@@ -15,18 +15,7 @@ use Rattle.call_list.specs.Made.{made, sortsOf, makes, sortOfCall}
 
 -- An operation's calls make a term or not.
 pub makes-operation : (op : Op) (n : ℕ) (a : ℕ → ℕ) → makes (callOf op n a) ≡ makesTerm op
-makes-operation o.boolLit n a = refl
-makes-operation o.boolIte n a = refl
-makes-operation o.not n a = refl
-makes-operation o.and n a = refl
-makes-operation o.lit n a = refl
-makes-operation o.equal n a = refl
-makes-operation o.ite n a = refl
-makes-operation o.concat n a = refl
-makes-operation o.extract n a = refl
-makes-operation o.bvnot n a = refl
-makes-operation (o.op2 op) n a = refl
-makes-operation (o.compare op) n a = refl
+makes-operation (o.term op) n a = refl
 makes-operation o.declare n a = refl
 makes-operation o.assert n a = refl
 makes-operation o.check n a = refl

@@ -22,18 +22,7 @@ unfolding o.opOf
 no-operation n h = sym (List·getD-eq-default o.operations o.unknown (avoids-le 24 n h))
 
 pub declares-of : (op : o.Op) (n : ℕ) (p : ℕ → ℕ) → declares (o.callOf op n p) ≡ isDeclare op
-declares-of o.boolLit n p = refl
-declares-of o.boolIte n p = refl
-declares-of o.not n p = refl
-declares-of o.and n p = refl
-declares-of o.lit n p = refl
-declares-of o.equal n p = refl
-declares-of o.ite n p = refl
-declares-of o.concat n p = refl
-declares-of o.extract n p = refl
-declares-of o.bvnot n p = refl
-declares-of (o.op2 op) n p = refl
-declares-of (o.compare op) n p = refl
+declares-of (o.term op) n p = refl
 declares-of o.declare n p = refl
 declares-of o.assert n p = refl
 declares-of o.check n p = refl

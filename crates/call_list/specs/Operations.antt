@@ -3,22 +3,27 @@ use mathlib.Core.Bool.{Bool}
 use Rattle.engine.specs.WellFormed.{declares}
 use Rattle.engine.specs.Encode as o
 use Rattle.engine.specs.Emit.{binaryOf, compareOf}
+use Rattle.call_list.specs.declared.TermOp.{TermOp}
+use Rattle.call_list.specs.declared.TermOp.the-variants as term
 use Rattle.call_list.specs.declared.Operation.{Operation}
 use Rattle.call_list.specs.declared.Operation.the-variants as op
 
+abbrev pub termOpFrom : TermOp → o.TermOp
+termOpFrom term.BoolLit = o.boolLit
+termOpFrom term.BoolIte = o.boolIte
+termOpFrom term.Not = o.not
+termOpFrom term.And = o.and
+termOpFrom term.Lit = o.lit
+termOpFrom term.Equal = o.equal
+termOpFrom term.Ite = o.ite
+termOpFrom term.Concat = o.concat
+termOpFrom term.Extract = o.extract
+termOpFrom term.BvNot = o.bvnot
+termOpFrom (term.Binary b) = o.op2 (binaryOf b)
+termOpFrom (term.Compare b) = o.compare (compareOf b)
+
 abbrev pub opFrom : Operation → o.Op
-opFrom op.BoolLit = o.boolLit
-opFrom op.BoolIte = o.boolIte
-opFrom op.Not = o.not
-opFrom op.And = o.and
-opFrom op.Lit = o.lit
-opFrom op.Equal = o.equal
-opFrom op.Ite = o.ite
-opFrom op.Concat = o.concat
-opFrom op.Extract = o.extract
-opFrom op.BvNot = o.bvnot
-opFrom (op.Binary b) = o.op2 (binaryOf b)
-opFrom (op.Compare b) = o.compare (compareOf b)
+opFrom (op.Term t) = o.term (termOpFrom t)
 opFrom op.Declare = o.declare
 opFrom op.Assert = o.assert
 opFrom op.Check = o.check

@@ -16,8 +16,8 @@ ghost use Rattle.call_list.specs.Records.{madeAt};
 ghost use Rattle.call_list.specs.Cursors.{passed};
 ghost use Rattle.call_list.specs.Literal.{payloads, digitOr, fourDigits};
 
-// The operations of the calls.
-pub enum Operation {
+// The operations of the terms, and those of the calls.
+pub enum TermOp {
     BoolLit,
     BoolIte,
     Not,
@@ -30,6 +30,10 @@ pub enum Operation {
     BvNot,
     Binary(BinaryOp),
     Compare(Compare),
+}
+
+pub enum Operation {
+    Term(TermOp),
     Declare,
     Assert,
     Check,
@@ -41,27 +45,27 @@ pub fn operation_of(number: u32) -> Operation
     ensures { λ r. ⌜ opFrom r ≡ opOf number ⌝ }
 {
     match number {
-        0 => Operation::BoolLit,
-        1 => Operation::BoolIte,
-        2 => Operation::Not,
-        3 => Operation::And,
-        4 => Operation::Lit,
-        5 => Operation::Equal,
-        6 => Operation::Ite,
-        7 => Operation::Concat,
-        8 => Operation::Extract,
-        9 => Operation::BvNot,
-        10 => Operation::Binary(BinaryOp::And),
-        11 => Operation::Binary(BinaryOp::Or),
-        12 => Operation::Binary(BinaryOp::Xor),
-        13 => Operation::Binary(BinaryOp::Add),
-        14 => Operation::Binary(BinaryOp::Comp),
-        15 => Operation::Compare(Compare::Ult),
-        16 => Operation::Compare(Compare::Slt),
-        17 => Operation::Binary(BinaryOp::Shl),
-        18 => Operation::Binary(BinaryOp::Lshr),
-        19 => Operation::Binary(BinaryOp::Ashr),
-        20 => Operation::Binary(BinaryOp::Mul),
+        0 => Operation::Term(TermOp::BoolLit),
+        1 => Operation::Term(TermOp::BoolIte),
+        2 => Operation::Term(TermOp::Not),
+        3 => Operation::Term(TermOp::And),
+        4 => Operation::Term(TermOp::Lit),
+        5 => Operation::Term(TermOp::Equal),
+        6 => Operation::Term(TermOp::Ite),
+        7 => Operation::Term(TermOp::Concat),
+        8 => Operation::Term(TermOp::Extract),
+        9 => Operation::Term(TermOp::BvNot),
+        10 => Operation::Term(TermOp::Binary(BinaryOp::And)),
+        11 => Operation::Term(TermOp::Binary(BinaryOp::Or)),
+        12 => Operation::Term(TermOp::Binary(BinaryOp::Xor)),
+        13 => Operation::Term(TermOp::Binary(BinaryOp::Add)),
+        14 => Operation::Term(TermOp::Binary(BinaryOp::Comp)),
+        15 => Operation::Term(TermOp::Compare(Compare::Ult)),
+        16 => Operation::Term(TermOp::Compare(Compare::Slt)),
+        17 => Operation::Term(TermOp::Binary(BinaryOp::Shl)),
+        18 => Operation::Term(TermOp::Binary(BinaryOp::Lshr)),
+        19 => Operation::Term(TermOp::Binary(BinaryOp::Ashr)),
+        20 => Operation::Term(TermOp::Binary(BinaryOp::Mul)),
         21 => Operation::Declare,
         22 => Operation::Assert,
         23 => Operation::Check,
@@ -95,18 +99,7 @@ pub fn makes_term(operation: Operation) -> bool
     ensures { λ r. ⌜ r ≡ makesTerm (opFrom operation) ⌝ }
 {
     match operation {
-        Operation::BoolLit => true,
-        Operation::BoolIte => true,
-        Operation::Not => true,
-        Operation::And => true,
-        Operation::Lit => true,
-        Operation::Equal => true,
-        Operation::Ite => true,
-        Operation::Concat => true,
-        Operation::Extract => true,
-        Operation::BvNot => true,
-        Operation::Binary(_) => true,
-        Operation::Compare(_) => true,
+        Operation::Term(_) => true,
         Operation::Declare => true,
         Operation::Assert => false,
         Operation::Check => false,
@@ -119,18 +112,7 @@ pub fn is_declare(operation: Operation) -> bool
     ensures { λ r. ⌜ r ≡ isDeclare (opFrom operation) ⌝ }
 {
     match operation {
-        Operation::BoolLit => false,
-        Operation::BoolIte => false,
-        Operation::Not => false,
-        Operation::And => false,
-        Operation::Lit => false,
-        Operation::Equal => false,
-        Operation::Ite => false,
-        Operation::Concat => false,
-        Operation::Extract => false,
-        Operation::BvNot => false,
-        Operation::Binary(_) => false,
-        Operation::Compare(_) => false,
+        Operation::Term(_) => false,
         Operation::Declare => true,
         Operation::Assert => false,
         Operation::Check => false,

@@ -93,18 +93,7 @@ names-grow x c.check = omega arith
 
 check-after : (x : Context) (op : Op) (n : ℕ) (p : ℕ → ℕ) → x .checked ≡ false → isCheck op
     ≡ after x (callOf op n p) .checked
-check-after x o.boolLit n p e = sym e
-check-after x o.boolIte n p e = sym e
-check-after x o.not n p e = sym e
-check-after x o.and n p e = sym e
-check-after x o.lit n p e = sym e
-check-after x o.equal n p e = sym e
-check-after x o.ite n p e = sym e
-check-after x o.concat n p e = sym e
-check-after x o.extract n p e = sym e
-check-after x o.bvnot n p e = sym e
-check-after x (o.op2 op) n p e = sym e
-check-after x (o.compare op) n p e = sym e
+check-after x (o.term op) n p e = sym e
 check-after x o.declare n p e = sym e
 check-after x o.assert n p e = sym e
 check-after x o.check n p e = refl

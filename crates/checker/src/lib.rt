@@ -190,18 +190,7 @@ fn is_check(operation: Operation) -> bool
     ensures { λ r. ⌜ r ≡ isCheck (opFrom operation) ⌝ }
 {
     match operation {
-        Operation::BoolLit => false,
-        Operation::BoolIte => false,
-        Operation::Not => false,
-        Operation::And => false,
-        Operation::Lit => false,
-        Operation::Equal => false,
-        Operation::Ite => false,
-        Operation::Concat => false,
-        Operation::Extract => false,
-        Operation::BvNot => false,
-        Operation::Binary(_) => false,
-        Operation::Compare(_) => false,
+        Operation::Term(_) => false,
         Operation::Declare => false,
         Operation::Assert => false,
         Operation::Check => true,

@@ -1,6 +1,6 @@
 -- Laws of the definitions of Reached.
 use mathlib.Core.Path.{_≡_, refl, sym, ap, ap₂, _∙_, subst}
-use mathlib.Core.Bool.{Bool, true, false, not, _&&_, _||_, or-false, or-true}
+use mathlib.Core.Bool.{Bool, true, false, not, cond, _&&_, _||_, or-false, or-true}
 use mathlib.Core.List.{List, [], _∷_, _++_}
 use mathlib.Core.Option.{Option, some, none}
 use Prim.Native.Nat.{ℕ, zero, suc, _+_, _-_, _≤_, _<_}
@@ -16,10 +16,11 @@ use Rattle.logic.specs.Table.{tab}
 use Rattle.logic.proofs.TableLaws.{length-tab}
 use Rattle.logic.specs.Word.{kindOf, payloadOf, numberWord}
 use Rattle.logic.proofs.WordLaws.{kind-of-word, payload-of-word}
-use Rattle.engine.specs.Call.{Name, Term, Call}
+use Rattle.engine.specs.Call.{Name, BinaryOp, Term, Call}
 use Rattle.engine.specs.Call as c
 use Rattle.engine.proofs.Laws.{length-snoc}
-use Rattle.engine.specs.Sorts.{Sort, sortAt, sortOf, WellSorted, Context, start, after, Allowed, payloadLimit}
+use Rattle.engine.specs.Sorts.{Sort, sortAt, oneBit, binarySort, sortOf, WellSorted, Context, start, after}
+use Rattle.engine.specs.Sorts.{Allowed, payloadLimit}
 use Rattle.engine.proofs.SortLaws.{there}
 use Rattle.engine.specs.Encode.{words, makesTerm, operationOf, operationAt, bare, argumentAt, countAt, nextAt}
 use Rattle.engine.specs.Encode.{callAt}
@@ -29,8 +30,8 @@ use Rattle.engine.proofs.Steps.{read-step, read-head, read-wrong}
 use Rattle.engine.proofs.Tests.{both, left-of, right-of, refuted}
 use Rattle.engine.proofs.Written.{letter-low, suffix-low}
 use Rattle.engine.proofs.ReadBack.{reads-at}
-use Rattle.engine.specs.Structure.{originOf, guarded, sortFrom, capped, termPlace, placeOfTerm, sortThrough}
-use Rattle.engine.specs.Structure.{declaresAt, declaredFrom}
+use Rattle.engine.specs.Structure.{choose, binaryOrigin, originOf, guarded, sortFrom, capped, termPlace}
+use Rattle.engine.specs.Structure.{placeOfTerm, sortThrough, declaresAt, declaredFrom}
 use Rattle.engine.proofs.StructureLaws.{Below, sortFrom-ext, place-here, place-next, place-skip, declared-end}
 use Rattle.engine.proofs.StructureLaws.{declared-here, declared-next}
 use Rattle.engine.specs.declared.Origin.{Origin}
@@ -82,6 +83,25 @@ guarded-below k (Joined a b) h = rw (lt-ltb (a .0) k (h .0), lt-ltb (b .0) k (h 
 capped-is : (s : ℕ) → s ≤ 64 → capped s ≡ s
 capped-is s h = omega arith
 
+-- An operation of two vectors makes one bit or a vector of their sort.
+binary-said : (sorts : List Sort) (op : BinaryOp) (a : ℕ) → a < length sorts
+    → (binarySort op (sortAt sorts a) ≡ sortFrom (sortAt sorts) (binaryOrigin op a))
+    × Below (length sorts) (binaryOrigin op a)
+binary-said sorts op a h = go (oneBit op)
+  where
+    go : (b : Bool)
+        → (cond b 1 (sortAt sorts a) ≡ sortFrom (sortAt sorts) (choose b (Given 1) (Same (record { 0 = a }))))
+        × Below (length sorts) (choose b (Given 1) (Same (record { 0 = a })))
+    go true = (refl, tt)
+    go false = (refl, h)
+
+binary-small : (op : BinaryOp) (s : Sort) → s ≤ 64 → binarySort op s ≤ 64
+binary-small op s h = go (oneBit op)
+  where
+    go : (b : Bool) → cond b 1 s ≤ 64
+    go true = omega arith
+    go false = h
+
 -- A well-sorted term has the sort that its call says, by earlier terms.
 pub said : (sorts : List Sort) (t : Term) → WellSorted sorts t
     → (sortOf sorts t ≡ sortFrom (sortAt sorts) (originOf (c.term t))) × Below (length sorts) (originOf (c.term t))
@@ -98,15 +118,7 @@ said sorts (c.concat a b) h = (
 )
 said sorts (c.extract i j a) h = (sym (capped-is (suc i - j) (omega arith)), tt)
 said sorts (c.bvnot a) h = (refl, there sorts a (omega arith))
-said sorts (c.op2 c.bvand a b) h = (refl, there sorts a (omega arith))
-said sorts (c.op2 c.bvor a b) h = (refl, there sorts a (omega arith))
-said sorts (c.op2 c.bvxor a b) h = (refl, there sorts a (omega arith))
-said sorts (c.op2 c.bvadd a b) h = (refl, there sorts a (omega arith))
-said sorts (c.op2 c.bvcomp a b) h = (refl, tt)
-said sorts (c.op2 c.bvshl a b) h = (refl, there sorts a (omega arith))
-said sorts (c.op2 c.bvlshr a b) h = (refl, there sorts a (omega arith))
-said sorts (c.op2 c.bvashr a b) h = (refl, there sorts a (omega arith))
-said sorts (c.op2 c.bvmul a b) h = (refl, there sorts a (omega arith))
+said sorts (c.op2 op a b) h = binary-said sorts op a (there sorts a (omega arith))
 said sorts (c.compare op a b) h = (refl, tt)
 
 -- What an allowed call does to the sorts: one more, that it says itself, or none.
@@ -115,22 +127,8 @@ pub data Makes (x : Context) (call : Call) : Type 0 where
       → s ≡ sortFrom (sortAt (x .sorts)) (originOf call) → Below (length (x .sorts)) (originOf call) → Makes x call
   nothing : after x call .sorts ≡ x .sorts → makesTerm (operationOf call) ≡ false → Makes x call
 
-makes-term : (t : Term) → makesTerm (operationOf (c.term t)) ≡ true
-makes-term (c.boolLit b) = refl
-makes-term (c.boolIte i a b) = refl
-makes-term (c.not a) = refl
-makes-term (c.and args) = refl
-makes-term (c.lit s) = refl
-makes-term (c.equal a b) = refl
-makes-term (c.ite i a b) = refl
-makes-term (c.concat a b) = refl
-makes-term (c.extract i j a) = refl
-makes-term (c.bvnot a) = refl
-makes-term (c.op2 op a b) = refl
-makes-term (c.compare op a b) = refl
-
 pub makes : (x : Context) (call : Call) → Allowed x call → Makes x call
-makes x (c.term t) h = let q = said (x .sorts) t (h .0) in one (sortOf (x .sorts) t) refl (makes-term t) (q .0) (q .1)
+makes x (c.term t) h = let q = said (x .sorts) t (h .0) in one (sortOf (x .sorts) t) refl refl (q .0) (q .1)
 makes x (c.declare name w) h = one w refl refl (sym (capped-is w (h .1 .1))) tt
 makes x (c.assert k) h = nothing refl refl
 makes x c.check h = nothing refl refl
@@ -235,15 +233,7 @@ small sorts (c.ite i a b) h = h .1 .1
 small sorts (c.concat a b) h = h .2
 small sorts (c.extract i j a) h = omega arith
 small sorts (c.bvnot a) h = h .1
-small sorts (c.op2 c.bvand a b) h = h .0 .1
-small sorts (c.op2 c.bvor a b) h = h .0 .1
-small sorts (c.op2 c.bvxor a b) h = h .0 .1
-small sorts (c.op2 c.bvadd a b) h = h .0 .1
-small sorts (c.op2 c.bvcomp a b) h = omega arith
-small sorts (c.op2 c.bvshl a b) h = h .0 .1
-small sorts (c.op2 c.bvlshr a b) h = h .0 .1
-small sorts (c.op2 c.bvashr a b) h = h .0 .1
-small sorts (c.op2 c.bvmul a b) h = h .0 .1
+small sorts (c.op2 op a b) h = binary-small op (sortAt sorts a) (h .0 .1)
 small sorts (c.compare op a b) h = omega arith
 
 abbrev pub Low : List Sort → Type 0

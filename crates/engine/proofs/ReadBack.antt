@@ -213,7 +213,7 @@ module _ (x : Context) (n : ℕ) (a b : ℕ → ℕ) (follows : (i : ℕ) → b 
   before : (i : ℕ) → sortOfWord (x .sorts) (b (suc i)) ≡ sort i
   before i = ap (sortOfWord (x .sorts)) (follows i)
 
-  reads-boolLit : n ≡ 1 → Admitted o.boolLit → Reads x o.boolLit n a
+  reads-boolLit : n ≡ 1 → Admitted (o.term o.boolLit) → Reads x (o.term o.boolLit) n a
   reads-boolLit e t =
       let h = t 0 (omega arith) in
       let num = number-word (a 0) (left-of (isNumber (a 0)) (leb (payloadOf (a 0)) 1) h) in
@@ -225,7 +225,7 @@ module _ (x : Context) (n : ℕ) (a b : ℕ → ℕ) (follows : (i : ℕ) → b 
         operation = refl;
       }
 
-  reads-boolIte : n ≡ 3 → Admitted o.boolIte → Reads x o.boolIte n a
+  reads-boolIte : n ≡ 3 → Admitted (o.term o.boolIte) → Reads x (o.term o.boolIte) n a
   reads-boolIte e t =
       let s0 = eqb-true (sort 0) 0 (t 0 (omega arith)) in
       let s1 = eqb-true (sort 1) 0 (t 1 (omega arith)) in
@@ -251,7 +251,7 @@ module _ (x : Context) (n : ℕ) (a b : ℕ → ℕ) (follows : (i : ℕ) → b 
       let r0 = ref 0 (omega arith) in
       (sym (r0 .sort-is) ∙ s0, rw (tab-one a e, r0 .word-is))
 
-  reads-not : n ≡ 1 → Admitted o.not → Reads x o.not n a
+  reads-not : n ≡ 1 → Admitted (o.term o.not) → Reads x (o.term o.not) n a
   reads-not e t =
       let one = bool-one e (t 0 (omega arith)) in
       record { allowed = (one .0, (payload-low (a 0), tt), omega arith); written = one .1; operation = refl }
@@ -261,7 +261,7 @@ module _ (x : Context) (n : ℕ) (a b : ℕ → ℕ) (follows : (i : ℕ) → b 
       let one = bool-one e (t 0 (omega arith)) in
       record { allowed = (one .0, payload-low (a 0)); written = one .1; operation = refl }
 
-  reads-and : 1 ≤ n → Admitted o.and → Reads x o.and n a
+  reads-and : 1 ≤ n → Admitted (o.term o.and) → Reads x (o.term o.and) n a
   reads-and e t =
       let bool-at : (i : ℕ) → i < n → sort i ≡ 0 = λ i l. eqb-true (sort i) 0 (t i l) in
       let refs : (i : ℕ) → i < n → Reference (x .sorts) (a i) = λ i l. ref i (let z = bool-at i l in omega arith) in
@@ -290,7 +290,7 @@ module _ (x : Context) (n : ℕ) (a b : ℕ → ℕ) (follows : (i : ℕ) → b 
       let r1 = ref 1 (omega arith) in
       (sym (r1 .sort-is) ∙ s1 ∙ r0 .sort-is, rw (tab-two a e, r0 .word-is, r1 .word-is), r0 .sort-is)
 
-  reads-equal : n ≡ 2 → Admitted o.equal → Reads x o.equal n a
+  reads-equal : n ≡ 2 → Admitted (o.term o.equal) → Reads x (o.term o.equal) n a
   reads-equal e t =
       let s0 = leb-true (sort 0) 64 (t 0 (omega arith)) in
       let two = same-two e s0 (t 1 (omega arith)) in
@@ -310,7 +310,7 @@ module _ (x : Context) (n : ℕ) (a b : ℕ → ℕ) (follows : (i : ℕ) → b 
       let two = same-two e (s0 .1) h in
       (subst IsVector (two .2) s0, two .0, two .1)
 
-  reads-op2 : (op : BinaryOp) → n ≡ 2 → Admitted (o.op2 op) → Reads x (o.op2 op) n a
+  reads-op2 : (op : BinaryOp) → n ≡ 2 → Admitted (o.term (o.op2 op)) → Reads x (o.term (o.op2 op)) n a
   reads-op2 op e t =
       let two = vector-two e (t 0 (omega arith)) (t 1 (omega arith)) in
       record {
@@ -319,7 +319,7 @@ module _ (x : Context) (n : ℕ) (a b : ℕ → ℕ) (follows : (i : ℕ) → b 
         operation = refl;
       }
 
-  reads-compare : (op : Compare) → n ≡ 2 → Admitted (o.compare op) → Reads x (o.compare op) n a
+  reads-compare : (op : Compare) → n ≡ 2 → Admitted (o.term (o.compare op)) → Reads x (o.term (o.compare op)) n a
   reads-compare op e t =
       let two = vector-two e (t 0 (omega arith)) (t 1 (omega arith)) in
       record {
@@ -328,7 +328,7 @@ module _ (x : Context) (n : ℕ) (a b : ℕ → ℕ) (follows : (i : ℕ) → b 
         operation = refl;
       }
 
-  reads-ite : n ≡ 3 → Admitted o.ite → Reads x o.ite n a
+  reads-ite : n ≡ 3 → Admitted (o.term o.ite) → Reads x (o.term o.ite) n a
   reads-ite e t =
       let s0 = eqb-true (sort 0) 0 (t 0 (omega arith)) in
       let s1 = vector-of (sort 1) (t 1 (omega arith)) in
@@ -346,7 +346,7 @@ module _ (x : Context) (n : ℕ) (a b : ℕ → ℕ) (follows : (i : ℕ) → b 
         operation = refl;
       }
 
-  reads-concat : n ≡ 2 → Admitted o.concat → Reads x o.concat n a
+  reads-concat : n ≡ 2 → Admitted (o.term o.concat) → Reads x (o.term o.concat) n a
   reads-concat e t =
       let s0 = vector-of (sort 0) (t 0 (omega arith)) in
       let h = t 1 (omega arith) in
@@ -368,7 +368,7 @@ module _ (x : Context) (n : ℕ) (a b : ℕ → ℕ) (follows : (i : ℕ) → b 
         operation = refl;
       }
 
-  reads-extract : n ≡ 3 → Admitted o.extract → Reads x o.extract n a
+  reads-extract : n ≡ 3 → Admitted (o.term o.extract) → Reads x (o.term o.extract) n a
   reads-extract e t =
       let h0 = t 0 (omega arith) in
       let h1 = t 1 (omega arith) in
@@ -389,7 +389,7 @@ module _ (x : Context) (n : ℕ) (a b : ℕ → ℕ) (follows : (i : ℕ) → b 
         operation = refl;
       }
 
-  reads-bvnot : n ≡ 1 → Admitted o.bvnot → Reads x o.bvnot n a
+  reads-bvnot : n ≡ 1 → Admitted (o.term o.bvnot) → Reads x (o.term o.bvnot) n a
   reads-bvnot e t =
       let s0 = vector-of (sort 0) (t 0 (omega arith)) in
       let r0 = ref 0 (s0 .1) in
@@ -443,11 +443,11 @@ module _ (x : Context) (n : ℕ) (a b : ℕ → ℕ) (follows : (i : ℕ) → b 
         operation = refl;
       }
 
-  digit-word : Admitted o.lit → (j : ℕ) → suc j < n
+  digit-word : Admitted (o.term o.lit) → (j : ℕ) → suc j < n
       → (isNumber (a (suc j)) && ltb (payloadOf (a (suc j))) (2 ^ min 16 (payloadOf (a 0) - 16 * j))) ≡ true
   digit-word t j l = rw (eqb·suc-zero j, sub-one (suc j)) at (t (suc j) l)
 
-  reads-lit : literalCount n (a 0) ≡ true → 0 < n → Admitted o.lit → Reads x o.lit n a
+  reads-lit : literalCount n (a 0) ≡ true → 0 < n → Admitted (o.term o.lit) → Reads x (o.term o.lit) n a
   reads-lit counted some-words t =
       let h0 = t 0 some-words in
       let width = payloadOf (a 0) in
@@ -469,22 +469,22 @@ module _ (x : Context) (n : ℕ) (a b : ℕ → ℕ) (follows : (i : ℕ) → b 
 
   reads : (op : Op) → countFits op n (a 0) ≡ true → Admitted op
       → (declares (callOf op n (λ i. payloadOf (a i))) && known (x .names) (a 0) (a 1) (a 2)) ≡ false → Reads x op n a
-  reads o.boolLit e t new = reads-boolLit (eqb-true n 1 e) t
-  reads o.boolIte e t new = reads-boolIte (eqb-true n 3 e) t
-  reads o.not e t new = reads-not (eqb-true n 1 e) t
-  reads o.and e t new = reads-and (leb-true 1 n e) t
-  reads o.lit e t new = reads-lit e (some-literal (isWidth (a 0)) e) t
+  reads (o.term o.boolLit) e t new = reads-boolLit (eqb-true n 1 e) t
+  reads (o.term o.boolIte) e t new = reads-boolIte (eqb-true n 3 e) t
+  reads (o.term o.not) e t new = reads-not (eqb-true n 1 e) t
+  reads (o.term o.and) e t new = reads-and (leb-true 1 n e) t
+  reads (o.term o.lit) e t new = reads-lit e (some-literal (isWidth (a 0)) e) t
     where
       some-literal : (b : Bool) → cond b (eqb n (1 + digitCount (payloadOf (a 0)))) (leb 2 n && leb n 5) ≡ true → 0 < n
       some-literal true h = let z = eqb-true n (1 + digitCount (payloadOf (a 0))) h in omega arith
       some-literal false h = let z = leb-true 2 n (left-of (leb 2 n) (leb n 5) h) in omega arith
-  reads o.equal e t new = reads-equal (eqb-true n 2 e) t
-  reads o.ite e t new = reads-ite (eqb-true n 3 e) t
-  reads o.concat e t new = reads-concat (eqb-true n 2 e) t
-  reads o.extract e t new = reads-extract (eqb-true n 3 e) t
-  reads o.bvnot e t new = reads-bvnot (eqb-true n 1 e) t
-  reads (o.op2 op) e t new = reads-op2 op (eqb-true n 2 e) t
-  reads (o.compare op) e t new = reads-compare op (eqb-true n 2 e) t
+  reads (o.term o.equal) e t new = reads-equal (eqb-true n 2 e) t
+  reads (o.term o.ite) e t new = reads-ite (eqb-true n 3 e) t
+  reads (o.term o.concat) e t new = reads-concat (eqb-true n 2 e) t
+  reads (o.term o.extract) e t new = reads-extract (eqb-true n 3 e) t
+  reads (o.term o.bvnot) e t new = reads-bvnot (eqb-true n 1 e) t
+  reads (o.term (o.op2 op)) e t new = reads-op2 op (eqb-true n 2 e) t
+  reads (o.term (o.compare op)) e t new = reads-compare op (eqb-true n 2 e) t
   reads o.declare e t new = reads-declare (eqb-true n 4 e) t new
   reads o.assert e t new = reads-assert (eqb-true n 1 e) t
   reads o.check e t new = reads-check (eqb-true n 0 e)
@@ -493,72 +493,21 @@ module _ (x : Context) (n : ℕ) (a b : ℕ → ℕ) (follows : (i : ℕ) → b 
 -- ---- the head
 
 -- Operations from s on, by their numbers.
-abbrev Numbered : ℕ → List Op → Type 0
-Numbered s [] = Unit {0}
-Numbered s (op ∷ ops) = (numberOf op ≡ s) × Numbered (suc s) ops
+abbrev numbered : ℕ → List Op → Bool
+numbered s [] = true
+numbered s (op ∷ ops) = eqb (numberOf op) s && numbered (suc s) ops
 
-number-of : (ops : List Op) (s k : ℕ) → Numbered s ops → (getD ops k o.unknown ≡ o.unknown → ⊥)
+number-of : (ops : List Op) (s k : ℕ) → numbered s ops ≡ true → (getD ops k o.unknown ≡ o.unknown → ⊥)
     → numberOf (getD ops k o.unknown) ≡ s + k
 number-of [] s k h known = absurd (known refl)
-number-of (op ∷ ops) s zero h known = h .0 ∙ omega arith
-number-of (op ∷ ops) s (suc k) h known = number-of ops (suc s) k (h .1) known ∙ omega arith
+number-of (op ∷ ops) s zero h known =
+    eqb-true (numberOf op) s (left-of (eqb (numberOf op) s) (numbered (suc s) ops) h) ∙ omega arith
+number-of (op ∷ ops) s (suc k) h known =
+    number-of ops (suc s) k (right-of (eqb (numberOf op) s) (numbered (suc s) ops) h) known ∙ omega arith
 
 number-opOf : (k : ℕ) → (opOf k ≡ o.unknown → ⊥) → numberOf (opOf k) ≡ k
 unfolding opOf
-number-opOf k known =
-    number-of operations 0 k (
-      refl,
-      (
-        refl,
-        (
-          refl,
-          (
-            refl,
-            (
-              refl,
-              (
-                refl,
-                (
-                  refl,
-                  (
-                    refl,
-                    (
-                      refl,
-                      (
-                        refl,
-                        (
-                          refl,
-                          (
-                            refl,
-                            (
-                              refl,
-                              (
-                                refl,
-                                (
-                                  refl,
-                                  (
-                                    refl,
-                                    (
-                                      refl,
-                                      (refl, (refl, (refl, (refl, (refl, (refl, (refl, tt))))))),
-                                    ),
-                                  ),
-                                ),
-                              ),
-                            ),
-                          ),
-                        ),
-                      ),
-                    ),
-                  ),
-                ),
-              ),
-            ),
-          ),
-        ),
-      ),
-    )
-    known ∙ omega arith
+number-opOf k known = number-of operations 0 k refl known ∙ omega arith
 
 known-op : (op : Op) (n first : ℕ) → countFits op n first ≡ true → op ≡ o.unknown → ⊥
 known-op op n first h e =

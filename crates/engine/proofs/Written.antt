@@ -1,5 +1,5 @@
 -- A formed call list, written as words, is well formed and reads back as itself.
-use mathlib.Core.Path.{_≡_, refl, ap, ap₂, _∙_}
+use mathlib.Core.Path.{_≡_, refl, sym, ap, ap₂, _∙_}
 use mathlib.Core.Bool.{Bool, true, false, not}
 use mathlib.Core.List.{List, [], _∷_, _++_, map, append-assoc}
 use mathlib.Core.Option.{none}
@@ -7,10 +7,11 @@ use Prim.Native.Nat.{ℕ, zero, suc, _+_, _-_, _*_, _/_, _%_, _^_, _≤_, _<_, s
 use native.Mathlib.Nat.{zero-lt-suc, div-lt-iff-lt-mul, lt-of-lt-of-le, le-refl}
 use native.Mathlib.Numerals.{sub-one}
 use native.Mathlib.Omega.{arith}
-use lib.ListN.{length, getD, length-append, length-map, List·getD-append}
+use lib.ListN.{length, getD, length-append, length-map, List·getD-append, List·getD-eq-default}
 use lib.Seq.{getD-append-seam, getD-append-add}
 use lib.Pow.{pow-add, pow-mono}
-use lib.Dec.{eqb}
+use lib.Dec.{eqb, ltb}
+use borrow.Author.Tests.{ltb-true, ltb-false}
 use Rattle.logic.specs.Word.{payloadOf, wordOf, headWord, numberWord, termWord}
 use Rattle.logic.proofs.WordLaws.{payload-of-word}
 use Rattle.logic.specs.Table.{tab}
@@ -22,7 +23,8 @@ use Rattle.engine.specs.Meaning.{All}
 use Rattle.engine.proofs.Laws.{All-map}
 use Rattle.engine.specs.Sorts.{Context, start, after, Allowed, Formed}
 use Rattle.engine.specs.Sorts.{payloadLimit, countLimit}
-use Rattle.engine.specs.Encode.{Op, opOf, numberOf, digits, digitCount, operationOf, termWords}
+use Rattle.engine.specs.Encode.{TermOp, operations, opOf, binaryNumber, compareNumber, numberOf}
+use Rattle.engine.specs.Encode.{digits, digitCount, operationOfTerm, operationOf, termWords}
 use Rattle.engine.specs.Encode.{words, recordOf, encode, fromDigits, letterNumber, suffixNumber, callOf}
 use Rattle.engine.specs.Encode.{operationAt, countAt, bare, argumentAt, nextAt, callAt, callsFrom, decode}
 use Rattle.engine.specs.Encode as o
@@ -30,7 +32,7 @@ use Rattle.engine.proofs.Steps.{calls-end, calls-step}
 
 -- ---- the head
 
-opOf-binary : (p : BinaryOp) → opOf (numberOf (o.op2 p)) ≡ o.op2 p
+opOf-binary : (p : BinaryOp) → opOf (binaryNumber p) ≡ o.term (o.op2 p)
 unfolding opOf
 opOf-binary c.bvand = refl
 opOf-binary c.bvor = refl
@@ -42,56 +44,47 @@ opOf-binary c.bvlshr = refl
 opOf-binary c.bvashr = refl
 opOf-binary c.bvmul = refl
 
-opOf-compare : (p : Compare) → opOf (numberOf (o.compare p)) ≡ o.compare p
+opOf-compare : (p : Compare) → opOf (compareNumber p) ≡ o.term (o.compare p)
 unfolding opOf
 opOf-compare c.bvult = refl
 opOf-compare c.bvslt = refl
 
+opOf-term : (p : TermOp) → opOf (numberOf (o.term p)) ≡ o.term p
+unfolding opOf
+opOf-term o.boolLit = refl
+opOf-term o.boolIte = refl
+opOf-term o.not = refl
+opOf-term o.and = refl
+opOf-term o.lit = refl
+opOf-term o.equal = refl
+opOf-term o.ite = refl
+opOf-term o.concat = refl
+opOf-term o.extract = refl
+opOf-term o.bvnot = refl
+opOf-term (o.op2 p) = opOf-binary p
+opOf-term (o.compare p) = opOf-compare p
+
 -- An operation is known by its number.
 pub opOf-number : (call : Call) → opOf (numberOf (operationOf call)) ≡ operationOf call
 unfolding opOf
-opOf-number (c.term (c.boolLit b)) = refl
-opOf-number (c.term (c.boolIte i a b)) = refl
-opOf-number (c.term (c.not a)) = refl
-opOf-number (c.term (c.and args)) = refl
-opOf-number (c.term (c.lit s)) = refl
-opOf-number (c.term (c.equal a b)) = refl
-opOf-number (c.term (c.ite i a b)) = refl
-opOf-number (c.term (c.concat a b)) = refl
-opOf-number (c.term (c.extract i j a)) = refl
-opOf-number (c.term (c.bvnot a)) = refl
-opOf-number (c.term (c.op2 p a b)) = opOf-binary p
-opOf-number (c.term (c.compare p a b)) = opOf-compare p
+opOf-number (c.term t) = opOf-term (operationOfTerm t)
 opOf-number (c.declare name w) = refl
 opOf-number (c.assert k) = refl
 opOf-number c.check = refl
 
-number-lt : (p : Op) → numberOf p < 32
-number-lt o.boolLit = omega arith
-number-lt o.boolIte = omega arith
-number-lt o.not = omega arith
-number-lt o.and = omega arith
-number-lt o.lit = omega arith
-number-lt o.equal = omega arith
-number-lt o.ite = omega arith
-number-lt o.concat = omega arith
-number-lt o.extract = omega arith
-number-lt o.bvnot = omega arith
-number-lt (o.op2 c.bvand) = omega arith
-number-lt (o.op2 c.bvor) = omega arith
-number-lt (o.op2 c.bvxor) = omega arith
-number-lt (o.op2 c.bvadd) = omega arith
-number-lt (o.op2 c.bvcomp) = omega arith
-number-lt (o.op2 c.bvshl) = omega arith
-number-lt (o.op2 c.bvlshr) = omega arith
-number-lt (o.op2 c.bvashr) = omega arith
-number-lt (o.op2 c.bvmul) = omega arith
-number-lt (o.compare c.bvult) = omega arith
-number-lt (o.compare c.bvslt) = omega arith
-number-lt o.declare = omega arith
-number-lt o.assert = omega arith
-number-lt o.check = omega arith
-number-lt o.unknown = omega arith
+-- No operation has a number from 32 on: there `opOf` gives the unknown one, and its number is 31.
+number-lt : (call : Call) → numberOf (operationOf call) < 32
+unfolding opOf
+number-lt call = go (ltb (numberOf (operationOf call)) 32) refl
+  where
+    go : (b : Bool) → ltb (numberOf (operationOf call)) 32 ≡ b → numberOf (operationOf call) < 32
+    go true e = ltb-true (numberOf (operationOf call)) 32 e
+    go false e =
+        let high = ltb-false (numberOf (operationOf call)) 32 e in
+        let past : 24 ≤ numberOf (operationOf call) = omega arith in
+        let last : 31 ≡ numberOf (operationOf call) =
+        ap numberOf (sym (List·getD-eq-default operations o.unknown past) ∙ opOf-number call) in
+        absurd (omega arith)
 
 head-op : (k n : ℕ) → k < 32 → n < 2 ^ 24 → payloadOf (headWord k n) % 32 ≡ k
 head-op k n h l = omega arith
@@ -261,14 +254,14 @@ module _ (x : Context) (call : Call) (ok : Allowed x call) (pre post : List ℕ)
   pub operation-at : operationAt here (length pre) ≡ operationOf call
   operation-at =
       ap opOf (ap (λ (word : ℕ). payloadOf word % 32) head-at
-      ∙ head-op (numberOf (operationOf call)) (length (words call)) (number-lt (operationOf call))
+      ∙ head-op (numberOf (operationOf call)) (length (words call)) (number-lt call)
       (words-count x call ok))
       ∙ opOf-number call
 
   pub count-at : countAt here (length pre) ≡ length (words call)
   count-at =
       ap (λ (word : ℕ). payloadOf word / 32) head-at
-      ∙ head-count (numberOf (operationOf call)) (length (words call)) (number-lt (operationOf call))
+      ∙ head-count (numberOf (operationOf call)) (length (words call)) (number-lt call)
       (words-count x call ok)
 
   pub argument-at : (i : ℕ) → i < length (words call) → argumentAt bare here (length pre) i ≡ getD (words call) i 0

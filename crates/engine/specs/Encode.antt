@@ -11,22 +11,27 @@ use Rattle.bitvec.specs.Bits.{bit, bv2nat, nat2bv}
 use Rattle.engine.specs.Call.{Letter, Suffix, BinaryOp, Compare, Term, Call}
 use Rattle.engine.specs.Call as c
 
--- The operations of the calls.
+-- The operations of the terms, and those of the calls.
+pub data TermOp : Type 0 where
+  boolLit boolIte not and lit equal ite concat extract bvnot : TermOp
+  op2 : BinaryOp → TermOp
+  compare : Compare → TermOp
+
 pub data Op : Type 0 where
-  boolLit boolIte not and lit equal ite concat extract bvnot : Op
-  op2 : BinaryOp → Op
-  compare : Compare → Op
+  term : TermOp → Op
   declare assert check : Op
   unknown : Op
 
 -- Their numbers: the place of each in document 01's list.
-abbrev pub operations : List Op
-operations =
+abbrev pub termOps : List TermOp
+termOps =
     boolLit ∷ boolIte ∷ not ∷ and ∷ lit ∷ equal ∷ ite ∷ concat ∷ extract ∷ bvnot
     ∷ op2 c.bvand ∷ op2 c.bvor ∷ op2 c.bvxor ∷ op2 c.bvadd ∷ op2 c.bvcomp
     ∷ compare c.bvult ∷ compare c.bvslt
-    ∷ op2 c.bvshl ∷ op2 c.bvlshr ∷ op2 c.bvashr ∷ op2 c.bvmul
-    ∷ declare ∷ assert ∷ check ∷ []
+    ∷ op2 c.bvshl ∷ op2 c.bvlshr ∷ op2 c.bvashr ∷ op2 c.bvmul ∷ []
+
+abbrev pub operations : List Op
+operations = map term termOps ++ (declare ∷ assert ∷ check ∷ [])
 
 unfoldable pub opOf : ℕ → Op
 opOf n = getD operations n unknown
@@ -47,18 +52,18 @@ compareNumber c.bvult = 15
 compareNumber c.bvslt = 16
 
 abbrev pub numberOf : Op → ℕ
-numberOf boolLit = 0
-numberOf boolIte = 1
-numberOf not = 2
-numberOf and = 3
-numberOf lit = 4
-numberOf equal = 5
-numberOf ite = 6
-numberOf concat = 7
-numberOf extract = 8
-numberOf bvnot = 9
-numberOf (op2 o) = binaryNumber o
-numberOf (compare o) = compareNumber o
+numberOf (term boolLit) = 0
+numberOf (term boolIte) = 1
+numberOf (term not) = 2
+numberOf (term and) = 3
+numberOf (term lit) = 4
+numberOf (term equal) = 5
+numberOf (term ite) = 6
+numberOf (term concat) = 7
+numberOf (term extract) = 8
+numberOf (term bvnot) = 9
+numberOf (term (op2 o)) = binaryNumber o
+numberOf (term (compare o)) = compareNumber o
 numberOf declare = 21
 numberOf assert = 22
 numberOf check = 23
@@ -66,18 +71,7 @@ numberOf unknown = 31
 
 -- Every call but assert and check makes the next term.
 abbrev pub makesTerm : Op → Bool
-makesTerm boolLit = true
-makesTerm boolIte = true
-makesTerm not = true
-makesTerm and = true
-makesTerm lit = true
-makesTerm equal = true
-makesTerm ite = true
-makesTerm concat = true
-makesTerm extract = true
-makesTerm bvnot = true
-makesTerm (op2 o) = true
-makesTerm (compare o) = true
+makesTerm (term o) = true
 makesTerm declare = true
 makesTerm assert = false
 makesTerm check = false
@@ -111,7 +105,7 @@ digits (suc k) n = n % 2 ^ 16 ∷ digits k (n / 2 ^ 16)
 abbrev pub digitCount : ℕ → ℕ
 digitCount width = (width + 15) / 16
 
-abbrev pub operationOfTerm : Term → Op
+abbrev pub operationOfTerm : Term → TermOp
 operationOfTerm (c.boolLit b) = boolLit
 operationOfTerm (c.boolIte i a b) = boolIte
 operationOfTerm (c.not a) = not
@@ -126,7 +120,7 @@ operationOfTerm (c.op2 o a b) = op2 o
 operationOfTerm (c.compare o a b) = compare o
 
 abbrev pub operationOf : Call → Op
-operationOf (c.term t) = operationOfTerm t
+operationOf (c.term t) = term (operationOfTerm t)
 operationOf (c.declare name w) = declare
 operationOf (c.assert k) = assert
 operationOf c.check = check
@@ -173,20 +167,23 @@ letters = c.n ∷ c.p ∷ c.t ∷ []
 abbrev pub suffixes : List Suffix
 suffixes = c.none ∷ c.x ∷ c.y ∷ []
 
--- The call of an operation with n arguments, whose payloads are given.
+-- The term and the call of an operation with n arguments, whose payloads are given.
+abbrev pub termOf : TermOp → ℕ → (ℕ → ℕ) → Term
+termOf boolLit n a = c.boolLit (eqb (a 0) 1)
+termOf boolIte n a = c.boolIte (a 0) (a 1) (a 2)
+termOf not n a = c.not (a 0)
+termOf and n a = c.and (tab n a)
+termOf lit n a = c.lit (nat2bv (a 0) (fromDigits (tab (n - 1) (λ i. a (suc i)))))
+termOf equal n a = c.equal (a 0) (a 1)
+termOf ite n a = c.ite (a 0) (a 1) (a 2)
+termOf concat n a = c.concat (a 0) (a 1)
+termOf extract n a = c.extract (a 0) (a 1) (a 2)
+termOf bvnot n a = c.bvnot (a 0)
+termOf (op2 o) n a = c.op2 o (a 0) (a 1)
+termOf (compare o) n a = c.compare o (a 0) (a 1)
+
 abbrev pub callOf : Op → ℕ → (ℕ → ℕ) → Call
-callOf boolLit n a = c.term (c.boolLit (eqb (a 0) 1))
-callOf boolIte n a = c.term (c.boolIte (a 0) (a 1) (a 2))
-callOf not n a = c.term (c.not (a 0))
-callOf and n a = c.term (c.and (tab n a))
-callOf lit n a = c.term (c.lit (nat2bv (a 0) (fromDigits (tab (n - 1) (λ i. a (suc i))))))
-callOf equal n a = c.term (c.equal (a 0) (a 1))
-callOf ite n a = c.term (c.ite (a 0) (a 1) (a 2))
-callOf concat n a = c.term (c.concat (a 0) (a 1))
-callOf extract n a = c.term (c.extract (a 0) (a 1) (a 2))
-callOf bvnot n a = c.term (c.bvnot (a 0))
-callOf (op2 o) n a = c.term (c.op2 o (a 0) (a 1))
-callOf (compare o) n a = c.term (c.compare o (a 0) (a 1))
+callOf (term o) n a = c.term (termOf o n a)
 callOf declare n a =
     c.declare (record { letter = getD letters (a 0) c.n; index = a 1; suffix = getD suffixes (a 2) c.none }) (a 3)
 callOf assert n a = c.assert (a 0)

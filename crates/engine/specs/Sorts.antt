@@ -1,6 +1,6 @@
 -- SMT-LIB 2.6, Core and FixedSizeBitVectors: the sort of each term, and what its arguments' sorts must be.
 use mathlib.Core.Path.{_≡_}
-use mathlib.Core.Bool.{Bool, true, false}
+use mathlib.Core.Bool.{Bool, true, false, cond}
 use mathlib.Core.List.{List, [], _∷_, _++_}
 use mathlib.Core.List.{List·Memᴰ}
 use Prim.Native.Nat.{ℕ, suc, _+_, _-_, _^_, _≤_, _<_}
@@ -30,17 +30,20 @@ IsVector s = (1 ≤ s) × (s ≤ 64)
 abbrev pub sortAt : List Sort → ℕ → Sort
 sortAt sorts k = getD sorts k noSort
 
--- The sort of an operation's result, of the sort of its operands.
+-- bvcomp makes one bit, every other operation of two vectors a vector of their sort.
+abbrev pub oneBit : BinaryOp → Bool
+oneBit c.bvand = false
+oneBit c.bvor = false
+oneBit c.bvxor = false
+oneBit c.bvadd = false
+oneBit c.bvcomp = true
+oneBit c.bvshl = false
+oneBit c.bvlshr = false
+oneBit c.bvashr = false
+oneBit c.bvmul = false
+
 abbrev pub binarySort : BinaryOp → Sort → Sort
-binarySort c.bvand s = s
-binarySort c.bvor s = s
-binarySort c.bvxor s = s
-binarySort c.bvadd s = s
-binarySort c.bvcomp s = 1
-binarySort c.bvshl s = s
-binarySort c.bvlshr s = s
-binarySort c.bvashr s = s
-binarySort c.bvmul s = s
+binarySort o s = cond (oneBit o) 1 s
 
 -- The sort of a term, of the sorts of the terms so far.
 abbrev pub sortOf : List Sort → Term → Sort

@@ -9,7 +9,7 @@ use lib.Dec.{eqb, ltb}
 use Rattle.logic.specs.declared.Term.{Term}
 use Rattle.engine.specs.Call.{BinaryOp, Call}
 use Rattle.engine.specs.Call as c
-use Rattle.engine.specs.Sorts.{Sort, noSort}
+use Rattle.engine.specs.Sorts.{Sort, noSort, oneBit}
 use Rattle.engine.specs.Encode.{makesTerm, operationAt, bare, argumentAt, nextAt}
 use Rattle.engine.specs.Encode.{callAt}
 use Rattle.engine.specs.WellFormed.{declares}
@@ -21,17 +21,14 @@ use Rattle.engine.specs.declared.Origin.the-variants.{Given, Same, Joine
 abbrev termNumber : ℕ → Term
 termNumber k = record { 0 = k }
 
+-- One of two origins.
+abbrev pub choose : Bool → Origin → Origin → Origin
+choose true a b = a
+choose false a b = b
+
 -- What a call says of the sort of its term.
 abbrev pub binaryOrigin : BinaryOp → ℕ → Origin
-binaryOrigin c.bvand a = Same (termNumber a)
-binaryOrigin c.bvor a = Same (termNumber a)
-binaryOrigin c.bvxor a = Same (termNumber a)
-binaryOrigin c.bvadd a = Same (termNumber a)
-binaryOrigin c.bvcomp a = Given 1
-binaryOrigin c.bvshl a = Same (termNumber a)
-binaryOrigin c.bvlshr a = Same (termNumber a)
-binaryOrigin c.bvashr a = Same (termNumber a)
-binaryOrigin c.bvmul a = Same (termNumber a)
+binaryOrigin o a = choose (oneBit o) (Given 1) (Same (termNumber a))
 
 abbrev pub originOf : Call → Origin
 originOf (c.term (c.boolLit b)) = Given 0
@@ -75,10 +72,6 @@ sortFrom sort (Same a) = sort (a .0)
 sortFrom sort (Joined a b) = capped (sort (a .0) + sort (b .0))
 
 -- An origin that goes by terms earlier than k only; any other says no sort.
-abbrev pub choose : Bool → Origin → Origin → Origin
-choose true a b = a
-choose false a b = b
-
 abbrev pub guarded : ℕ → Origin → Origin
 guarded k (Given s) = Given s
 guarded k (Same a) = choose (ltb (a .0) k) (Same a) (Given noSort)

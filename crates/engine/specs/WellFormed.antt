@@ -39,18 +39,18 @@ literalCount n width =
     cond (isWidth width) (eqb n (1 + digitCount (payloadOf width))) (leb 2 n && leb n 5)
 
 abbrev pub countFits : Op → ℕ → ℕ → Bool
-countFits o.boolLit n first = eqb n 1
-countFits o.boolIte n first = eqb n 3
-countFits o.not n first = eqb n 1
-countFits o.and n first = leb 1 n
-countFits o.lit n first = literalCount n first
-countFits o.equal n first = eqb n 2
-countFits o.ite n first = eqb n 3
-countFits o.concat n first = eqb n 2
-countFits o.extract n first = eqb n 3
-countFits o.bvnot n first = eqb n 1
-countFits (o.op2 op) n first = eqb n 2
-countFits (o.compare op) n first = eqb n 2
+countFits (o.term o.boolLit) n first = eqb n 1
+countFits (o.term o.boolIte) n first = eqb n 3
+countFits (o.term o.not) n first = eqb n 1
+countFits (o.term o.and) n first = leb 1 n
+countFits (o.term o.lit) n first = literalCount n first
+countFits (o.term o.equal) n first = eqb n 2
+countFits (o.term o.ite) n first = eqb n 3
+countFits (o.term o.concat) n first = eqb n 2
+countFits (o.term o.extract) n first = eqb n 3
+countFits (o.term o.bvnot) n first = eqb n 1
+countFits (o.term (o.op2 op)) n first = eqb n 2
+countFits (o.term (o.compare op)) n first = eqb n 2
 countFits o.declare n first = eqb n 4
 countFits o.assert n first = eqb n 1
 countFits o.check n first = eqb n 0
@@ -68,18 +68,18 @@ abbrev pub extraction : ℕ → Argument
 extraction i = pick (eqb i 0) High (pick (eqb i 1) Low Holder)
 
 abbrev pub argumentOf : Op → ℕ → Argument
-argumentOf o.boolLit i = Flag
-argumentOf o.boolIte i = BoolTerm
-argumentOf o.not i = BoolTerm
-argumentOf o.and i = BoolTerm
-argumentOf o.lit i = pick (eqb i 0) Width (Digit (i - 1))
-argumentOf o.equal i = pick (eqb i 0) AnyTerm SameSort
-argumentOf o.ite i = pick (eqb i 0) BoolTerm (pick (eqb i 1) VectorTerm SameSort)
-argumentOf o.concat i = pick (eqb i 0) VectorTerm Joined
-argumentOf o.extract i = extraction i
-argumentOf o.bvnot i = VectorTerm
-argumentOf (o.op2 op) i = pick (eqb i 0) VectorTerm SameSort
-argumentOf (o.compare op) i = pick (eqb i 0) VectorTerm SameSort
+argumentOf (o.term o.boolLit) i = Flag
+argumentOf (o.term o.boolIte) i = BoolTerm
+argumentOf (o.term o.not) i = BoolTerm
+argumentOf (o.term o.and) i = BoolTerm
+argumentOf (o.term o.lit) i = pick (eqb i 0) Width (Digit (i - 1))
+argumentOf (o.term o.equal) i = pick (eqb i 0) AnyTerm SameSort
+argumentOf (o.term o.ite) i = pick (eqb i 0) BoolTerm (pick (eqb i 1) VectorTerm SameSort)
+argumentOf (o.term o.concat) i = pick (eqb i 0) VectorTerm Joined
+argumentOf (o.term o.extract) i = extraction i
+argumentOf (o.term o.bvnot) i = VectorTerm
+argumentOf (o.term (o.op2 op)) i = pick (eqb i 0) VectorTerm SameSort
+argumentOf (o.term (o.compare op)) i = pick (eqb i 0) VectorTerm SameSort
 argumentOf o.declare i = declaration i
 argumentOf o.assert i = BoolTerm
 argumentOf o.check i = Nothing

@@ -1,6 +1,6 @@
 -- The evaluator goes by what is written so far: numbers and sorts of earlier terms alone make the number of a term.
 use Rattle.bitvec.proofs.Laws.{bv2nat-nat2bv, length-nat2bv}
-use Rattle.bitvec.specs.Bits.{bv2nat}
+use Rattle.bitvec.specs.Bits.{Bits, bv2nat}
 use Rattle.eval.proofs.AssignedLaws.{Gives, first, rest}
 use mathlib.Core.Path.{_≡_, refl, sym, ap, _∙_}
 use mathlib.Core.Bool.{cond}
@@ -20,30 +20,34 @@ use Rattle.engine.proofs.SortsLaws.{OfSort}
 use Rattle.engine.proofs.SortLaws.{Sorted, args-earlier, sorted-snoc, denote-sort, there}
 use Rattle.engine.specs.Emit.{overwrite}
 use Rattle.engine.proofs.EmitLaws.{overwrite-append}
-use Rattle.term_values.specs.Values.{valueNumber}
 use Rattle.eval.specs.Evaluated.{falseAssertions}
-use Rattle.term_values.specs.Values.{andNumber}
-use Rattle.term_values.proofs.ValuesLaws.{valueBy, value-is}
+use Rattle.term_values.specs.Values.{valueNumber, andNumber, valueBy}
+use Rattle.term_values.proofs.ValuesLaws.{value-is}
+
+-- The number given for a literal is that of its bits.
+abbrev pub Told : (Bits → ℕ) → Term → Type 0
+Told literal t = (x : Bits) → t ≡ c.lit x → literal x ≡ bv2nat x
 
 -- Numbers and sorts of the arguments alone make the number of a term.
 and-ext : (v u : ℕ → ℕ) (args : List ℕ) → All (λ a. v a ≡ u a) args → andNumber v args ≡ andNumber u args
 and-ext v u [] h = refl
 and-ext v u (a ∷ args) h = rw (h .0, and-ext v u args (h .1))
 
-pub valueBy-ext : (s r : ℕ → Sort) (v u : ℕ → ℕ) (given : ℕ) (t : Term) → All (λ a. s a ≡ r a) (argumentsOf t)
-    → All (λ a. v a ≡ u a) (argumentsOf t) → valueBy s v given (c.term t) ≡ valueBy r u given (c.term t)
-valueBy-ext s r v u given (c.boolLit b) p q = refl
-valueBy-ext s r v u given (c.boolIte i a b) p q = rw (q .0, q .1 .0, q .1 .1 .0)
-valueBy-ext s r v u given (c.not a) p q = rw (q .0)
-valueBy-ext s r v u given (c.and args) p q = and-ext v u args q
-valueBy-ext s r v u given (c.lit x) p q = refl
-valueBy-ext s r v u given (c.equal a b) p q = rw (q .0, q .1 .0)
-valueBy-ext s r v u given (c.ite i a b) p q = rw (q .0, q .1 .0, q .1 .1 .0)
-valueBy-ext s r v u given (c.concat a b) p q = rw (p .0, p .1 .0, q .0, q .1 .0)
-valueBy-ext s r v u given (c.extract i j a) p q = rw (p .0, q .0)
-valueBy-ext s r v u given (c.bvnot a) p q = rw (p .0, q .0)
-valueBy-ext s r v u given (c.op2 o a b) p q = rw (p .0, q .0, q .1 .0)
-valueBy-ext s r v u given (c.compare o a b) p q = rw (p .0, q .0, q .1 .0)
+pub valueBy-ext : (s r : ℕ → Sort) (v u : ℕ → ℕ) (literal : Bits → ℕ) (given : ℕ) (t : Term)
+    → All (λ a. s a ≡ r a) (argumentsOf t) → All (λ a. v a ≡ u a) (argumentsOf t) → Told literal t
+    → valueBy s v literal given (c.term t) ≡ valueBy r u bv2nat given (c.term t)
+valueBy-ext s r v u literal given (c.boolLit b) p q h = refl
+valueBy-ext s r v u literal given (c.boolIte i a b) p q h = rw (q .0, q .1 .0, q .1 .1 .0)
+valueBy-ext s r v u literal given (c.not a) p q h = rw (q .0)
+valueBy-ext s r v u literal given (c.and args) p q h = and-ext v u args q
+valueBy-ext s r v u literal given (c.lit x) p q h = h x refl
+valueBy-ext s r v u literal given (c.equal a b) p q h = rw (q .0, q .1 .0)
+valueBy-ext s r v u literal given (c.ite i a b) p q h = rw (q .0, q .1 .0, q .1 .1 .0)
+valueBy-ext s r v u literal given (c.concat a b) p q h = rw (p .0, p .1 .0, q .0, q .1 .0)
+valueBy-ext s r v u literal given (c.extract i j a) p q h = rw (p .0, q .0)
+valueBy-ext s r v u literal given (c.bvnot a) p q h = rw (p .0, q .0)
+valueBy-ext s r v u literal given (c.op2 o a b) p q h = rw (p .0, q .0, q .1 .0)
+valueBy-ext s r v u literal given (c.compare o a b) p q h = rw (p .0, q .0, q .1 .0)
 
 -- A slice with the numbers of the terms so far.
 abbrev pub numbers : List Value → List ℕ
@@ -82,16 +86,18 @@ slice-more slice l v =
     map-append (u ∷ l) v = ap (λ (r : List ℕ). valueNumber u ∷ r) (map-append l v)
 
 -- The number worked out for a well-sorted term, from the slice and the sorts so far, is that of its value.
-pub term-number : (slice : List ℕ) (sorts : List Sort) (l : List Value) (s : ℕ → Sort) (given : ℕ) (t : Term) →
-    Sorted sorts l
+pub term-number : (slice : List ℕ) (sorts : List Sort) (l : List Value) (s : ℕ → Sort)
+    (literal : Bits → ℕ) (given : ℕ) (t : Term) → Sorted sorts l
     → length l ≤ length slice → ((k : ℕ) → k < length sorts → s k ≡ sortAt sorts k) → WellSorted sorts t
-    → valueBy s (λ k. getD (overwrite slice 0 (numbers l)) k 0) given (c.term t) ≡ valueNumber (denote (valueAt l) t)
-term-number slice sorts l s given t g room agrees h =
-    valueBy-ext s (sortAt sorts) (λ k. getD (overwrite slice 0 (numbers l)) k 0) (λ k. valueNumber (valueAt l k)) given
-    t
+    → Told literal t
+    → valueBy s (λ k. getD (overwrite slice 0 (numbers l)) k 0) literal given (c.term t)
+    ≡ valueNumber (denote (valueAt l) t)
+term-number slice sorts l s literal given t g room agrees h told =
+    valueBy-ext s (sortAt sorts) (λ k. getD (overwrite slice 0 (numbers l)) k 0) (λ k. valueNumber (valueAt l k))
+    literal given t
     (All-map (λ k. k < length sorts) _ agrees (argumentsOf t) (args-earlier sorts t h))
     (All-map (λ k. k < length sorts) _ (λ k b. slice-at slice l k (let e = g .many in omega arith) room) (argumentsOf t)
-    (args-earlier sorts t h))
+    (args-earlier sorts t h)) told
     ∙ value-is g given t h
 
 -- Where a list is evaluated up to a call: the calls done, which leave a context, and to do, and what is written and
@@ -160,19 +166,19 @@ module _ {cs : List Call} {ρ : Assignment} {slice₀ slice given given′ : Lis
 -- A term, a declaration, an assertion and check, each from the slice and the sorts so far.
 module _ {cs : List Call} {ρ : Assignment} {slice₀ slice given : List ℕ} {terms falses : ℕ} {todo : List Call}
     {context : Context} where
-  pub evaluating-term : (t : Term) (s : ℕ → Sort) (g : ℕ)
+  pub evaluating-term : (t : Term) (s : ℕ → Sort) (literal : Bits → ℕ) (g : ℕ)
       (e : Evaluating cs ρ slice₀ slice given (c.term t ∷ todo) terms falses context)
       → length (run ρ [] cs) ≤ length slice₀ → ((k : ℕ) → k < length (context .sorts) → s k ≡ sortAt (context .sorts) k)
-      → Evaluating cs ρ slice₀ (set slice terms (valueBy s (λ k. getD slice k 0) g (c.term t))) given todo (terms + 1)
-      falses
-      (after context (c.term t))
+      → Told literal t
+      → Evaluating cs ρ slice₀ (set slice terms (valueBy s (λ k. getD slice k 0) literal g (c.term t))) given todo
+      (terms + 1) falses (after context (c.term t))
   unfolding run Gives falseAssertions
-  evaluating-term t s g e room agrees =
+  evaluating-term t s literal g e room agrees told =
       let l = run ρ [] (e .done) in
-      let number : valueBy s (λ k. getD slice k 0) g (c.term t) ≡ valueNumber (denote (valueAt l) t) =
+      let number : valueBy s (λ k. getD slice k 0) literal g (c.term t) ≡ valueNumber (denote (valueAt l) t) =
       rw (e .written)
-      (term-number slice₀ (context .sorts) l s g t (e .sorted)
-      (fits ρ cs (e .done) (c.term t ∷ todo) (length slice₀) (e .split) room) agrees (e .formed .1 .0)) in
+      (term-number slice₀ (context .sorts) l s literal g t (e .sorted)
+      (fits ρ cs (e .done) (c.term t ∷ todo) (length slice₀) (e .split) room) agrees (e .formed .1 .0) told) in
       rw number
       (evaluating-made e (sortOf (context .sorts) t) (denote (valueAt l) t) refl refl
       (denote-sort (e .sorted) t (e .formed .1 .0)) (e .gives) refl)

@@ -11,7 +11,7 @@ use lib.ListN.{length, getD, set, drop, drop-of-length-le}
 use lib.Seq.{drop-cons, getD-drop}
 use lib.Dec.{eqb, ltb}
 use borrow.Author.Tests.{ltb-true, ltb-false, lt-ltb}
-use Rattle.bitvec.specs.Bits.{bit}
+use Rattle.bitvec.specs.Bits.{Bits, bit, bv2nat}
 use Rattle.engine.specs.Call.{Call, Name}
 use Rattle.engine.specs.Call as c
 use Rattle.engine.specs.Meaning.{Assignment, valueAt, run}
@@ -36,14 +36,13 @@ use Rattle.term_table.proofs.NearLaws.{Recent, recent-start, ring-more, near-is
 use Rattle.checker.specs.Tables.{pickPlace}
 use Rattle.call_list.proofs.CursorsLaws.{nothingRead, cursorNext, bit-low}
 use Rattle.call_list.specs.declared.Cursor.{Cursor}
-use Rattle.term_values.specs.Values.{valueNumber}
+use Rattle.term_values.specs.Values.{valueNumber, valueBy}
 use Rattle.eval.specs.Evaluated.{assigned, falseAssertions, bitsFault, termValues}
-use Rattle.term_values.proofs.ValuesLaws.{valueBy}
 use Rattle.eval.proofs.AssignedLaws.{first, rest, assigned-gives, assigned-fits}
 use Rattle.eval.proofs.Evaluating.{Evaluating, evaluating-start, evaluating-term, evaluating-declare}
 use Rattle.eval.proofs.Evaluating.{evaluating-assert, evaluating-check, evaluating-end}
-use Rattle.term_values.specs.Records.{numberIn, sortBelow}
-use Rattle.term_values.proofs.RecordsLaws.{record-value}
+use Rattle.term_values.specs.Records.{numberIn, sortBelow, literalValue}
+use Rattle.term_values.proofs.RecordsLaws.{literal-value}
 use Rattle.eval.specs.Records.{bitsWrong, wrongBits, falseOf, valuesNext}
 use Rattle.eval.proofs.RecordsLaws.{falseBy}
 use Rattle.eval.specs.Evaluable.{Evaluable}
@@ -80,18 +79,7 @@ fault-op : (op : Op) (m : ℕ) (p : ℕ → ℕ) (cs : List Call) (l : List ℕ)
     ≡ pickPlace (cond (isDeclare op) (bitsWrong l d (p 3)) false) (some k)
     (bitsFault (k + bit (makesTerm op)) cs (drop (d + bit (isDeclare op)) l))
 unfolding bitsFault
-fault-op o.boolLit m p cs l k d = rw (add-one k, add-zero d)
-fault-op o.boolIte m p cs l k d = rw (add-one k, add-zero d)
-fault-op o.not m p cs l k d = rw (add-one k, add-zero d)
-fault-op o.and m p cs l k d = rw (add-one k, add-zero d)
-fault-op o.lit m p cs l k d = rw (add-one k, add-zero d)
-fault-op o.equal m p cs l k d = rw (add-one k, add-zero d)
-fault-op o.ite m p cs l k d = rw (add-one k, add-zero d)
-fault-op o.concat m p cs l k d = rw (add-one k, add-zero d)
-fault-op o.extract m p cs l k d = rw (add-one k, add-zero d)
-fault-op o.bvnot m p cs l k d = rw (add-one k, add-zero d)
-fault-op (o.op2 op) m p cs l k d = rw (add-one k, add-zero d)
-fault-op (o.compare op) m p cs l k d = rw (add-one k, add-zero d)
+fault-op (o.term op) m p cs l k d = rw (add-one k, add-zero d)
 fault-op o.declare m p cs l k d = rw (add-one k, add-one d) (declare-fault k (nameOf p) (p 3) cs l d)
 fault-op o.assert m p cs l k d = rw (add-zero k, add-zero d)
 fault-op o.check m p cs l k d = rw (add-zero k, add-zero d)
@@ -158,49 +146,30 @@ module _ {w bits : List ℕ} {done : Cursor} (k : BitsTo w bits done) where
 -- ---- numbers and counts
 
 module _ {cs : List Call} {ρ : Assignment} {slice₀ slice : List ℕ} {terms falses : ℕ} {todo : List Call} {x : Context}
-    (bits : List ℕ) (declared : ℕ) (s : ℕ → Sort) (room : length (run ρ [] cs) ≤ length slice₀)
+    (bits : List ℕ) (declared : ℕ) (s : ℕ → Sort) (literal : Bits → ℕ)
+    (room : length (run ρ [] cs) ≤ length slice₀)
     (agrees : (k : ℕ) → k < length (x .sorts) → s k ≡ sortAt (x .sorts) k) where
   -- A call, by its operation and payloads: its number is written, if it makes a term, and counted, if it is a false
   -- assertion.
   evaluating-op : (op : Op) (m : ℕ) (p : ℕ → ℕ)
+      → ((b : Bits) → callOf op m p ≡ c.term (c.lit b) → literal b ≡ bv2nat b)
       → Evaluating cs ρ slice₀ slice (drop declared bits) (callOf op m p ∷ todo) terms falses x
       → (isDeclare op ≡ true → first (drop declared bits) < 2 ^ p 3)
       → Evaluating cs ρ slice₀
       (pickList (makesTerm op)
-      (set slice terms (valueBy s (numberIn slice) (first (drop declared bits)) (callOf op m p))) slice)
+      (set slice terms (valueBy s (numberIn slice) literal (first (drop declared bits)) (callOf op m p))) slice)
       (drop (declared + bit (isDeclare op)) bits) todo (terms + bit (makesTerm op))
       (falses + falseOf op (numberIn slice (p 0)))
       (after x (callOf op m p))
-  evaluating-op o.boolLit m p e low =
-      rw (add-zero declared, add-zero falses) (evaluating-term _ s (first (drop declared bits)) e room agrees)
-  evaluating-op o.boolIte m p e low =
-      rw (add-zero declared, add-zero falses) (evaluating-term _ s (first (drop declared bits)) e room agrees)
-  evaluating-op o.not m p e low =
-      rw (add-zero declared, add-zero falses) (evaluating-term _ s (first (drop declared bits)) e room agrees)
-  evaluating-op o.and m p e low =
-      rw (add-zero declared, add-zero falses) (evaluating-term _ s (first (drop declared bits)) e room agrees)
-  evaluating-op o.lit m p e low =
-      rw (add-zero declared, add-zero falses) (evaluating-term _ s (first (drop declared bits)) e room agrees)
-  evaluating-op o.equal m p e low =
-      rw (add-zero declared, add-zero falses) (evaluating-term _ s (first (drop declared bits)) e room agrees)
-  evaluating-op o.ite m p e low =
-      rw (add-zero declared, add-zero falses) (evaluating-term _ s (first (drop declared bits)) e room agrees)
-  evaluating-op o.concat m p e low =
-      rw (add-zero declared, add-zero falses) (evaluating-term _ s (first (drop declared bits)) e room agrees)
-  evaluating-op o.extract m p e low =
-      rw (add-zero declared, add-zero falses) (evaluating-term _ s (first (drop declared bits)) e room agrees)
-  evaluating-op o.bvnot m p e low =
-      rw (add-zero declared, add-zero falses) (evaluating-term _ s (first (drop declared bits)) e room agrees)
-  evaluating-op (o.op2 op) m p e low =
-      rw (add-zero declared, add-zero falses) (evaluating-term _ s (first (drop declared bits)) e room agrees)
-  evaluating-op (o.compare op) m p e low =
-      rw (add-zero declared, add-zero falses) (evaluating-term _ s (first (drop declared bits)) e room agrees)
-  evaluating-op o.declare m p e low =
+  evaluating-op (o.term op) m p told e low =
+      rw (add-zero declared, add-zero falses)
+      (evaluating-term _ s literal (first (drop declared bits)) e room agrees (λ b q. told b (ap c.term q)))
+  evaluating-op o.declare m p told e low =
       rw (add-one declared, add-zero falses, ← rest-drop bits declared)
       (evaluating-declare (nameOf p) (p 3) e (low refl))
-  evaluating-op o.assert m p e low = rw (add-zero declared, add-zero terms) (evaluating-assert (p 0) e room)
-  evaluating-op o.check m p e low = rw (add-zero declared, add-zero terms, add-zero falses) (evaluating-check e)
-  evaluating-op o.unknown m p e low = rw (add-zero declared, add-zero terms, add-zero falses) (evaluating-check e)
+  evaluating-op o.assert m p told e low = rw (add-zero declared, add-zero terms) (evaluating-assert (p 0) e room)
+  evaluating-op o.check m p told e low = rw (add-zero declared, add-zero terms, add-zero falses) (evaluating-check e)
+  evaluating-op o.unknown m p told e low = rw (add-zero declared, add-zero terms, add-zero falses) (evaluating-check e)
 
 -- The bits fit where no fault of them is found.
 no-fault : (b : Bool) (k : ℕ) (later : Option ℕ) → pickPlace b (some k) later ≡ none → (b ≡ false) × (later ≡ none)
@@ -219,20 +188,9 @@ bits-low bits declared width = go (ltb declared (length bits)) (ltb (getD bits d
 
 -- An operation is at most one false assertion.
 pub false-low : (op : Op) (v : ℕ) → falseOf op v ≤ 1
-false-low o.assert v = bit-low (eqb v 0)
-false-low o.boolLit v = omega arith
-false-low o.boolIte v = omega arith
-false-low o.not v = omega arith
-false-low o.and v = omega arith
-false-low o.lit v = omega arith
-false-low o.equal v = omega arith
-false-low o.ite v = omega arith
-false-low o.concat v = omega arith
-false-low o.extract v = omega arith
-false-low o.bvnot v = omega arith
-false-low (o.op2 op) v = omega arith
-false-low (o.compare op) v = omega arith
+false-low (o.term op) v = omega arith
 false-low o.declare v = omega arith
+false-low o.assert v = bit-low (eqb v 0)
 false-low o.check v = omega arith
 false-low o.unknown v = omega arith
 
@@ -298,18 +256,17 @@ module _ {gap : ℕ} {w bits slice₀ table places slice recent : List ℕ} {don
           no-fault (wrongBits w bits (done .declared) (done .at)) (done .terms) _
           (sym (fault-step w bits (done .at) (done .terms) (done .declared) inside n) ∙ fits) in
           let given = first-drop bits (done .declared) in
-          let value =
-          record-value sort slice w (done .terms) (getD bits (done .declared) 0) (done .at) (k .context) (right .0) in
           let next =
-          evaluating-op bits (done .declared) (sortBelow sort (done .terms)) (k .room)
+          evaluating-op bits (done .declared) (sortBelow sort (done .terms)) (λ b. literalValue w (done .at)) (k .room)
           (λ j h. rw (lt-ltb j (done .terms) (let c = k .read .counts in omega arith)) (says j h))
-          operation (countAt w (done .at)) (payloads w (done .at)) (rw (calls-step n w (done .at) inside) at e)
+          operation (countAt w (done .at)) (payloads w (done .at))
+          (literal-value w (done .at) (k .context) (right .0)) (rw (calls-step n w (done .at) inside) at e)
           (λ d. rw given (bits-low bits (done .declared) (payloads w (done .at) 3) (rw d at (clear .0)))) in
           record {
             leaving = k .leaving;
             context = after (k .context) (callAt w (done .at));
             fuel = n;
-            evaluating = rw (value, ← given) next;
+            evaluating = rw (← given) next;
             read =
                 read-next (k .read) (right .0) table _
                 (tabled-before n table w (nextAt bare w (done .at)) (after (k .context) (callAt w (done .at)))

@@ -21,20 +21,9 @@ wrongBits w bits declared at = cond (isDeclare (operationAt w at)) (bitsWrong bi
 
 -- A false assertion: of a term whose number is 0.
 abbrev pub falseOf : Op → ℕ → ℕ
-falseOf o.assert value = cond (eqb value 0) 1 0
-falseOf o.boolLit value = 0
-falseOf o.boolIte value = 0
-falseOf o.not value = 0
-falseOf o.and value = 0
-falseOf o.lit value = 0
-falseOf o.equal value = 0
-falseOf o.ite value = 0
-falseOf o.concat value = 0
-falseOf o.extract value = 0
-falseOf o.bvnot value = 0
-falseOf (o.op2 op) value = 0
-falseOf (o.compare op) value = 0
+falseOf (o.term op) value = 0
 falseOf o.declare value = 0
+falseOf o.assert value = cond (eqb value 0) 1 0
 falseOf o.check value = 0
 falseOf o.unknown value = 0
 

@@ -40,18 +40,7 @@ fn false_of(operation: Operation, value: u64) -> usize
     ensures { λ r. ⌜ r ≡ falseOf (opFrom operation) value ⌝ }
 {
     match operation {
-        Operation::BoolLit => 0,
-        Operation::BoolIte => 0,
-        Operation::Not => 0,
-        Operation::And => 0,
-        Operation::Lit => 0,
-        Operation::Equal => 0,
-        Operation::Ite => 0,
-        Operation::Concat => 0,
-        Operation::Extract => 0,
-        Operation::BvNot => 0,
-        Operation::Binary(_) => 0,
-        Operation::Compare(_) => 0,
+        Operation::Term(_) => 0,
         Operation::Declare => 0,
         Operation::Assert => checker::number(value == 0),
         Operation::Check => 0,

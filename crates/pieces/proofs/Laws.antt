@@ -23,18 +23,7 @@ use Rattle.pieces.specs.Arguments.{referenceBy}
 -- A declared term is written by its name, any other by its number.
 spelled-by : (op : Op) (n : ℕ) (a : ℕ → ℕ) (k : ℕ)
     → spelledAs k (callOf op n a) ≡ cond (isDeclare op) (nameText (nameOf a)) (numbered k)
-spelled-by o.boolLit n a k = refl
-spelled-by o.boolIte n a k = refl
-spelled-by o.not n a k = refl
-spelled-by o.and n a k = refl
-spelled-by o.lit n a k = refl
-spelled-by o.equal n a k = refl
-spelled-by o.ite n a k = refl
-spelled-by o.concat n a k = refl
-spelled-by o.extract n a k = refl
-spelled-by o.bvnot n a k = refl
-spelled-by (o.op2 op) n a k = refl
-spelled-by (o.compare op) n a k = refl
+spelled-by (o.term op) n a k = refl
 spelled-by o.declare n a k = refl
 spelled-by o.assert n a k = refl
 spelled-by o.check n a k = refl
@@ -112,7 +101,8 @@ module _ (f : ℕ → List ℕ) where
   unfolding tab
   conjunction-one n e = rw e
 
-  pub conjunction-more : (n : ℕ) → (n ≡ 1 → ⊥) → conjunction (tab n f) ≡ applied (operationText o.and) (tab n f)
+  pub conjunction-more : (n : ℕ) → (n ≡ 1 → ⊥)
+      → conjunction (tab n f) ≡ applied (operationText (o.term o.and)) (tab n f)
   unfolding tab
   conjunction-more zero e = refl
   conjunction-more (suc zero) e = absurd (e refl)

@@ -12,18 +12,7 @@ use Rattle.pieces.specs.declared.Body.the-variants as body
 
 -- A term is defined, a name declared.
 abbrev pub lineOf : Op → Line
-lineOf o.boolLit = Define
-lineOf o.boolIte = Define
-lineOf o.not = Define
-lineOf o.and = Define
-lineOf o.lit = Define
-lineOf o.equal = Define
-lineOf o.ite = Define
-lineOf o.concat = Define
-lineOf o.extract = Define
-lineOf o.bvnot = Define
-lineOf (o.op2 op) = Define
-lineOf (o.compare op) = Define
+lineOf (o.term op) = Define
 lineOf o.declare = Declare
 lineOf o.assert = Assert
 lineOf o.check = Check
@@ -31,18 +20,18 @@ lineOf o.unknown = Check
 
 -- A term is an operation applied to its arguments, but for literals, an and and an extract.
 abbrev pub bodyOf : Op → Body
-bodyOf o.boolLit = body.Bool
-bodyOf o.boolIte = body.Application
-bodyOf o.not = body.Application
-bodyOf o.and = body.And
-bodyOf o.lit = body.Literal
-bodyOf o.equal = body.Application
-bodyOf o.ite = body.Application
-bodyOf o.concat = body.Application
-bodyOf o.extract = body.Extract
-bodyOf o.bvnot = body.Application
-bodyOf (o.op2 op) = body.Application
-bodyOf (o.compare op) = body.Application
+bodyOf (o.term o.boolLit) = body.Bool
+bodyOf (o.term o.boolIte) = body.Application
+bodyOf (o.term o.not) = body.Application
+bodyOf (o.term o.and) = body.And
+bodyOf (o.term o.lit) = body.Literal
+bodyOf (o.term o.equal) = body.Application
+bodyOf (o.term o.ite) = body.Application
+bodyOf (o.term o.concat) = body.Application
+bodyOf (o.term o.extract) = body.Extract
+bodyOf (o.term o.bvnot) = body.Application
+bodyOf (o.term (o.op2 op)) = body.Application
+bodyOf (o.term (o.compare op)) = body.Application
 bodyOf o.declare = body.Application
 bodyOf o.assert = body.Application
 bodyOf o.check = body.Application

@@ -36,6 +36,6 @@ applied operation arguments = ascii "(" ++ operation ++ spaced arguments ++ asci
 
 -- An and of one argument is that argument's name.
 abbrev pub conjunction : List (List ℕ) → List ℕ
-conjunction [] = applied (operationText o.and) []
+conjunction [] = applied (operationText (o.term o.and)) []
 conjunction (a ∷ []) = a
-conjunction (a ∷ b ∷ rest) = applied (operationText o.and) (a ∷ b ∷ rest)
+conjunction (a ∷ b ∷ rest) = applied (operationText (o.term o.and)) (a ∷ b ∷ rest)

@@ -1,6 +1,7 @@
 // The pieces of a script's lines: names, terms and applications as SMT-LIB text in a lent slice of bytes. Each function
 // writes a piece from a place on and gives the next place; past the slice's end it only counts.
 use call_list::Operation;
+use call_list::TermOp;
 use logic::Term;
 ghost use mathlib.Core.Path.{_≡_};
 ghost use mathlib.Core.List.{_∷_, [], _++_};
@@ -46,18 +47,7 @@ pub fn line_of(operation: Operation) -> Line
     ensures { λ r. ⌜ r ≡ lineOf (opFrom operation) ⌝ }
 {
     match operation {
-        Operation::BoolLit => Line::Define,
-        Operation::BoolIte => Line::Define,
-        Operation::Not => Line::Define,
-        Operation::And => Line::Define,
-        Operation::Lit => Line::Define,
-        Operation::Equal => Line::Define,
-        Operation::Ite => Line::Define,
-        Operation::Concat => Line::Define,
-        Operation::Extract => Line::Define,
-        Operation::BvNot => Line::Define,
-        Operation::Binary(_) => Line::Define,
-        Operation::Compare(_) => Line::Define,
+        Operation::Term(_) => Line::Define,
         Operation::Declare => Line::Declare,
         Operation::Assert => Line::Assert,
         Operation::Check => Line::Check,
@@ -70,18 +60,20 @@ pub fn body_of(operation: Operation) -> Body
     ensures { λ r. ⌜ r ≡ bodyOf (opFrom operation) ⌝ }
 {
     match operation {
-        Operation::BoolLit => Body::Bool,
-        Operation::BoolIte => Body::Application,
-        Operation::Not => Body::Application,
-        Operation::And => Body::And,
-        Operation::Lit => Body::Literal,
-        Operation::Equal => Body::Application,
-        Operation::Ite => Body::Application,
-        Operation::Concat => Body::Application,
-        Operation::Extract => Body::Extract,
-        Operation::BvNot => Body::Application,
-        Operation::Binary(_) => Body::Application,
-        Operation::Compare(_) => Body::Application,
+        Operation::Term(term) => match term {
+            TermOp::BoolLit => Body::Bool,
+            TermOp::BoolIte => Body::Application,
+            TermOp::Not => Body::Application,
+            TermOp::And => Body::And,
+            TermOp::Lit => Body::Literal,
+            TermOp::Equal => Body::Application,
+            TermOp::Ite => Body::Application,
+            TermOp::Concat => Body::Application,
+            TermOp::Extract => Body::Extract,
+            TermOp::BvNot => Body::Application,
+            TermOp::Binary(_) => Body::Application,
+            TermOp::Compare(_) => Body::Application,
+        },
         Operation::Declare => Body::Application,
         Operation::Assert => Body::Application,
         Operation::Check => Body::Application,
@@ -268,7 +260,16 @@ pub fn put_conjunction(
         let term = Term(call_list::argument_at(calls, head, 0));
         return put_reference(text, at, calls, places, terms, term);
     }
-    put_application(text, at, calls, places, terms, head, Operation::And, n)
+    put_application(
+        text,
+        at,
+        calls,
+        places,
+        terms,
+        head,
+        Operation::Term(TermOp::And),
+        n,
+    )
 }
 
 // Writes the part of a vector that a record takes out.

@@ -33,18 +33,18 @@ lineBy Check before op n a = ascii "(check-sat)\n"
 pub line-by : (op : Op) (n : ℕ) (a : ℕ → ℕ) (first : ℕ) (before : List Call) → countFits op n first ≡ true
     → line before (callOf op n a) ≡ lineBy (lineOf op) before op n a
 unfolding tab
-line-by o.boolLit n a first before fits = refl
-line-by o.boolIte n a first before fits = rw (eqb-true n 3 fits)
-line-by o.not n a first before fits = rw (eqb-true n 1 fits)
-line-by o.and n a first before fits = rw (map-tab (reference before) n a)
-line-by o.lit n a first before fits = refl
-line-by o.equal n a first before fits = rw (eqb-true n 2 fits)
-line-by o.ite n a first before fits = rw (eqb-true n 3 fits)
-line-by o.concat n a first before fits = rw (eqb-true n 2 fits)
-line-by o.extract n a first before fits = refl
-line-by o.bvnot n a first before fits = rw (eqb-true n 1 fits)
-line-by (o.op2 op) n a first before fits = rw (eqb-true n 2 fits)
-line-by (o.compare op) n a first before fits = rw (eqb-true n 2 fits)
+line-by (o.term o.boolLit) n a first before fits = refl
+line-by (o.term o.boolIte) n a first before fits = rw (eqb-true n 3 fits)
+line-by (o.term o.not) n a first before fits = rw (eqb-true n 1 fits)
+line-by (o.term o.and) n a first before fits = rw (map-tab (reference before) n a)
+line-by (o.term o.lit) n a first before fits = refl
+line-by (o.term o.equal) n a first before fits = rw (eqb-true n 2 fits)
+line-by (o.term o.ite) n a first before fits = rw (eqb-true n 3 fits)
+line-by (o.term o.concat) n a first before fits = rw (eqb-true n 2 fits)
+line-by (o.term o.extract) n a first before fits = refl
+line-by (o.term o.bvnot) n a first before fits = rw (eqb-true n 1 fits)
+line-by (o.term (o.op2 op)) n a first before fits = rw (eqb-true n 2 fits)
+line-by (o.term (o.compare op)) n a first before fits = rw (eqb-true n 2 fits)
 line-by o.declare n a first before fits = refl
 line-by o.assert n a first before fits = refl
 line-by o.check n a first before fits = refl

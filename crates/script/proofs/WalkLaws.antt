@@ -56,37 +56,26 @@ said-sort x (c.assert k) h = (refl, tt)
 said-sort x c.check h = (refl, tt)
 
 -- Only a literal is written as one, and every line that defines a term makes it.
-lit-body : (op : Op) → bodyOf op ≡ Literal → op ≡ o.lit
-lit-body o.boolLit e = let z : _≡_ {A = ℕ} 0 1 = cc in absurd (omega arith)
-lit-body o.boolIte e = let z : _≡_ {A = ℕ} 0 1 = cc in absurd (omega arith)
-lit-body o.not e = let z : _≡_ {A = ℕ} 0 1 = cc in absurd (omega arith)
-lit-body o.and e = let z : _≡_ {A = ℕ} 0 1 = cc in absurd (omega arith)
-lit-body o.lit e = refl
-lit-body o.equal e = let z : _≡_ {A = ℕ} 0 1 = cc in absurd (omega arith)
-lit-body o.ite e = let z : _≡_ {A = ℕ} 0 1 = cc in absurd (omega arith)
-lit-body o.concat e = let z : _≡_ {A = ℕ} 0 1 = cc in absurd (omega arith)
-lit-body o.extract e = let z : _≡_ {A = ℕ} 0 1 = cc in absurd (omega arith)
-lit-body o.bvnot e = let z : _≡_ {A = ℕ} 0 1 = cc in absurd (omega arith)
-lit-body (o.op2 op) e = let z : _≡_ {A = ℕ} 0 1 = cc in absurd (omega arith)
-lit-body (o.compare op) e = let z : _≡_ {A = ℕ} 0 1 = cc in absurd (omega arith)
+lit-body : (op : Op) → bodyOf op ≡ Literal → op ≡ o.term o.lit
+lit-body (o.term o.boolLit) e = let z : _≡_ {A = ℕ} 0 1 = cc in absurd (omega arith)
+lit-body (o.term o.boolIte) e = let z : _≡_ {A = ℕ} 0 1 = cc in absurd (omega arith)
+lit-body (o.term o.not) e = let z : _≡_ {A = ℕ} 0 1 = cc in absurd (omega arith)
+lit-body (o.term o.and) e = let z : _≡_ {A = ℕ} 0 1 = cc in absurd (omega arith)
+lit-body (o.term o.lit) e = refl
+lit-body (o.term o.equal) e = let z : _≡_ {A = ℕ} 0 1 = cc in absurd (omega arith)
+lit-body (o.term o.ite) e = let z : _≡_ {A = ℕ} 0 1 = cc in absurd (omega arith)
+lit-body (o.term o.concat) e = let z : _≡_ {A = ℕ} 0 1 = cc in absurd (omega arith)
+lit-body (o.term o.extract) e = let z : _≡_ {A = ℕ} 0 1 = cc in absurd (omega arith)
+lit-body (o.term o.bvnot) e = let z : _≡_ {A = ℕ} 0 1 = cc in absurd (omega arith)
+lit-body (o.term (o.op2 op)) e = let z : _≡_ {A = ℕ} 0 1 = cc in absurd (omega arith)
+lit-body (o.term (o.compare op)) e = let z : _≡_ {A = ℕ} 0 1 = cc in absurd (omega arith)
 lit-body o.declare e = let z : _≡_ {A = ℕ} 0 1 = cc in absurd (omega arith)
 lit-body o.assert e = let z : _≡_ {A = ℕ} 0 1 = cc in absurd (omega arith)
 lit-body o.check e = let z : _≡_ {A = ℕ} 0 1 = cc in absurd (omega arith)
 lit-body o.unknown e = let z : _≡_ {A = ℕ} 0 1 = cc in absurd (omega arith)
 
 defines-term : (op : Op) → lineOf op ≡ Define → makesTerm op ≡ true
-defines-term o.boolLit e = refl
-defines-term o.boolIte e = refl
-defines-term o.not e = refl
-defines-term o.and e = refl
-defines-term o.lit e = refl
-defines-term o.equal e = refl
-defines-term o.ite e = refl
-defines-term o.concat e = refl
-defines-term o.extract e = refl
-defines-term o.bvnot e = refl
-defines-term (o.op2 op) e = refl
-defines-term (o.compare op) e = refl
+defines-term (o.term op) e = refl
 defines-term o.declare e = refl
 defines-term o.assert e = let z : _≡_ {A = ℕ} 0 1 = cc in absurd (omega arith)
 defines-term o.check e = let z : _≡_ {A = ℕ} 0 1 = cc in absurd (omega arith)

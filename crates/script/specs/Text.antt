@@ -17,17 +17,17 @@ use Rattle.asked.specs.Ending.{ending}
 -- A term, of the texts of its arguments.
 abbrev pub termText : (ℕ → List ℕ) → Term → List ℕ
 termText r (c.boolLit b) = boolText b
-termText r (c.boolIte i a b) = applied (operationText o.boolIte) (r i ∷ r a ∷ r b ∷ [])
-termText r (c.not a) = applied (operationText o.not) (r a ∷ [])
+termText r (c.boolIte i a b) = applied (operationText (o.term o.boolIte)) (r i ∷ r a ∷ r b ∷ [])
+termText r (c.not a) = applied (operationText (o.term o.not)) (r a ∷ [])
 termText r (c.and args) = conjunction (map r args)
 termText r (c.lit s) = literalText s
-termText r (c.equal a b) = applied (operationText o.equal) (r a ∷ r b ∷ [])
-termText r (c.ite i a b) = applied (operationText o.ite) (r i ∷ r a ∷ r b ∷ [])
-termText r (c.concat a b) = applied (operationText o.concat) (r a ∷ r b ∷ [])
+termText r (c.equal a b) = applied (operationText (o.term o.equal)) (r a ∷ r b ∷ [])
+termText r (c.ite i a b) = applied (operationText (o.term o.ite)) (r i ∷ r a ∷ r b ∷ [])
+termText r (c.concat a b) = applied (operationText (o.term o.concat)) (r a ∷ r b ∷ [])
 termText r (c.extract m l a) = applied (extractText m l) (r a ∷ [])
-termText r (c.bvnot a) = applied (operationText o.bvnot) (r a ∷ [])
-termText r (c.op2 op a b) = applied (operationText (o.op2 op)) (r a ∷ r b ∷ [])
-termText r (c.compare op a b) = applied (operationText (o.compare op)) (r a ∷ r b ∷ [])
+termText r (c.bvnot a) = applied (operationText (o.term o.bvnot)) (r a ∷ [])
+termText r (c.op2 op a b) = applied (operationText (o.term (o.op2 op))) (r a ∷ r b ∷ [])
+termText r (c.compare op a b) = applied (operationText (o.term (o.compare op))) (r a ∷ r b ∷ [])
 
 -- The line of a call after others; it ends in a line feed.
 abbrev pub line : List Call → Call → List ℕ

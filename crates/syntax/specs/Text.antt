@@ -44,18 +44,18 @@ compareText c.bvslt = ascii "bvslt"
 
 -- The name of an operation; one that is not applied by name has none.
 abbrev pub operationText : Op → List ℕ
-operationText o.boolLit = []
-operationText o.boolIte = ascii "ite"
-operationText o.not = ascii "not"
-operationText o.and = ascii "and"
-operationText o.lit = []
-operationText o.equal = ascii "="
-operationText o.ite = ascii "ite"
-operationText o.concat = ascii "concat"
-operationText o.extract = []
-operationText o.bvnot = ascii "bvnot"
-operationText (o.op2 op) = binaryText op
-operationText (o.compare op) = compareText op
+operationText (o.term o.boolLit) = []
+operationText (o.term o.boolIte) = ascii "ite"
+operationText (o.term o.not) = ascii "not"
+operationText (o.term o.and) = ascii "and"
+operationText (o.term o.lit) = []
+operationText (o.term o.equal) = ascii "="
+operationText (o.term o.ite) = ascii "ite"
+operationText (o.term o.concat) = ascii "concat"
+operationText (o.term o.extract) = []
+operationText (o.term o.bvnot) = ascii "bvnot"
+operationText (o.term (o.op2 op)) = binaryText op
+operationText (o.term (o.compare op)) = compareText op
 operationText o.declare = []
 operationText o.assert = []
 operationText o.check = []

@@ -1,6 +1,7 @@
 // SMT-LIB's texts of operations, sorts and literals, in a lent slice of bytes. Each function writes a text from a place
 // on and gives the next place; past the slice's end it only counts.
 use call_list::Operation;
+use call_list::TermOp;
 use engine::BinaryOp;
 use engine::Compare;
 ghost use Prim.Native.Nat.{_-_};
@@ -43,18 +44,20 @@ pub fn put_operation(text: &mut [u8], at: usize, operation: Operation) -> usize
     ensures { λ r. ⌜ Wrote (now (text .entry)) at (operationText (opFrom operation)) (now (text .exit)) r ⌝ }
 {
     match operation {
-        Operation::BoolLit => at,
-        Operation::BoolIte => text::put_bytes(text, at, b"ite"),
-        Operation::Not => text::put_bytes(text, at, b"not"),
-        Operation::And => text::put_bytes(text, at, b"and"),
-        Operation::Lit => at,
-        Operation::Equal => text::put_bytes(text, at, b"="),
-        Operation::Ite => text::put_bytes(text, at, b"ite"),
-        Operation::Concat => text::put_bytes(text, at, b"concat"),
-        Operation::Extract => at,
-        Operation::BvNot => text::put_bytes(text, at, b"bvnot"),
-        Operation::Binary(op) => put_binary(text, at, op),
-        Operation::Compare(op) => put_compare(text, at, op),
+        Operation::Term(term) => match term {
+            TermOp::BoolLit => at,
+            TermOp::BoolIte => text::put_bytes(text, at, b"ite"),
+            TermOp::Not => text::put_bytes(text, at, b"not"),
+            TermOp::And => text::put_bytes(text, at, b"and"),
+            TermOp::Lit => at,
+            TermOp::Equal => text::put_bytes(text, at, b"="),
+            TermOp::Ite => text::put_bytes(text, at, b"ite"),
+            TermOp::Concat => text::put_bytes(text, at, b"concat"),
+            TermOp::Extract => at,
+            TermOp::BvNot => text::put_bytes(text, at, b"bvnot"),
+            TermOp::Binary(op) => put_binary(text, at, op),
+            TermOp::Compare(op) => put_compare(text, at, op),
+        },
         Operation::Declare => at,
         Operation::Assert => at,
         Operation::Check => at,

@@ -1,4 +1,3 @@
-pub mod Origins
 pub mod Tables
 pub mod Near
 pub mod Sorted

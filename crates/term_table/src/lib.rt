@@ -1,6 +1,7 @@
 // The terms of a call list: what a record says of its term's sort, and a table with the sort and the place of the first
 // terms, past which a ring has the sorts of the latest, and the records of the others are searched.
 use call_list::Operation;
+use call_list::TermOp;
 use engine::BinaryOp;
 use engine::Origin;
 use logic::Term;
@@ -8,11 +9,9 @@ ghost use mathlib.Core.Path.{_≡_};
 ghost use Prim.Native.Nat.{suc, _+_, _-_, _/_, _%_, _<_, _^_};
 ghost use lib.ListN.{length, getD, set};
 ghost use lib.Dec.{leb};
-ghost use Rattle.engine.specs.Encode.{callOf, callAt};
+ghost use Rattle.engine.specs.Encode.{callAt};
 ghost use Rattle.engine.specs.Structure.{binaryOrigin, originOf, capped, guarded};
 ghost use Rattle.engine.specs.Emit.{binaryOf};
-ghost use Rattle.call_list.specs.Operations.{opFrom};
-ghost use Rattle.term_table.specs.Origins.{payloads};
 ghost use Rattle.term_table.specs.Tables.{pickList, recordSort, placeBy};
 ghost use Rattle.term_table.specs.Near.{placeNear, isRecent, originNear, sortNear, recordBy};
 ghost use Rattle.term_table.specs.Near.{noteSort, noteRecent, notePlace};
@@ -40,31 +39,6 @@ fn binary_origin(op: BinaryOp, a: Term) -> Origin
     }
 }
 
-// What an operation with these payloads says of its term's sort.
-fn origin_of(operation: Operation, a: u32, b: u32, w: u32) -> Origin
-    requires { ⌜ a < 2 ^ 29 ⌝ }
-    ensures { λ r. ⌜ r ≡ originOf (callOf (opFrom operation) 0 (payloads a b w)) ⌝ }
-{
-    match operation {
-        Operation::BoolLit => Origin::Given(0),
-        Operation::BoolIte => Origin::Given(0),
-        Operation::Not => Origin::Given(0),
-        Operation::And => Origin::Given(0),
-        Operation::Lit => Origin::Given(a),
-        Operation::Equal => Origin::Given(0),
-        Operation::Ite => Origin::Same(Term(b)),
-        Operation::Concat => Origin::Joined(Term(a), Term(b)),
-        Operation::Extract => Origin::Given(extract_width(a, b)),
-        Operation::BvNot => Origin::Same(Term(a)),
-        Operation::Binary(op) => binary_origin(op, Term(a)),
-        Operation::Compare(_) => Origin::Given(0),
-        Operation::Declare => Origin::Given(w),
-        Operation::Assert => Origin::Given(65),
-        Operation::Check => Origin::Given(65),
-        Operation::Unknown => Origin::Given(65),
-    }
-}
-
 // What the record at a place says of its term's sort.
 pub fn origin_at(calls: &[u32], at: usize) -> Origin
     ensures { λ r. ⌜ r ≡ originOf (callAt (now (calls .entry)) at) ⌝ }
@@ -72,7 +46,26 @@ pub fn origin_at(calls: &[u32], at: usize) -> Origin
     let a = call_list::argument_at(calls, at, 0);
     let b = call_list::argument_at(calls, at, 1);
     let w = call_list::argument_at(calls, at, 3);
-    origin_of(call_list::operation_at(calls, at), a, b, w)
+    match call_list::operation_at(calls, at) {
+        Operation::Term(term) => match term {
+            TermOp::BoolLit => Origin::Given(0),
+            TermOp::BoolIte => Origin::Given(0),
+            TermOp::Not => Origin::Given(0),
+            TermOp::And => Origin::Given(0),
+            TermOp::Lit => Origin::Given(a),
+            TermOp::Equal => Origin::Given(0),
+            TermOp::Ite => Origin::Same(Term(b)),
+            TermOp::Concat => Origin::Joined(Term(a), Term(b)),
+            TermOp::Extract => Origin::Given(extract_width(a, b)),
+            TermOp::BvNot => Origin::Same(Term(a)),
+            TermOp::Binary(op) => binary_origin(op, Term(a)),
+            TermOp::Compare(_) => Origin::Given(0),
+        },
+        Operation::Declare => Origin::Given(w),
+        Operation::Assert => Origin::Given(65),
+        Operation::Check => Origin::Given(65),
+        Operation::Unknown => Origin::Given(65),
+    }
 }
 
 // The number at a place of a table, 0 past its end.

@@ -1,17 +1,19 @@
 -- Laws of the definitions of Records.
-use mathlib.Core.Path.{_≡_, refl, ap, _∙_, subst}
+use mathlib.Core.Path.{_≡_, refl, sym, ap, _∙_, subst}
 use mathlib.Core.Bool.{Bool, true, false, cond}
 use mathlib.Core.List.{List}
 use mathlib.Core.Option.{Option, some, none}
 use Prim.Native.Nat.{ℕ, zero, suc, _+_}
 use native.Mathlib.Omega.{arith}
+use lib.ListN.{length}
 use lib.Dec.{eqb}
 use Rattle.logic.specs.Table.{tab}
-use Rattle.bitvec.specs.Bits.{bv2nat, nat2bv}
+use Rattle.bitvec.specs.Bits.{Bits, bv2nat, nat2bv}
 use Rattle.bitvec.proofs.Laws.{length-nat2bv}
 use Rattle.bitvec.proofs.WordLaws.{at-width}
-use Rattle.engine.specs.Sorts.{Sort, IsVector, Context, Allowed}
-use Rattle.engine.specs.Encode.{operationAt, countAt, callAt}
+use Rattle.engine.specs.Call as c
+use Rattle.engine.specs.Sorts.{IsVector, Context, Allowed}
+use Rattle.engine.specs.Encode.{operationOf, operationAt, callAt}
 use Rattle.engine.specs.Encode as o
 use Rattle.engine.specs.WellFormed.{firstFailing}
 use Rattle.engine.proofs.ReadBack.{reads-at}
@@ -19,8 +21,7 @@ use Rattle.engine.specs.Reached.{Right}
 use Rattle.call_list.specs.Literal.{payloads, fourDigits, literalNumber}
 use Rattle.call_list.proofs.LiteralLaws.{four-digits, literal-fits}
 use Rattle.term_values.specs.Values.{andNumber}
-use Rattle.term_values.proofs.ValuesLaws.{valueBy, value-of}
-use Rattle.term_values.specs.Records.{numberIn, sortBelow, literalValue, recordValue}
+use Rattle.term_values.specs.Records.{numberIn, literalValue}
 
 -- ---- an and: 1 if no argument's number is other than 1
 
@@ -50,21 +51,18 @@ pub and-scan : (slice w : List ℕ) (at n : ℕ) → andNumber (numberIn slice) 
 and-scan slice w at n =
     and-from (numberIn slice) (payloads w at) (payloads w at) 0 n (λ j. ap (payloads w at) (omega arith))
 
--- A vector's literal.
-literal-value : (w : List ℕ) (at : ℕ) (x : Context) → Right w at x → operationAt w at ≡ o.lit
-    → literalValue w at ≡ bv2nat (nat2bv (payloads w at 0) (literalNumber w at))
-literal-value w at x right is-lit =
-    let allowed : Allowed x (o.callOf o.lit (countAt w at) (payloads w at)) =
-    rw is-lit at (reads-at x w at (right .head) (right .arguments) .allowed) in
-    let vector : IsVector (payloads w at 0) =
-    subst IsVector (length-nat2bv (payloads w at 0) (literalNumber w at)) (allowed .0) in
+-- The number of a right record's literal is that of its bits.
+pub literal-value : (w : List ℕ) (at : ℕ) (x : Context) → Right w at x → (bits : Bits)
+    → callAt w at ≡ c.term (c.lit bits) → literalValue w at ≡ bv2nat bits
+literal-value w at x right bits e =
+    let read = reads-at x w at (right .head) (right .arguments) in
+    let is-lit : operationAt w at ≡ o.term o.lit = sym (read .operation) ∙ ap operationOf e in
+    let call : c.term (c.lit (nat2bv (payloads w at 0) (literalNumber w at))) ≡ c.term (c.lit bits) = rw is-lit at e in
+    let same : nat2bv (payloads w at 0) (literalNumber w at) ≡ bits = cc in
+    let allowed : Allowed x (c.term (c.lit bits)) = rw e at (read .allowed) in
+    let width : length bits ≡ payloads w at 0 =
+    ap length (sym same) ∙ length-nat2bv (payloads w at 0) (literalNumber w at) in
+    let vector : IsVector (payloads w at 0) = subst IsVector width (allowed .0) in
     at-width (payloads w at 0) (nat2bv (payloads w at 0) (fourDigits w at)) (vector .0) (vector .1)
     ∙ ap (λ (n : ℕ). bv2nat (nat2bv (payloads w at 0) n)) (four-digits w at (literal-fits w at x right is-lit))
-
--- The number of a right record's term is that of its call.
-pub record-value : (sort : ℕ → Sort) (slice w : List ℕ) (terms given at : ℕ) (x : Context) → Right w at x
-    → recordValue sort slice w terms given at ≡ valueBy (sortBelow sort terms) (numberIn slice) given (callAt w at)
-record-value sort slice w terms given at x right =
-    value-of (sortBelow sort terms) (numberIn slice) given (operationAt w at) (countAt w at) (payloads w at)
-    (literalValue w at)
-    (literal-value w at x right)
+    ∙ ap bv2nat same

@@ -1,46 +1,23 @@
 -- Laws of the definitions of Values.
-use Rattle.logic.specs.Table.{tab}
-use Rattle.engine.specs.Encode.{Op, callOf, fromDigits}
 use mathlib.Core.Path.{_≡_, refl, sym, ap, _∙_, subst}
 use mathlib.Core.Bool.{Bool, true, false, cond, not, _&&_}
 use mathlib.Core.List.{List, [], _∷_, map}
-use Prim.Native.Nat.{ℕ, suc, _≤_, _-_}
+use Prim.Native.Nat.{ℕ, _≤_}
 use native.Mathlib.Omega.{arith}
 use lib.ListN.{length}
 use lib.Dec.{eqb}
-use Rattle.bitvec.specs.Bits.{Bits, bit, bv2nat, nat2bv}
+use Rattle.bitvec.specs.Bits.{Bits, bit, bv2nat}
 use Rattle.bitvec.specs.Ops as bv
 use Rattle.bitvec.proofs.Numbers.{equal-eqb}
-use Rattle.bitvec.specs.Words.{atWidth, holdsAt, concatAt, extractAt}
 use Rattle.bitvec.proofs.WordLaws.{unary-on, binary-on, test-on, concat-on, extract-on}
-use Rattle.engine.specs.Call.{Term, Call}
+use Rattle.engine.specs.Call.{Term}
 use Rattle.engine.specs.Call as c
-use Rattle.engine.specs.Encode as o
 use Rattle.engine.specs.Meaning.{Value, bool, bits, asBool, asBits, all, equalValues, denoteOp, denoteCompare, denote}
 use Rattle.engine.specs.Meaning.{valueAt, All}
 use Rattle.engine.specs.Sorts.{Sort, IsBool, IsVector, sortAt, WellSorted}
 use Rattle.engine.proofs.SortsLaws.{OfSort}
 use Rattle.engine.proofs.SortLaws.{Sorted, there}
-use Rattle.term_values.specs.Values.{valueNumber, andNumber, valueOf}
-
--- The number of a term, of the sorts and the numbers of the terms so far; a declared name's is given.
-abbrev pub valueBy : (ℕ → Sort) → (ℕ → ℕ) → ℕ → Call → ℕ
-valueBy s v given (c.term (c.boolLit b)) = bit b
-valueBy s v given (c.term (c.boolIte i a b)) = cond (eqb (v i) 1) (v a) (v b)
-valueBy s v given (c.term (c.not a)) = cond (eqb (v a) 1) 0 1
-valueBy s v given (c.term (c.and args)) = andNumber v args
-valueBy s v given (c.term (c.lit x)) = bv2nat x
-valueBy s v given (c.term (c.equal a b)) = bit (eqb (v a) (v b))
-valueBy s v given (c.term (c.ite i a b)) = cond (eqb (v i) 1) (v a) (v b)
-valueBy s v given (c.term (c.concat a b)) = concatAt (s a) (v a) (s b) (v b)
-valueBy s v given (c.term (c.extract i j a)) = extractAt (s a) i j (v a)
-valueBy s v given (c.term (c.bvnot a)) = atWidth (s a) (bv.bvnot (nat2bv (s a) (v a)))
-valueBy s v given (c.term (c.op2 o a b)) = atWidth (s a) (denoteOp o (nat2bv (s a) (v a)) (nat2bv (s a) (v b)))
-valueBy s v given (c.term (c.compare o a b)) =
-    bit (holdsAt (s a) (denoteCompare o (nat2bv (s a) (v a)) (nat2bv (s a) (v b))))
-valueBy s v given (c.declare name w) = given
-valueBy s v given (c.assert k) = 0
-valueBy s v given c.check = 0
+use Rattle.term_values.specs.Values.{valueNumber, andNumber, valueBy}
 
 is-one : (b : Bool) → eqb (bit b) 1 ≡ b
 is-one true = refl
@@ -108,7 +85,7 @@ module _ {sorts : List Sort} {l : List Value} (g : Sorted sorts l) (given : ℕ)
       go false e = refl
 
   -- The number of a well-sorted term is that of its value.
-  pub value-is : (t : Term) → WellSorted sorts t → valueBy (sortAt sorts) n given (c.term t)
+  pub value-is : (t : Term) → WellSorted sorts t → valueBy (sortAt sorts) n bv2nat given (c.term t)
       ≡ valueNumber (denote (valueAt l) t)
   value-is (c.boolLit b) h = refl
   value-is (c.boolIte i a b) h =
@@ -146,26 +123,3 @@ module _ {sorts : List Sort} {l : List Value} (g : Sorted sorts l) (given : ℕ)
       rw (at-a .0, at-b .0)
       (ap bit (test-on (sortAt sorts a) (asBits (valueAt l a)) (h .0 .0) (h .0 .1) (at-a .1) (asBits (valueAt l b))
       (at-b .1 ∙ h .1) (denoteCompare o)))
-
--- The number of a record's term, by its operation, payloads p and literal.
-pub value-of : (s : ℕ → Sort) (v : ℕ → ℕ) (given : ℕ) (op : Op) (m : ℕ) (p : ℕ → ℕ) (literal : ℕ)
-    → (op ≡ o.lit → literal ≡ bv2nat (nat2bv (p 0) (fromDigits (tab (m - 1) (λ i. p (suc i))))))
-    → valueOf op (andNumber v (tab m p)) literal given (p 0) (p 1) (v (p 0)) (v (p 1)) (v (p 2)) (s (p 0)) (s (p 1))
-    (s (p 2))
-    ≡ valueBy s v given (callOf op m p)
-value-of s v given o.boolLit m p literal h = refl
-value-of s v given o.boolIte m p literal h = refl
-value-of s v given o.not m p literal h = refl
-value-of s v given o.and m p literal h = refl
-value-of s v given o.lit m p literal h = h refl
-value-of s v given o.equal m p literal h = refl
-value-of s v given o.ite m p literal h = refl
-value-of s v given o.concat m p literal h = refl
-value-of s v given o.extract m p literal h = refl
-value-of s v given o.bvnot m p literal h = refl
-value-of s v given (o.op2 op) m p literal h = refl
-value-of s v given (o.compare op) m p literal h = refl
-value-of s v given o.declare m p literal h = refl
-value-of s v given o.assert m p literal h = refl
-value-of s v given o.check m p literal h = refl
-value-of s v given o.unknown m p literal h = refl

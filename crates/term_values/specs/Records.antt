@@ -4,13 +4,12 @@ use mathlib.Core.List.{List}
 use Prim.Native.Nat.{ℕ}
 use lib.ListN.{getD}
 use lib.Dec.{ltb}
-use Rattle.logic.specs.Table.{tab}
 use Rattle.bitvec.specs.Bits.{nat2bv}
 use Rattle.bitvec.specs.Words.{atWidth, concatAt, extractAt}
 use Rattle.engine.specs.Sorts.{Sort, noSort}
-use Rattle.engine.specs.Encode.{operationAt, countAt}
+use Rattle.engine.specs.Encode.{callAt}
 use Rattle.call_list.specs.Literal.{payloads, fourDigits}
-use Rattle.term_values.specs.Values.{andNumber, valueOf}
+use Rattle.term_values.specs.Values.{valueBy}
 
 -- The numbers written so far.
 abbrev pub numberIn : List ℕ → ℕ → ℕ
@@ -39,11 +38,7 @@ extractIn sort slice w terms at =
     let p = payloads w at in
     extractAt (sortBelow sort terms (p 2)) (p 0) (p 1) (numberIn slice (p 2))
 
+-- The number of the term of the record's call; a literal's is that of its first four digits.
 abbrev pub recordValue : (ℕ → Sort) → List ℕ → List ℕ → ℕ → ℕ → ℕ → ℕ
 recordValue sort slice w terms given at =
-    let p = payloads w at in
-    let v = numberIn slice in
-    let s = sortBelow sort terms in
-    valueOf (operationAt w at) (andNumber v (tab (countAt w at) p)) (literalValue w at) given (p 0) (p 1) (v (p 0))
-    (v (p 1))
-    (v (p 2)) (s (p 0)) (s (p 1)) (s (p 2))
+    valueBy (sortBelow sort terms) (numberIn slice) (λ x. literalValue w at) given (callAt w at)

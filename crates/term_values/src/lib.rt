@@ -1,5 +1,6 @@
 // The numbers of terms: what a record's operation makes of the numbers and sorts of the terms before it.
 use call_list::Operation;
+use call_list::TermOp;
 use engine::BinaryOp;
 use engine::Compare;
 ghost use mathlib.Core.Path.{_≡_};
@@ -200,31 +201,33 @@ pub fn record_value(
         (now (values .entry)) (now (calls .entry)) terms given at ⌝ }
 {
     match call_list::operation_at(calls, at) {
-        Operation::BoolLit => flag_number(call_list::argument_at(calls, at, 0) == 1),
-        Operation::BoolIte => choice_value(calls, values, at),
-        Operation::Not => chosen(argument_value(calls, values, at, 0), 0, 1),
-        Operation::And => and_value(calls, values, at, call_list::count_at(calls, at) as usize),
-        Operation::Lit => literal_value(calls, at),
-        Operation::Equal => equal_value(calls, values, at),
-        Operation::Ite => choice_value(calls, values, at),
-        Operation::Concat => { concat_value(calls, values, sorts, recent, places, gap, terms, at) }
-        Operation::Extract => {
-            extract_value(calls, values, sorts, recent, places, gap, terms, at)
-        }
-        Operation::BvNot => {
-            let width = argument_sort(calls, sorts, recent, places, gap, terms, at, 0);
-            bitvec::bvnot(width, argument_value(calls, values, at, 0))
-        }
-        Operation::Binary(op) => {
-            let width = argument_sort(calls, sorts, recent, places, gap, terms, at, 0);
-            let s = argument_value(calls, values, at, 0);
-            binary_value(op, width, s, argument_value(calls, values, at, 1))
-        }
-        Operation::Compare(op) => {
-            let width = argument_sort(calls, sorts, recent, places, gap, terms, at, 0);
-            let s = argument_value(calls, values, at, 0);
-            flag_number(compare_value(op, width, s, argument_value(calls, values, at, 1)))
-        }
+        Operation::Term(term) => match term {
+            TermOp::BoolLit => flag_number(call_list::argument_at(calls, at, 0) == 1),
+            TermOp::BoolIte => choice_value(calls, values, at),
+            TermOp::Not => chosen(argument_value(calls, values, at, 0), 0, 1),
+            TermOp::And => and_value(calls, values, at, call_list::count_at(calls, at) as usize),
+            TermOp::Lit => literal_value(calls, at),
+            TermOp::Equal => equal_value(calls, values, at),
+            TermOp::Ite => choice_value(calls, values, at),
+            TermOp::Concat => { concat_value(calls, values, sorts, recent, places, gap, terms, at) }
+            TermOp::Extract => {
+                extract_value(calls, values, sorts, recent, places, gap, terms, at)
+            }
+            TermOp::BvNot => {
+                let width = argument_sort(calls, sorts, recent, places, gap, terms, at, 0);
+                bitvec::bvnot(width, argument_value(calls, values, at, 0))
+            }
+            TermOp::Binary(op) => {
+                let width = argument_sort(calls, sorts, recent, places, gap, terms, at, 0);
+                let s = argument_value(calls, values, at, 0);
+                binary_value(op, width, s, argument_value(calls, values, at, 1))
+            }
+            TermOp::Compare(op) => {
+                let width = argument_sort(calls, sorts, recent, places, gap, terms, at, 0);
+                let s = argument_value(calls, values, at, 0);
+                flag_number(compare_value(op, width, s, argument_value(calls, values, at, 1)))
+            }
+        },
         Operation::Declare => given,
         Operation::Assert => 0,
         Operation::Check => 0,

@@ -3,6 +3,9 @@ use borrow.Author.Needs.{needs}
 use Rattle.arguments.proofs.count_fits.Statement.{statement}
 use Rattle.arguments.proofs.count_fits.Tie as tie
 
+enum-known-operation : tie.Need-enum-known-operation
+enum-known-operation c = search needs
+
 enum-told : tie.Need-enum-told
 enum-told c = search needs
 
@@ -55,40 +58,42 @@ enum-told-16 : tie.Need-enum-told-16
 enum-told-16 c = search needs
 
 returns : tie.Need-returns
-returns c = rw (c .enum-told .given .1)
+returns c = rw (c .before .before .before .operation .given .1, c .enum-told .given .1)
 
 returns-2 : tie.Need-returns-2
-returns-2 c = rw (c .enum-told2 .given .1)
+returns-2 c = rw (c .before .before .before .operation .given .1, c .enum-told2 .given .1)
 
 returns-3 : tie.Need-returns-3
-returns-3 c = rw (c .enum-told3 .given .1)
+returns-3 c = rw (c .before .before .before .operation .given .1, c .enum-told3 .given .1)
 
 returns-4 : tie.Need-returns-4
-returns-4 c = rw (c .enum-told4 .given .1)
+returns-4 c = rw (c .before .before .before .operation .given .1, c .enum-told4 .given .1)
 
 returns-5 : tie.Need-returns-5
-returns-5 c = rw (c .before .enum-told5 .given .1, c .literal-count .ensures)
+returns-5 c =
+    let told = c .before in
+    rw (told .before .before .before .operation .given .1, told .enum-told5 .given .1, c .literal-count .ensures)
 
 returns-6 : tie.Need-returns-6
-returns-6 c = rw (c .enum-told6 .given .1)
+returns-6 c = rw (c .before .before .before .operation .given .1, c .enum-told6 .given .1)
 
 returns-7 : tie.Need-returns-7
-returns-7 c = rw (c .enum-told7 .given .1)
+returns-7 c = rw (c .before .before .before .operation .given .1, c .enum-told7 .given .1)
 
 returns-8 : tie.Need-returns-8
-returns-8 c = rw (c .enum-told8 .given .1)
+returns-8 c = rw (c .before .before .before .operation .given .1, c .enum-told8 .given .1)
 
 returns-9 : tie.Need-returns-9
-returns-9 c = rw (c .enum-told9 .given .1)
+returns-9 c = rw (c .before .before .before .operation .given .1, c .enum-told9 .given .1)
 
 returns-10 : tie.Need-returns-10
-returns-10 c = rw (c .enum-told10 .given .1)
+returns-10 c = rw (c .before .before .before .operation .given .1, c .enum-told10 .given .1)
 
 returns-11 : tie.Need-returns-11
-returns-11 c = rw (c .enum-told11 .given .1)
+returns-11 c = rw (c .before .before .before .operation .given .1, c .enum-told11 .given .1)
 
 returns-12 : tie.Need-returns-12
-returns-12 c = rw (c .enum-told12 .given .1)
+returns-12 c = rw (c .before .before .before .operation .given .1, c .enum-told12 .given .1)
 
 returns-13 : tie.Need-returns-13
 returns-13 c = rw (c .enum-told13 .given .1)
@@ -106,6 +111,7 @@ pub count-fits-spec : {M : Type 1} → statement M
 count-fits-spec =
     tie.close
     (tie.spec
+    enum-known-operation
     enum-told
     enum-told-2
     enum-told-3

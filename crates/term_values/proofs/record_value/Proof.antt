@@ -6,6 +6,9 @@ use Rattle.term_values.proofs.record_value.Tie as tie
 operation-at-requires : tie.Need-operation-at-requires
 operation-at-requires c κs = search needs
 
+enum-known-term : tie.Need-enum-known-term
+enum-known-term c = search needs
+
 enum-told : tie.Need-enum-told
 enum-told c = search needs
 
@@ -84,8 +87,8 @@ argument-value-requires-2 c κs = search needs
 bvnot-requires : tie.Need-bvnot-requires
 bvnot-requires c κs = search needs
 
-enum-known-op : tie.Need-enum-known-op
-enum-known-op c = search needs
+enum-known-term-2 : tie.Need-enum-known-term-2
+enum-known-term-2 c = search needs
 
 argument-sort-requires-2 : tie.Need-argument-sort-requires-2
 argument-sort-requires-2 c κs = search needs
@@ -99,8 +102,8 @@ argument-value-requires-4 c κs = search needs
 binary-value-requires : tie.Need-binary-value-requires
 binary-value-requires c κs = search needs
 
-enum-known-op-2 : tie.Need-enum-known-op-2
-enum-known-op-2 c = search needs
+enum-known-term-3 : tie.Need-enum-known-term-3
+enum-known-term-3 c = search needs
 
 argument-sort-requires-3 : tie.Need-argument-sort-requires-3
 argument-sort-requires-3 c κs = search needs
@@ -132,8 +135,10 @@ enum-told-14 c = search needs
 returns : tie.Need-returns
 returns c =
     let told = c .before .before in
+    let known = told .before .before .before in
     rw (
-      ← told .before .before .operation-at .ensures,
+      ← known .before .before .operation-at .ensures,
+      known .term .given .1,
       told .enum-told .given .1,
       c .flag-number .ensures,
       c .before .argument-at .ensures,
@@ -142,13 +147,21 @@ returns c =
 returns-2 : tie.Need-returns-2
 returns-2 c =
     let told = c .before in
-    rw (← told .before .before .operation-at .ensures, told .enum-told2 .given .1, c .choice-value .ensures)
+    let known = told .before .before .before in
+    rw (
+      ← known .before .before .operation-at .ensures,
+      known .term .given .1,
+      told .enum-told2 .given .1,
+      c .choice-value .ensures,
+    )
 
 returns-3 : tie.Need-returns-3
 returns-3 c =
     let told = c .before .before in
+    let known = told .before .before .before in
     rw (
-      ← told .before .before .operation-at .ensures,
+      ← known .before .before .operation-at .ensures,
+      known .term .given .1,
       told .enum-told3 .given .1,
       c .chosen .ensures,
       c .before .argument-value .ensures,
@@ -157,8 +170,10 @@ returns-3 c =
 returns-4 : tie.Need-returns-4
 returns-4 c =
     let told = c .before .before in
+    let known = told .before .before .before in
     rw (
-      ← told .before .before .operation-at .ensures,
+      ← known .before .before .operation-at .ensures,
+      known .term .given .1,
       told .enum-told4 .given .1,
       c .and-value .ensures,
       c .before .count-at .ensures,
@@ -167,33 +182,65 @@ returns-4 c =
 returns-5 : tie.Need-returns-5
 returns-5 c =
     let told = c .before in
-    rw (← told .before .before .operation-at .ensures, told .enum-told5 .given .1, c .literal-value .ensures)
+    let known = told .before .before .before in
+    rw (
+      ← known .before .before .operation-at .ensures,
+      known .term .given .1,
+      told .enum-told5 .given .1,
+      c .literal-value .ensures,
+    )
 
 returns-6 : tie.Need-returns-6
 returns-6 c =
     let told = c .before in
-    rw (← told .before .before .operation-at .ensures, told .enum-told6 .given .1, c .equal-value .ensures)
+    let known = told .before .before .before in
+    rw (
+      ← known .before .before .operation-at .ensures,
+      known .term .given .1,
+      told .enum-told6 .given .1,
+      c .equal-value .ensures,
+    )
 
 returns-7 : tie.Need-returns-7
 returns-7 c =
     let told = c .before in
-    rw (← told .before .before .operation-at .ensures, told .enum-told7 .given .1, c .choice-value2 .ensures)
+    let known = told .before .before .before in
+    rw (
+      ← known .before .before .operation-at .ensures,
+      known .term .given .1,
+      told .enum-told7 .given .1,
+      c .choice-value2 .ensures,
+    )
 
 returns-8 : tie.Need-returns-8
 returns-8 c =
     let told = c .before in
-    rw (← told .before .before .operation-at .ensures, told .enum-told8 .given .1, c .concat-value .ensures)
+    let known = told .before .before .before in
+    rw (
+      ← known .before .before .operation-at .ensures,
+      known .term .given .1,
+      told .enum-told8 .given .1,
+      c .concat-value .ensures,
+    )
 
 returns-9 : tie.Need-returns-9
 returns-9 c =
     let told = c .before in
-    rw (← told .before .before .operation-at .ensures, told .enum-told9 .given .1, c .extract-value .ensures)
+    let known = told .before .before .before in
+    rw (
+      ← known .before .before .operation-at .ensures,
+      known .term .given .1,
+      told .enum-told9 .given .1,
+      c .extract-value .ensures,
+    )
 
 returns-10 : tie.Need-returns-10
 returns-10 c =
     let told = c .before .before .before in
+    let known = told .before .before .before in
     rw (
-      ← told .before .before .operation-at .ensures,
+      ← known .before .before .operation-at .ensures,
+      known .term .given .1,
       told .enum-told10 .given .1,
       c .bvnot .ensures,
       c .before .argument-value2 .ensures,
@@ -203,9 +250,11 @@ returns-10 c =
 returns-11 : tie.Need-returns-11
 returns-11 c =
     let told = c .before .before .before .before .before in
+    let known = told .before .before .before in
     rw (
-      ← told .before .before .operation-at .ensures,
-      told .op .given .1,
+      ← known .before .before .operation-at .ensures,
+      known .term .given .1,
+      told .term2 .given .1,
       c .binary-value .ensures,
       c .before .argument-value4 .ensures,
       c .before .before .argument-value3 .ensures,
@@ -215,9 +264,11 @@ returns-11 c =
 returns-12 : tie.Need-returns-12
 returns-12 c =
     let told = c .before .before .before .before .before .before in
+    let known = told .before .before .before in
     rw (
-      ← told .before .before .operation-at .ensures,
-      told .op2 .given .1,
+      ← known .before .before .operation-at .ensures,
+      known .term .given .1,
+      told .term3 .given .1,
       c .flag-number2 .ensures,
       c .before .compare-value .ensures,
       c .before .before .argument-value6 .ensures,
@@ -250,6 +301,7 @@ record-value-spec =
     tie.close
     (tie.spec
     operation-at-requires
+    enum-known-term
     enum-told
     argument-at-requires
     flag-number-requires
@@ -276,12 +328,12 @@ record-value-spec =
     argument-sort-requires
     argument-value-requires-2
     bvnot-requires
-    enum-known-op
+    enum-known-term-2
     argument-sort-requires-2
     argument-value-requires-3
     argument-value-requires-4
     binary-value-requires
-    enum-known-op-2
+    enum-known-term-3
     argument-sort-requires-3
     argument-value-requires-5
     argument-value-requires-6
