@@ -18,8 +18,9 @@ use Rattle.cell.specs.declared.Fields.{Fields}
 use Rattle.fields.specs.declared.Number.{Number}
 use Rattle.fields.specs.declared.Number.the-variants as N
 use Rattle.fields.specs.declared.Scan.the-variants as S
-use Rattle.fields.specs.Field.{knownDriver, isKnown, numberAt, netAt, constantAt, netsAt, constantsAt, scanMany}
-use Rattle.fields.specs.Pattern.{onNumber, alternateAt, patternAt, patternsAt}
+use Rattle.fields.specs.Field.{onNumber, knownDriver, isKnown, numberAt, netAt, constantAt, netsAt, constantsAt}
+use Rattle.fields.specs.Field.{scanMany}
+use Rattle.fields.specs.Pattern.{alternateAt, patternAt, patternsAt}
 use Rattle.fields.proofs.AcceptedLaws.{number-read, IsNet, net-read, constant-read, many-read, both-read}
 use Rattle.cell_reader.specs.Parse.{numberIn, netIn, netsIn, tritsIn, patternsIn}
 use Rattle.cell_reader.specs.Accepted.{IsBody}
@@ -135,7 +136,7 @@ module _ (w : List ℕ) (end : ℕ) where
     where
       go :
           (v : Number) → numberAt w 64 end at ≡ v → {place : ℕ} →
-          onNumber v (scanMany (alternateAt w n end)) ≡ S.Clean place →
+          onNumber v S.Refused (scanMany (alternateAt w n end)) ≡ S.Clean place →
           (next ≡ place + sumBy patternWords (patternsIn w n k place)) ×
           Each (λ (alternates : List (List Trit)). length alternates ≤ 64) (patternsIn w n k place) →
           (next ≡ at + sumBy patternWords (patternsIn w n (suc k) at)) ×

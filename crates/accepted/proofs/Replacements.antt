@@ -15,19 +15,19 @@ use Rattle.fields.specs.declared.Number.{Number}
 use Rattle.fields.specs.declared.Number.the-variants as N
 use Rattle.fields.specs.declared.Scan.{Scan}
 use Rattle.fields.specs.declared.Scan.the-variants as S
-use Rattle.fields.specs.Field.{fault, numberAt, netAt}
+use Rattle.fields.specs.Field.{fault, onNumber, onScan, numberAt, netAt}
 use Rattle.fields.specs.Accepted.{IsNumber}
 use Rattle.fields.proofs.AcceptedLaws.{number-read, IsNet, net-read}
 use Rattle.cell_reader.specs.declared.Record.{Record}
 use Rattle.cell_reader.specs.declared.Record.the-variants as R
-use Rattle.cell_reader.specs.Record.{recordAt}
+use Rattle.cell_reader.specs.Record.{onRecord, recordAt}
 use Rattle.cell_reader.specs.Parse.{numberIn, netIn}
 use Rattle.cell_reader.specs.Accepted.{IsRecord}
 use Rattle.cell_reader.proofs.AcceptedLaws.{record-read}
-use Rattle.items.specs.Step.{Step}
+use Rattle.items.specs.Step.{Step, onStep}
 use Rattle.items.specs.Step as T
-use Rattle.items.specs.Items.{push, onStep, ascending, listedNumberAt, listedNetAt, onSlot, onNewCell, replaces}
-use Rattle.items.specs.Items.{replacementAt, onNet, pairAt}
+use Rattle.items.specs.Items.{refuse, push, ascending, listedNumberAt, listedNetAt, replaces}
+use Rattle.items.specs.Items.{replacementAt, pairAt}
 use Rattle.working_out.specs.Reading.{Each}
 use Rattle.working_out.proofs.ReadingLaws.{each-map}
 use Rattle.working_out.specs.Laid.{Ascending}
@@ -59,11 +59,12 @@ module _ {A : Type 0} (R : ℕ → ℕ → ℕ → ℕ → Type 0) (item : ℕ �
       where
         go :
             (s : Step) → step least at ≡ s →
-            onStep s (λ (above next : ℕ). push (item at) (ascending step item k above next)) .scan ≡ S.Clean end →
+            onStep s refuse (λ (above next : ℕ). push (item at) (ascending step item k above next)) .scan
+            ≡ S.Clean end →
             ((above next : ℕ) → ascending step item k above next .scan ≡ S.Clean end →
             IsRun k above next end (ascending step item k above next .items)) →
             IsRun (suc k) least at end
-            (onStep s (λ (above next : ℕ). push (item at) (ascending step item k above next)) .items)
+            (onStep s refuse (λ (above next : ℕ). push (item at) (ascending step item k above next)) .items)
         go (T.Refused f) s e rest = let z : _≡_ {A = ℕ} 0 1 = cc in absurd (omega arith)
         go (T.Read above next) s e rest =
             let later = rest above next e in
@@ -170,7 +171,7 @@ replacement-read w total head least at above next read = slotted (listedNumberAt
     recorded :
         (slot start : ℕ) → IsNumber w (2 ^ 29 - 1) (length w) at slot start → (r : Record) →
         recordAt w total start ≡ r →
-        onNewCell r (λ (op : Operation) (width after : ℕ).
+        onRecord r T.Refused (λ (op : Operation) (width after : ℕ).
         cond (cond (leb least slot) (cond (head slot width) (mayReplace op) false) false) (T.Read (slot + 1) after)
         (T.Refused (fault 12 at)))
         ≡ T.Read above next → Goal
@@ -182,8 +183,8 @@ replacement-read w total head least at above next read = slotted (listedNumberAt
 
     slotted :
         (v : Number) → listedNumberAt w at ≡ v →
-        onSlot v (λ (slot start : ℕ).
-        onNewCell (recordAt w total start) (λ (op : Operation) (width after : ℕ).
+        onNumber v T.Refused (λ (slot start : ℕ).
+        onRecord (recordAt w total start) T.Refused (λ (op : Operation) (width after : ℕ).
         cond (cond (leb least slot) (cond (head slot width) (mayReplace op) false) false) (T.Read (slot + 1) after)
         (T.Refused (fault 12 at))))
         ≡ T.Read above next → Goal
@@ -221,7 +222,7 @@ pair-read w total least at above next read = first (listedNetAt w total at) refl
 
     second :
         IsNet w total 0 (length w) at → (s : Scan) → listedNetAt w total (at + 1) ≡ s →
-        onNet s (λ (after : ℕ).
+        onScan s T.Refused (λ (after : ℕ).
         cond (leb least (numberIn w at)) (T.Read (numberIn w at + 1) after) (T.Refused (fault 13 at)))
         ≡ T.Read above next →
         Goal
@@ -231,8 +232,8 @@ pair-read w total least at above next read = first (listedNetAt w total at) refl
 
     first :
         (s : Scan) → listedNetAt w total at ≡ s →
-        onNet s (λ (to : ℕ).
-        onNet (listedNetAt w total to) (λ (after : ℕ).
+        onScan s T.Refused (λ (to : ℕ).
+        onScan (listedNetAt w total to) T.Refused (λ (after : ℕ).
         cond (leb least (numberIn w at)) (T.Read (numberIn w at + 1) after) (T.Refused (fault 13 at))))
         ≡ T.Read above next →
         Goal

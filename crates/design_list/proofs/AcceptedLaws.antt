@@ -10,15 +10,15 @@ use borrow.Author.Tests.{ltb-false, eqb-true}
 use Rattle.cell.specs.Design.{Placed, Design}
 use Rattle.fields.specs.declared.Scan.{Scan}
 use Rattle.fields.specs.declared.Scan.the-variants as S
-use Rattle.fields.specs.Field.{fault}
+use Rattle.fields.specs.Field.{fault, onScan}
 use Rattle.items.specs.declared.Header.{Header}
 use Rattle.items.specs.declared.Opening.{Opening}
 use Rattle.items.specs.declared.Opening.the-variants as O
 use Rattle.placing.specs.Slots.{heads, isVoid}
-use Rattle.items.specs.Items.{headerAt, cellRepsFrom, netRepsFrom, finishAt}
+use Rattle.items.specs.Items.{onOpening, headerAt, cellRepsFrom, netRepsFrom, finishAt}
 use Rattle.placing.specs.Cells.{cellsOf}
 use Rattle.voids.specs.Voids.{voidsAt}
-use Rattle.design_list.specs.Read.{Read, refused, accepted, onScan, onOpening, readNetReps, readCellReps}
+use Rattle.design_list.specs.Read.{Read, refused, accepted, readNetReps, readCellReps}
 use Rattle.design_list.specs.Read.{readCells, read}
 use Rattle.items.proofs.Laws.{header-read}
 use Rattle.design_list.specs.Accepted.{IsAccepted}
@@ -29,8 +29,8 @@ record Onward (s : Scan) (f : ℕ → Read) (d : Design) (replacements pairs : �
   clean : s ≡ S.Clean place
   rest : f place ≡ accepted d replacements pairs
 
-onward : (s : Scan) (f : ℕ → Read) {d : Design} {replacements pairs : ℕ} → onScan s f ≡ accepted d replacements pairs →
-    Onward s f d replacements pairs
+onward : (s : Scan) (f : ℕ → Read) {d : Design} {replacements pairs : ℕ} →
+    onScan s refused f ≡ accepted d replacements pairs → Onward s f d replacements pairs
 onward (S.Clean n) f e = record { place = n; clean = refl; rest = e }
 onward (S.Refused g) f e = let z : _≡_ {A = ℕ} 0 1 = cc in absurd (omega arith)
 
@@ -109,8 +109,8 @@ unfolding read
 accepted-read w {d} {replacements} {pairs} e = go (ltb 16384 (length w)) (ltb (length w) 4) refl refl e
   where
     opened :
-        length w ≤ 16384 → 4 ≤ length w → (o : Opening) → headerAt w ≡ o → onOpening o (readCells w)
-        ≡ accepted d replacements pairs →
+        length w ≤ 16384 → 4 ≤ length w → (o : Opening) → headerAt w ≡ o →
+        onOpening o refused (readCells w) ≡ accepted d replacements pairs →
         IsAccepted w d replacements pairs
     opened short long (O.Refused f) o e = let z : _≡_ {A = ℕ} 0 1 = cc in absurd (omega arith)
     opened short long (O.Read h) o e = cells-accepted w h short long o e
@@ -118,7 +118,7 @@ accepted-read w {d} {replacements} {pairs} e = go (ltb 16384 (length w)) (ltb (l
     go :
         (over under : Bool) → ltb 16384 (length w) ≡ over → ltb (length w) 4 ≡ under →
         cond over (refused (fault 4 16384))
-        (cond under (refused (fault 1 (length w))) (onOpening (headerAt w) (readCells w)))
+        (cond under (refused (fault 1 (length w))) (onOpening (headerAt w) refused (readCells w)))
         ≡ accepted d replacements pairs → IsAccepted w d replacements pairs
     go true under o u e = let z : _≡_ {A = ℕ} 0 1 = cc in absurd (omega arith)
     go false true o u e = let z : _≡_ {A = ℕ} 0 1 = cc in absurd (omega arith)

@@ -11,13 +11,13 @@ use Rattle.logic.specs.declared.Fault.{Fault}
 use Rattle.fields.specs.declared.Scan.the-variants as S
 use Rattle.fields.specs.declared.Number.{Number}
 use Rattle.fields.specs.declared.Number.the-variants as N
-use Rattle.fields.specs.Field.{fault, numberAt}
+use Rattle.fields.specs.Field.{fault, onNumber, numberAt}
 use Rattle.fields.proofs.AcceptedLaws.{number-read}
 use Rattle.items.specs.declared.Header.{Header}
 use Rattle.items.specs.declared.Opening.the-variants as O
 use Rattle.items.specs.Step.{Step}
 use Rattle.items.specs.Step as T
-use Rattle.items.specs.Items.{onHeaderNumber, countsAt, headerAt, listedNumberAt, ascending}
+use Rattle.items.specs.Items.{countsAt, headerAt, listedNumberAt, ascending}
 
 -- A run of replacements at its end, at a turn and at a fault.
 module _ {A : Type 0} (step : ℕ → ℕ → Step) (item : ℕ → A) where
@@ -56,7 +56,7 @@ unfolding headerAt countsAt
 header-read w {h} read = base-read (numberAt w 4096 4 0) refl read
   where
     counts : (base added : ℕ) → added ≤ 4096 - base → base ≤ 4096 → (c₁ c₂ : Number) →
-        onHeaderNumber c₁ (λ (cellreps : ℕ). onHeaderNumber c₂ (λ (netreps : ℕ).
+        onNumber c₁ O.Refused (λ (cellreps _ : ℕ). onNumber c₂ O.Refused (λ (netreps _ : ℕ).
         O.Read record { base = base; added = added; cellreps = cellreps; netreps = netreps })) ≡ O.Read h →
         h .base + h .added ≤ 4096
     counts base added low top (N.Refused f) c₂ e = let z : _≡_ {A = ℕ} 0 1 = cc in absurd (omega arith)
@@ -66,14 +66,14 @@ header-read w {h} read = base-read (numberAt w 4096 4 0) refl read
         rw (← same) (omega arith)
 
     added-read : (base : ℕ) → base ≤ 4096 → (n : Number) → numberAt w (4096 - base) 4 1 ≡ n →
-        onHeaderNumber n (λ (added : ℕ). countsAt w base added) ≡ O.Read h → h .base + h .added ≤ 4096
+        onNumber n O.Refused (λ (added _ : ℕ). countsAt w base added) ≡ O.Read h → h .base + h .added ≤ 4096
     added-read base top (N.Refused f) n e = let z : _≡_ {A = ℕ} 0 1 = cc in absurd (omega arith)
     added-read base top (N.Value added next) n e =
         counts base added (number-read w (4096 - base) 4 1 n .bounded) top (numberAt w 4096 4 2) (numberAt w 4096 4 3) e
 
     base-read : (n : Number) → numberAt w 4096 4 0 ≡ n →
-        onHeaderNumber n
-        (λ (base : ℕ). onHeaderNumber (numberAt w (4096 - base) 4 1) (λ (added : ℕ). countsAt w base added))
+        onNumber n O.Refused (λ (base _ : ℕ).
+        onNumber (numberAt w (4096 - base) 4 1) O.Refused (λ (added _ : ℕ). countsAt w base added))
         ≡ O.Read h →
         h .base + h .added ≤ 4096
     base-read (N.Refused f) n e = let z : _≡_ {A = ℕ} 0 1 = cc in absurd (omega arith)

@@ -10,16 +10,18 @@ use lib.ListN.{List·getD-append}
 use lib.Seq.{sets, sets-eq}
 use lib.Dec.{ltb, eqb}
 use borrow.Author.Tests.{ltb-true, ltb-false}
+use Rattle.logic.specs.declared.Slot.{Slot}
 use Rattle.cell.specs.Cell.{Cell, void, note, input, ioBuf, unary, binary, mux, adc, aig, shift, match, assign, dff}
 use Rattle.cell.specs.Cell.{outputLen, slotsOf, standing}
+use Rattle.cell.specs.declared.Operation.{Operation}
 use Rattle.cell.specs.Design.{Placed}
 use Rattle.fields.specs.declared.Scan.the-variants as S
 use Rattle.cell_reader.specs.Parse.{cellAt}
 use Rattle.placing.specs.declared.Placing.{Placing}
 use Rattle.placing.specs.declared.Placing.the-variants as P
 use Rattle.placing.specs.Slots.{covering, nowhere, takes, heads, isVoid, markOf, marks}
-use Rattle.items.specs.Items.{stop, push}
-use Rattle.placing.specs.Cells.{onPlaced, placedAt, cellsFrom, cellsOf}
+use Rattle.items.specs.Items.{stop, refuse, push}
+use Rattle.placing.specs.Cells.{onPlacing, placedAt, cellsFrom, cellsOf}
 use Rattle.items.specs.Marks.{headsIn}
 use Rattle.voids.specs.Marks.{isVoidIn}
 use Rattle.placing.proofs.Laws.{placed-read, limit-low}
@@ -43,14 +45,13 @@ module _ (w : List ℕ) (base total : ℕ) where
 
       go :
           slot < total → (p : Placing) → placedAt w base total slot at ≡ p →
-          onPlaced p
-          (λ (after next : ℕ). push (record { slot = slot; cell = cellAt w at })
-          (cellsFrom w base total turns after next)) .scan ≡ S.Clean end →
+          onPlacing p refuse (λ (op : Operation) (width : ℕ) (after : Slot) (next : ℕ).
+          push (record { slot = slot; cell = cellAt w at }) (cellsFrom w base total turns (after .0) next)) .scan
+          ≡ S.Clean end →
           ((after next : ℕ) → Rest after next) →
           (Walk w base total) slot at
-          (onPlaced p
-          (λ (after next : ℕ). push (record { slot = slot; cell = cellAt w at })
-          (cellsFrom w base total turns after next)) .items) end
+          (onPlacing p refuse (λ (op : Operation) (width : ℕ) (after : Slot) (next : ℕ).
+          push (record { slot = slot; cell = cellAt w at }) (cellsFrom w base total turns (after .0) next)) .items) end
       go inside (P.Refused f) p e rest = let z : _≡_ {A = ℕ} 0 1 = cc in absurd (omega arith)
       go inside (P.Placed op width after next) p e rest =
           let is = placed-read w base total slot at p in
@@ -61,16 +62,14 @@ module _ (w : List ℕ) (base total : ℕ) where
       more :
           (b : Bool) → ltb slot total ≡ b →
           cond b
-          (onPlaced (placedAt w base total slot at)
-          (λ (after next : ℕ). push (record { slot = slot; cell = cellAt w at })
-          (cellsFrom w base total turns after next)))
+          (onPlacing (placedAt w base total slot at) refuse (λ (op : Operation) (width : ℕ) (after : Slot) (next : ℕ).
+          push (record { slot = slot; cell = cellAt w at }) (cellsFrom w base total turns (after .0) next)))
           (stop (S.Clean at)) .scan ≡ S.Clean end →
           ((after next : ℕ) → Rest after next) →
           (Walk w base total) slot at
           (cond b
-          (onPlaced (placedAt w base total slot at)
-          (λ (after next : ℕ). push (record { slot = slot; cell = cellAt w at })
-          (cellsFrom w base total turns after next)))
+          (onPlacing (placedAt w base total slot at) refuse (λ (op : Operation) (width : ℕ) (after : Slot) (next : ℕ).
+          push (record { slot = slot; cell = cellAt w at }) (cellsFrom w base total turns (after .0) next)))
           (stop (S.Clean at)) .items) end
       more true b e rest = go (ltb-true _ _ b) (placedAt w base total slot at) refl e rest
       more false b e rest =

@@ -21,8 +21,9 @@ use Rattle.fields.specs.declared.Number.the-variants as N
 use Rattle.fields.specs.declared.Scan.{Scan}
 use Rattle.fields.specs.declared.Scan.the-variants as S
 use Rattle.fields.specs.declared.Bit.the-variants as B
-use Rattle.fields.specs.Field.{fault, constantDriver, isConstant, numberAt, netAt, bitAt, scanBit, constantAt, scanMany}
-use Rattle.fields.specs.Pattern.{onNumber, alternateAt, patternAt, patternsAt}
+use Rattle.fields.specs.Field.{fault, onNumber, constantDriver, isConstant, numberAt, netAt, bitAt}
+use Rattle.fields.specs.Field.{scanBit, constantAt, scanMany}
+use Rattle.fields.specs.Pattern.{alternateAt, patternAt, patternsAt}
 use Rattle.fields.proofs.AcceptedLaws.{number-read, net-read, many-read, both-read}
 use Rattle.cell_reader.specs.Parse.{numberIn, netIn, controlIn, tritOf, tritIn, netsIn, tritsIn, patternsIn}
 use Rattle.accepted.proofs.Fields.{each-tab}
@@ -198,7 +199,7 @@ module _ (w : List ℕ) (total end : ℕ) where
 
       go :
           (v : Number) → numberAt w 64 end at ≡ v → {place : ℕ} →
-          onNumber v (scanMany (alternateAt w n end)) ≡ S.Clean place →
+          onNumber v S.Refused (scanMany (alternateAt w n end)) ≡ S.Clean place →
           Spans w place (flatMap patternWordsOf (patternsIn w n k place)) next →
           Spans w at (flatMap patternWordsOf (alternates ∷ patternsIn w n k (at + 1 + numberIn w at * n))) next
       go (N.Refused f) v e rest = let z : _≡_ {A = ℕ} 0 1 = cc in absurd (omega arith)

@@ -12,7 +12,7 @@ use Rattle.logic.specs.declared.Driver.the-variants.{Constant, Output, NoNet}
 use Rattle.cell.specs.Operation.{standingOf}
 use Rattle.fields.specs.declared.Scan.{Scan}
 use Rattle.fields.specs.declared.Scan.the-variants.{Clean, Refused}
-use Rattle.fields.specs.Field.{fault, onClean, scanMany}
+use Rattle.fields.specs.Field.{fault, onScan, scanMany}
 use Rattle.cell_reader.specs.Parse.{numberIn, opAt}
 use Rattle.voids.specs.declared.Item.{Item}
 use Rattle.voids.specs.declared.Item.the-variants.{Cell, Replacement, Pair}
@@ -60,6 +60,6 @@ itemVoidsAt w void Pair at = pairVoidsAt w void at
 -- All of them in list order, from the first cell on.
 unfoldable pub voidsAt : List ℕ → (ℕ → Bool) → ℕ → ℕ → ℕ → Scan
 voidsAt w void cells cellReps netReps =
-    onClean (scanMany (itemVoidsAt w void Cell) cells 4) (λ (replacements : ℕ).
-    onClean (scanMany (itemVoidsAt w void Replacement) cellReps replacements) (λ (pairs : ℕ).
+    onScan (scanMany (itemVoidsAt w void Cell) cells 4) Refused (λ (replacements : ℕ).
+    onScan (scanMany (itemVoidsAt w void Replacement) cellReps replacements) Refused (λ (pairs : ℕ).
     scanMany (itemVoidsAt w void Pair) netReps pairs))
