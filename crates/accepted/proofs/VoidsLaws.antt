@@ -23,7 +23,7 @@ use Rattle.cell_reader.specs.Parse.{numberIn, netIn, cellIn, opAt, endAt, cellA
 use Rattle.cell_reader.specs.Accepted.{IsLeading, IsRecord}
 use Rattle.placing.specs.Slots.{takes}
 use Rattle.placing.specs.Slots as Slots
-use Rattle.items.specs.Items.{newCell}
+use Rattle.items.specs.Items.{AtSlot, newCell}
 use Rattle.voids.specs.Voids.{voidDriver, namesVoid, offends, voidAt, clockAt, recordVoidsAt, replacementVoidsAt}
 use Rattle.voids.specs.Voids.{pairVoidsAt, itemVoidsAt, voidsAt}
 use Rattle.voids.specs.declared.Item.the-variants as I
@@ -184,7 +184,8 @@ module _ (w : List ℕ) (d : Design) (run : Run 0 (d .cells) (total d)) where
       (later .0, (here .1, later .1))
 
   replacement-avoids :
-      {head : ℕ → ℕ → Bool} (least at above next after : ℕ) → IsReplacement w (total d) head least at above next →
+      {stands : ℕ → AtSlot} {base : ℕ} (least at above next after : ℕ) →
+      IsReplacement w (total d) stands base least at above next →
       replacementVoidsAt w void at ≡ S.Clean after → (after ≡ next) × Avoiding (newCell w at)
   unfolding replacementVoidsAt Avoiding
   replacement-avoids least at above next after is read =

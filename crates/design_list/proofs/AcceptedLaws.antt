@@ -14,8 +14,8 @@ use Rattle.fields.specs.Field.{fault, onScan}
 use Rattle.items.specs.declared.Header.{Header}
 use Rattle.items.specs.declared.Opening.{Opening}
 use Rattle.items.specs.declared.Opening.the-variants as O
-use Rattle.placing.specs.Slots.{heads, isVoid}
-use Rattle.items.specs.Items.{onOpening, headerAt, cellRepsFrom, netRepsFrom, finishAt}
+use Rattle.placing.specs.Slots.{atSlot, isVoid}
+use Rattle.items.specs.Items.{onOpening, headerAt, replaces, cellRepsFrom, netRepsFrom, finishAt}
 use Rattle.placing.specs.Cells.{cellsOf}
 use Rattle.voids.specs.Voids.{voidsAt}
 use Rattle.design_list.specs.Read.{Read, refused, accepted, readNetReps, readCellReps}
@@ -57,7 +57,8 @@ module _ (w : List ℕ) (h : Header) (short : length w ≤ 16384) (long : 4 ≤ 
   cells = cellsOf w (h .base) (h .base + h .added) .items
 
   reps : ℕ → List Placed
-  reps replacements = cellRepsFrom w (h .base + h .added) (heads cells (h .base)) (h .cellreps) 0 replacements .items
+  reps replacements =
+      cellRepsFrom w (h .base + h .added) (replaces (atSlot cells) (h .base)) (h .cellreps) 0 replacements .items
 
   design : ℕ → ℕ → Design
   design pairs replacements = record {
@@ -74,8 +75,9 @@ module _ (w : List ℕ) (h : Header) (short : length w ≤ 16384) (long : 4 ≤ 
   cells-accepted {d} {replacements} {pairs} e =
       let after-cells = onward (cellsOf w (h .base) (h .base + h .added) .scan) _ e in
       let after-reps =
-      onward (cellRepsFrom w (h .base + h .added) (heads cells (h .base)) (h .cellreps) 0 (after-cells .place) .scan) _
-      (after-cells .rest) in
+      onward
+      (cellRepsFrom w (h .base + h .added) (replaces (atSlot cells) (h .base)) (h .cellreps) 0 (after-cells .place)
+      .scan) _ (after-cells .rest) in
       let after-pairs =
       onward (netRepsFrom w (h .base + h .added) (h .netreps) 0 (after-reps .place) .scan) _ (after-reps .rest) in
       let after-end = onward (finishAt w (after-pairs .place)) _ (after-pairs .rest) in

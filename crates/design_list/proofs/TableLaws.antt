@@ -19,8 +19,8 @@ use Rattle.items.specs.declared.Header.{Header}
 use Rattle.design_list.specs.declared.Extent.{Extent}
 use Rattle.design_list.specs.declared.DesignRead.the-variants as D
 use Rattle.design_list.specs.declared.SlotTable.{SlotTable}
-use Rattle.placing.specs.Slots.{covering, heads, isVoid, markOf, marks}
-use Rattle.items.specs.Items.{cellRepsFrom, netRepsFrom, finishAt}
+use Rattle.placing.specs.Slots.{covering, atSlot, isVoid, markOf, marks}
+use Rattle.items.specs.Items.{replaces, cellRepsFrom, netRepsFrom, finishAt}
 use Rattle.voids.specs.Voids.{voidsAt}
 use Rattle.design_list.specs.Read.{Read, refused, accepted, readNetReps, readCellReps, readCells, read}
 use Rattle.design_list.specs.Read.{answer}
@@ -60,7 +60,8 @@ stored-cells w h t t′ same =
   where
     reps : ℕ → Scan
     reps replacements =
-        cellRepsFrom w (h .base + h .added) (heads (cellsRead w h .items) (h .base)) (h .cellreps) 0 replacements .scan
+        cellRepsFrom w (h .base + h .added) (replaces (atSlot (cellsRead w h .items)) (h .base)) (h .cellreps) 0
+        replacements .scan
 
 -- Copying n words, at a turn and at the end.
 pub copy-turn :

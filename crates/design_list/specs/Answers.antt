@@ -7,7 +7,7 @@ use Rattle.fields.specs.Field.{onScan}
 use Rattle.items.specs.declared.Header.{Header}
 use Rattle.design_list.specs.declared.DesignRead.{DesignRead}
 use Rattle.design_list.specs.declared.DesignRead.the-variants as D
-use Rattle.items.specs.Items.{Reading, cellRepsFrom, netRepsFrom, finishAt}
+use Rattle.items.specs.Items.{Reading, Test, cellRepsFrom, netRepsFrom, finishAt}
 use Rattle.placing.specs.Cells.{cellsOf}
 use Rattle.voids.specs.Voids.{voidsAt}
 
@@ -26,9 +26,9 @@ netRepsAnswer w void h count replacements pairs =
       pairs = pairs;
     })))
 
-unfoldable pub cellRepsAnswer : List ℕ → (ℕ → ℕ → Bool) → (ℕ → Bool) → Header → ℕ → ℕ → DesignRead
-cellRepsAnswer w head void h count replacements =
-    onScan (cellRepsFrom w (h .base + h .added) head (h .cellreps) 0 replacements .scan) D.Refused (λ (pairs : ℕ).
+unfoldable pub cellRepsAnswer : List ℕ → Test → (ℕ → Bool) → Header → ℕ → ℕ → DesignRead
+cellRepsAnswer w right void h count replacements =
+    onScan (cellRepsFrom w (h .base + h .added) right (h .cellreps) 0 replacements .scan) D.Refused (λ (pairs : ℕ).
     netRepsAnswer w void h count replacements pairs)
 
 module _ (w : List ℕ) (h : Header) where

@@ -13,8 +13,8 @@ use Rattle.fields.specs.Field.{fault, onScan}
 use Rattle.items.specs.declared.Header.{Header}
 use Rattle.design_list.specs.declared.DesignRead.{DesignRead}
 use Rattle.design_list.specs.declared.DesignRead.the-variants as D
-use Rattle.placing.specs.Slots.{heads, isVoid}
-use Rattle.items.specs.Items.{Reading, onOpening, headerAt, cellRepsFrom, netRepsFrom, finishAt}
+use Rattle.placing.specs.Slots.{atSlot, isVoid}
+use Rattle.items.specs.Items.{Reading, onOpening, headerAt, replaces, cellRepsFrom, netRepsFrom, finishAt}
 use Rattle.placing.specs.Cells.{cellsOf}
 use Rattle.voids.specs.Voids.{voidsAt}
 
@@ -38,7 +38,7 @@ readNetReps w h cells cellReps cellRepsAt netRepsAt =
 unfoldable pub readCellReps : List ℕ → Header → List Placed → ℕ → Read
 readCellReps w h cells cellRepsAt =
     let reps : Reading Placed =
-    cellRepsFrom w (h .base + h .added) (heads cells (h .base)) (h .cellreps) 0 cellRepsAt in
+    cellRepsFrom w (h .base + h .added) (replaces (atSlot cells) (h .base)) (h .cellreps) 0 cellRepsAt in
     onScan (reps .scan) refused (λ (netRepsAt : ℕ). readNetReps w h cells (reps .items) cellRepsAt netRepsAt)
 
 -- The cells.

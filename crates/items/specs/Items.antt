@@ -2,7 +2,7 @@
 -- design list, each up to its first fault.
 use Prim.Native.Nat.{ℕ, zero, suc, _+_, _-_, _^_}
 use mathlib.Core.List.{List, [], _∷_}
-use mathlib.Core.Bool.{Bool, false, cond}
+use mathlib.Core.Bool.{Bool, not, _&&_}
 use lib.ListN.{length}
 use lib.Dec.{ltb, leb, eqb}
 use Rattle.logic.specs.declared.Fault.{Fault}
@@ -62,17 +62,32 @@ listedNumberAt w at =
 unfoldable pub listedNetAt : List ℕ → ℕ → ℕ → Scan
 listedNetAt w total at = unless (ltb at (length w)) (Refused (fault 1 (length w))) (netAt w total 0 (length w) at)
 
--- Whether a replacement is right: its slot is not below `least`, heads a base cell as `head` says, and its new cell is
--- no Void, Input or Note.
-unfoldable pub replaces : (ℕ → ℕ → Bool) → ℕ → ℕ → Operation → ℕ → Bool
-replaces head least slot op width = cond (leb least slot) (cond (head slot width) (mayReplace op) false) false
+-- What stands at a slot: the first slot of the cell that takes it, whether that is a Void, and its output width.
+pub record AtSlot : Type 0 where
+  pub first : ℕ
+  pub void : Bool
+  pub width : ℕ
+
+-- Fault 12: "replaced slot heads no base cell, is Void, or not ascending; widths differ; new cell is Void, Input or
+-- Note". Whether a replacement has none of these; `least` is one above the slot replaced before.
+unfoldable pub replaces : (ℕ → AtSlot) → ℕ → ℕ → ℕ → Operation → ℕ → Bool
+replaces stands base least slot op width =
+    (ltb slot base && eqb (stands slot .first) slot)
+    && not (stands slot .void)
+    && leb least slot
+    && eqb (stands slot .width) width
+    && mayReplace op
+
+-- A test of a replacement, by the least slot that it may have, its slot, and its new cell's operation and output width.
+abbrev pub Test : Type 0
+Test = ℕ → ℕ → Operation → ℕ → Bool
 
 -- #slot, then a record; what is wrong between them is fault 12, at #slot.
-unfoldable pub replacementAt : List ℕ → ℕ → (ℕ → ℕ → Bool) → ℕ → ℕ → Step
-replacementAt w total head least at =
+unfoldable pub replacementAt : List ℕ → ℕ → Test → ℕ → ℕ → Step
+replacementAt w total right least at =
     onNumber (listedNumberAt w at) T.Refused (λ (slot start : ℕ).
     onRecord (recordAt w total start) T.Refused (λ (op : Operation) (width next : ℕ).
-    unless (replaces head least slot op width) (T.Refused (fault 12 at)) (T.Read (slot + 1) next)))
+    unless (right least slot op width) (T.Refused (fault 12 at)) (T.Read (slot + 1) next)))
 
 module _ {A : Type 0} where
   -- k replacements, each not below what the one before it asks: `item` of the place of each.
@@ -85,8 +100,8 @@ module _ {A : Type 0} where
 abbrev pub newCell : List ℕ → ℕ → Placed
 newCell w at = record { slot = numberIn w at; cell = cellAt w (at + 1) }
 
-abbrev pub cellRepsFrom : List ℕ → ℕ → (ℕ → ℕ → Bool) → ℕ → ℕ → ℕ → Reading Placed
-cellRepsFrom w total head k least at = ascending (replacementAt w total head) (newCell w) k least at
+abbrev pub cellRepsFrom : List ℕ → ℕ → Test → ℕ → ℕ → ℕ → Reading Placed
+cellRepsFrom w total right k least at = ascending (replacementAt w total right) (newCell w) k least at
 
 -- from, to; a from not above the one before is fault 13, at from.
 unfoldable pub pairAt : List ℕ → ℕ → ℕ → ℕ → Step

@@ -1,28 +1,29 @@
 -- Laws of the definitions of Cover.
 use Prim.Native.Nat.{ℕ, zero, suc, _+_, _/_, _%_, _<_, _≤_, max}
-use mathlib.Core.Path.{_≡_, refl, fun-ext, _∙_}
-use mathlib.Core.Bool.{Bool, true, false, cond}
+use mathlib.Core.Path.{_≡_, refl, ap, fun-ext, _∙_}
+use mathlib.Core.Bool.{Bool, true, false, cond, not, _&&_}
 use mathlib.Core.List.{List, [], _∷_, _++_}
 use native.Mathlib.Omega.{arith}
 use native.Mathlib.Nat.{add-zero}
 use lib.ListN.{length, getD, drop, replicate, length-append, length-replicate, length-map, List·getD-map}
 use lib.ListN.{List·getD-append}
 use lib.Seq.{sets, sets-eq}
-use lib.Dec.{ltb, eqb}
+use lib.Dec.{ltb, leb, eqb}
 use borrow.Author.Tests.{ltb-true, ltb-false}
 use Rattle.logic.specs.declared.Slot.{Slot}
 use Rattle.cell.specs.Cell.{Cell, void, note, input, ioBuf, unary, binary, mux, adc, aig, shift, match, assign, dff}
 use Rattle.cell.specs.Cell.{outputLen, slotsOf, standing}
+use Rattle.cell.specs.Operation.{mayReplace}
 use Rattle.cell.specs.declared.Operation.{Operation}
 use Rattle.cell.specs.Design.{Placed}
 use Rattle.fields.specs.declared.Scan.the-variants as S
 use Rattle.cell_reader.specs.Parse.{cellAt}
 use Rattle.placing.specs.declared.Placing.{Placing}
 use Rattle.placing.specs.declared.Placing.the-variants as P
-use Rattle.placing.specs.Slots.{covering, nowhere, takes, heads, isVoid, markOf, marks}
-use Rattle.items.specs.Items.{stop, refuse, push}
+use Rattle.placing.specs.Slots.{covering, nowhere, takes, atSlot, isVoid, markOf, marks}
+use Rattle.items.specs.Items.{stop, refuse, push, AtSlot, replaces}
 use Rattle.placing.specs.Cells.{onPlacing, placedAt, cellsFrom, cellsOf}
-use Rattle.items.specs.Marks.{headsIn}
+use Rattle.items.specs.Marks.{atSlotIn}
 use Rattle.voids.specs.Marks.{isVoidIn}
 use Rattle.placing.proofs.Laws.{placed-read, limit-low}
 use Rattle.placing.specs.Cover.{Walk, done, placed}
@@ -184,35 +185,34 @@ module _ (base : ℕ) (cells : List Placed) (t : List ℕ) (room : length (cover
       List·getD-map (markOf base) (covering cells) i nowhere)
 
   module _ (below-base : base ≤ length (covering cells)) (narrow : All Narrow cells) where
-    pub heads-same : headsIn (sets t 0 (marks base cells)) base ≡ heads cells base
-    unfolding headsIn heads
-    heads-same = fun-ext (λ slot. fun-ext (λ width. go slot width (ltb slot base) refl))
+    at-slot-same : (slot : ℕ) → slot < base → atSlotIn (sets t 0 (marks base cells)) slot ≡ atSlot cells slot
+    at-slot-same slot low =
+        let word = table-at slot (omega arith) in
+        let small = takes-all Narrow cells (omega arith) narrow slot in
+        rw (
+          word,
+          mark-first base (takes cells slot) small,
+          mark-standing base (takes cells slot) small,
+          mark-width base (takes cells slot) small,
+        )
+
+    pub replaces-same : replaces (atSlotIn (sets t 0 (marks base cells))) base ≡ replaces (atSlot cells) base
+    unfolding replaces
+    replaces-same =
+        fun-ext (λ least. fun-ext (λ slot. fun-ext (λ op. fun-ext (λ width.
+        go least slot op width (ltb slot base) refl))))
       where
+        right : Bool → AtSlot → ℕ → ℕ → Operation → ℕ → Bool
+        right b s least slot op width =
+            (b && eqb (s .first) slot) && not (s .void) && leb least slot && eqb (s .width) width && mayReplace op
+
         go :
-            (slot width : ℕ) (b : Bool) → ltb slot base ≡ b →
-            cond b
-            (cond (eqb (getD (sets t 0 (marks base cells)) slot 0 / 1024) slot)
-            (cond (eqb (getD (sets t 0 (marks base cells)) slot 0 % 4) 0) false
-            (eqb (getD (sets t 0 (marks base cells)) slot 0 / 8 % 128) width))
-            false)
-            false
-            ≡
-            cond b
-            (cond (eqb (takes cells slot .slot) slot)
-            (cond (eqb (standing (takes cells slot .cell)) 0) false (eqb (outputLen (takes cells slot .cell)) width))
-            false)
-            false
-        go slot width false b = refl
-        go slot width true b =
-            let low : slot < base = ltb-true _ _ b in
-            let word = table-at slot (omega arith) in
-            let small = takes-all Narrow cells (omega arith) narrow slot in
-            rw (
-              word,
-              mark-first base (takes cells slot) small,
-              mark-standing base (takes cells slot) small,
-              mark-width base (takes cells slot) small,
-            )
+            (least slot : ℕ) (op : Operation) (width : ℕ) (b : Bool) → ltb slot base ≡ b →
+            right b (atSlotIn (sets t 0 (marks base cells)) slot) least slot op width
+            ≡ right b (atSlot cells slot) least slot op width
+        go least slot op width false b = refl
+        go least slot op width true b =
+            ap (λ (s : AtSlot). right true s least slot op width) (at-slot-same slot (ltb-true _ _ b))
 
     pub voids-same : isVoidIn (sets t 0 (marks base cells)) base ≡ isVoid cells base
     unfolding isVoidIn isVoid

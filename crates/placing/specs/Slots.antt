@@ -7,6 +7,7 @@ use lib.ListN.{getD, replicate}
 use lib.Dec.{ltb, eqb}
 use Rattle.cell.specs.Cell.{note, outputLen, slotsOf, standing}
 use Rattle.cell.specs.Design.{Placed}
+use Rattle.items.specs.Items.{AtSlot}
 
 -- For each slot in order the cell that takes it, with that cell's first slot.
 unfoldable pub covering : List Placed → List Placed
@@ -20,14 +21,13 @@ nowhere = record { slot = 0; cell = note }
 abbrev pub takes : List Placed → ℕ → Placed
 takes cells slot = getD (covering cells) slot nowhere
 
--- Whether a slot heads a cell of the base that is no Void and has this output width.
-unfoldable pub heads : List Placed → ℕ → ℕ → ℕ → Bool
-heads cells base slot width =
-    cond (ltb slot base)
-    (cond (eqb (takes cells slot .slot) slot)
-    (cond (eqb (standing (takes cells slot .cell)) 0) false (eqb (outputLen (takes cells slot .cell)) width))
-    false)
-    false
+-- What stands at a slot, as fault 12 asks.
+abbrev pub atSlot : List Placed → ℕ → AtSlot
+atSlot cells slot = record {
+  first = takes cells slot .slot;
+  void = eqb (standing (takes cells slot .cell)) 0;
+  width = outputLen (takes cells slot .cell);
+}
 
 -- Whether a slot is that of a Void of the base.
 unfoldable pub isVoid : List Placed → ℕ → ℕ → Bool

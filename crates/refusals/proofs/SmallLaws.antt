@@ -41,12 +41,12 @@ use Rattle.placing.specs.declared.Placing.the-variants as P
 use Rattle.items.specs.Step.{Step, onStep}
 use Rattle.items.specs.Step as T
 use Rattle.items.specs.Items.{Reading, stop, refuse, push, onOpening, countsAt, headerAt, listedNumberAt, listedNetAt}
-use Rattle.items.specs.Items.{replaces, replacementAt, ascending, newCell, cellRepsFrom}
+use Rattle.items.specs.Items.{replaces, Test, replacementAt, ascending, newCell, cellRepsFrom}
 use Rattle.items.specs.Items.{pairAt, netPair, netRepsFrom, finishAt}
 use Rattle.placing.specs.Cells.{limitOf, onPlacing, placedAt, cellsFrom, cellsOf}
 use Rattle.voids.specs.declared.Item.{Item}
 use Rattle.voids.specs.declared.Item.the-variants as I
-use Rattle.placing.specs.Slots.{heads, isVoid}
+use Rattle.placing.specs.Slots.{atSlot, isVoid}
 use Rattle.voids.specs.Voids.{voidDriver, namesVoid, offends, voidAt, clockAt, recordVoidsAt, replacementVoidsAt}
 use Rattle.voids.specs.Voids.{pairVoidsAt, itemVoidsAt, voidsAt}
 use Rattle.design_list.specs.Read.{Read, refused, readNetReps, readCellReps, readCells, read}
@@ -352,10 +352,10 @@ module _ (w : List ℕ) (short : length w ≤ 16384) where
       go true = net-small w (length w) short total 0 at here
       go false = omega arith
 
-  replacement-small : (total : ℕ) (head : ℕ → ℕ → Bool) (least at : ℕ) →
-      at ≤ length w → SmallStep (length w) (replacementAt w total head least at)
+  replacement-small : (total : ℕ) (right : Test) (least at : ℕ) →
+      at ≤ length w → SmallStep (length w) (replacementAt w total right least at)
   unfolding replacementAt
-  replacement-small total head least at here = numbered (listedNumberAt w at) (listed-number-small at here)
+  replacement-small total right least at here = numbered (listedNumberAt w at) (listed-number-small at here)
     where
       chosen : (a : Bool) (slot next : ℕ) → next ≤ length w →
           SmallStep (length w) (cond a (T.Read (slot + 1) next) (T.Refused (fault 12 at)))
@@ -366,16 +366,16 @@ module _ (w : List ℕ) (short : length w ≤ 16384) where
           (slot : ℕ) (r : Record) → SmallRecord (length w) r →
           SmallStep (length w)
           (onRecord r T.Refused (λ (op : Operation) (width next : ℕ).
-          cond (replaces head least slot op width) (T.Read (slot + 1) next) (T.Refused (fault 12 at))))
+          cond (right least slot op width) (T.Read (slot + 1) next) (T.Refused (fault 12 at))))
       made slot (R.Refused e) s = s
-      made slot (R.Read op width next) s = chosen (replaces head least slot op width) slot next s
+      made slot (R.Read op width next) s = chosen (right least slot op width) slot next s
 
       numbered :
           (n : Number) → SmallNumber (length w) n →
           SmallStep (length w)
           (onNumber n T.Refused (λ (slot start : ℕ).
           onRecord (recordAt w total start) T.Refused (λ (op : Operation) (width next : ℕ).
-          cond (replaces head least slot op width) (T.Read (slot + 1) next) (T.Refused (fault 12 at)))))
+          cond (right least slot op width) (T.Read (slot + 1) next) (T.Refused (fault 12 at)))))
       numbered (N.Refused e) s = s
       numbered (N.Value slot start) s = made slot (recordAt w total start) (record-small total start s)
 
@@ -518,9 +518,10 @@ module _ (w : List ℕ) (short : length w ≤ 16384) where
       SmallRead (readCellReps w h cells replacements)
   unfolding readCellReps
   cell-reps-small h cells replacements here =
-      scan-small (cellRepsFrom w (h .base + h .added) (heads cells (h .base)) (h .cellreps) 0 replacements .scan) _
-      (ascending-small (replacementAt w (h .base + h .added) (heads cells (h .base))) (newCell w)
-      (replacement-small (h .base + h .added) (heads cells (h .base))) (h .cellreps) 0 replacements here) (λ b hb.
+      let right : Test = replaces (atSlot cells) (h .base) in
+      scan-small (cellRepsFrom w (h .base + h .added) right (h .cellreps) 0 replacements .scan) _
+      (ascending-small (replacementAt w (h .base + h .added) right) (newCell w)
+      (replacement-small (h .base + h .added) right) (h .cellreps) 0 replacements here) (λ b hb.
       net-reps-small h cells _ replacements b hb)
 
   cells-read-small : (h : Header) → 4 ≤ length w → SmallRead (readCells w h)

@@ -16,8 +16,8 @@ use Rattle.items.specs.declared.Header.{Header}
 use Rattle.items.specs.declared.Opening.{Opening}
 use Rattle.items.specs.declared.Opening.the-variants as O
 use Rattle.items.specs.Step.{Step}
-use Rattle.placing.specs.Slots.{heads}
-use Rattle.items.specs.Items.{countsAt, headerAt, ascending, replacementAt, newCell, pairAt, netPair}
+use Rattle.placing.specs.Slots.{atSlot}
+use Rattle.items.specs.Items.{countsAt, headerAt, replaces, ascending, replacementAt, newCell, pairAt, netPair}
 use Rattle.design_list.specs.Read.{read, accepted}
 use Rattle.design_list.specs.Accepted.{IsAccepted}
 use Rattle.design_list.proofs.AcceptedLaws.{accepted-read}
@@ -85,7 +85,7 @@ pub accepted-counts :
     {w : List ℕ} {d : Design} {replacements pairs : ℕ} (is : IsAccepted w d replacements pairs) →
     (length (d .cellReps) ≡ is .header .cellreps) × (length (d .netReps) ≡ is .header .netreps)
 accepted-counts {w} {d} {replacements} {pairs} is =
-    let step = replacementAt w (total d) (heads (d .cells) (d .base)) in (
+    let step = replacementAt w (total d) (replaces (atSlot (d .cells)) (d .base)) in (
       ap length (is .reps-are) ∙
           many-items step (newCell w) (is .header .cellreps) 0 replacements pairs (is .reps-read),
       ap length (is .pairs-are) ∙

@@ -26,8 +26,8 @@ use Rattle.placing.specs.declared.Placing.{Placing}
 use Rattle.placing.specs.declared.Placing.the-variants as P
 use Rattle.items.specs.Step.{Step}
 use Rattle.items.specs.Step as T
-use Rattle.placing.specs.Slots.{heads}
-use Rattle.items.specs.Items.{Reading, stop, refuse, push, ascending, listedNumberAt, replaces}
+use Rattle.placing.specs.Slots.{atSlot}
+use Rattle.items.specs.Items.{Reading, stop, refuse, push, ascending, listedNumberAt, Test, replaces}
 use Rattle.items.specs.Items.{replacementAt, newCell, pairAt, netPair}
 use Rattle.placing.specs.Cells.{limitOf, onPlacing, placedAt, cellsFrom, cellsOf}
 use Rattle.design_list.specs.Read.{read, accepted}
@@ -125,10 +125,10 @@ module _ (w : List ℕ) (total : ℕ) where
       spans-then (words (item at)) _ (one least at above next is) (climb-span R item words one rest)
 
   replacement-span :
-      (head : ℕ → ℕ → Bool) (least at above next : ℕ) → replacementAt w total head least at ≡ T.Read above next →
+      (right : Test) (least at above next : ℕ) → replacementAt w total right least at ≡ T.Read above next →
       Spans w at (replacementWordsOf (newCell w at)) next
   unfolding replacementAt
-  replacement-span head least at above next = slotted (listedNumberAt w at) refl
+  replacement-span right least at above next = slotted (listedNumberAt w at) refl
     where
       Goal : Type 0
       Goal = Spans w at (replacementWordsOf (newCell w at)) next
@@ -136,13 +136,13 @@ module _ (w : List ℕ) (total : ℕ) where
       recorded :
           (slot start : ℕ) → listedNumberAt w at ≡ N.Value slot start → (r : Record) → recordAt w total start ≡ r →
           onRecord r T.Refused (λ (op : Operation) (width after : ℕ).
-          cond (replaces head least slot op width) (T.Read (slot + 1) after) (T.Refused (fault 12 at)))
+          cond (right least slot op width) (T.Read (slot + 1) after) (T.Refused (fault 12 at)))
           ≡ T.Read above next → Goal
       recorded slot start v (R.Refused f) r e = let z : _≡_ {A = ℕ} 0 1 = cc in absurd (omega arith)
       recorded slot start v (R.Read op width after) r e =
           let is = listed-number w at v in
           let begins : start ≡ at + 1 = is .after in
-          let last : after ≡ next = passed (replaces head least slot op width) e in
+          let last : after ≡ next = passed (right least slot op width) e in
           let new = rw (begins, last) at (record-span w total start r) in
           spans-then (numberWord (numberIn w at) ∷ []) (recordOf (cellAt w (at + 1)))
           (spans-one (number-word w at (is .kind)) refl) new
@@ -156,7 +156,7 @@ module _ (w : List ℕ) (total : ℕ) where
           (v : Number) → listedNumberAt w at ≡ v →
           onNumber v T.Refused (λ (slot start : ℕ).
           onRecord (recordAt w total start) T.Refused (λ (op : Operation) (width after : ℕ).
-          cond (replaces head least slot op width) (T.Read (slot + 1) after) (T.Refused (fault 12 at))))
+          cond (right least slot op width) (T.Read (slot + 1) after) (T.Refused (fault 12 at))))
           ≡ T.Read above next → Goal
       slotted (N.Refused f) v e = let z : _≡_ {A = ℕ} 0 1 = cc in absurd (omega arith)
       slotted (N.Value slot start) v e = recorded slot start v (recordAt w total start) refl e
@@ -202,11 +202,11 @@ list-span {w} {d} {replacements} {pairs} is =
     record { reads = header-is w (is .header-read) .words; ends = refl } in
     let cells : Spans w 4 (wordsOfCells d) replacements =
     rw (is .cells-are) (cells-span w (total d) (d .base) (total d) 0 4 replacements (is .cells-read)) in
-    let head = heads (d .cells) (d .base) in
+    let right : Test = replaces (atSlot (d .cells)) (d .base) in
     let reps : Spans w replacements (wordsOfReplacements d) pairs =
     rw (is .reps-are)
-    (ascending-span w (total d) (replacementAt w (total d) head) (newCell w) replacementWordsOf
-    (replacement-span w (total d) head) (is .header .cellreps) 0 replacements pairs (is .reps-read)) in
+    (ascending-span w (total d) (replacementAt w (total d) right) (newCell w) replacementWordsOf
+    (replacement-span w (total d) right) (is .header .cellreps) 0 replacements pairs (is .reps-read)) in
     let nets : Spans w pairs (wordsOfPairs d) (length w) =
     rw (is .pairs-are, ← is .ended)
     (ascending-span w (total d) (pairAt w (total d)) (netPair w) pairWordsOf (pair-span w (total d))
