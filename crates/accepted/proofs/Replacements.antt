@@ -113,14 +113,14 @@ listed-number w at {n} {next} = go (ltb at (length w))
 
 listed-net :
     (w : List ℕ) (total at : ℕ) {next : ℕ} → listedNetAt w total at ≡ S.Clean next →
-    (next ≡ at + 1) × IsNet w total 0 (length w) at
+    (next ≡ at + 1) × IsNet w total false (length w) at
 unfolding listedNetAt
 listed-net w total at {next} = go (ltb at (length w))
   where
     go :
-        (b : Bool) → cond b (netAt w total 0 (length w) at) (S.Refused (fault 1 (length w))) ≡ S.Clean next →
-        (next ≡ at + 1) × IsNet w total 0 (length w) at
-    go true e = net-read w total 0 (length w) at e
+        (b : Bool) → cond b (netAt w total false (length w) at) (S.Refused (fault 1 (length w))) ≡ S.Clean next →
+        (next ≡ at + 1) × IsNet w total false (length w) at
+    go true e = net-read w total false (length w) at e
     go false e = let z : _≡_ {A = ℕ} 0 1 = cc in absurd (omega arith)
 
 -- A cell replacement that was read.
@@ -181,8 +181,8 @@ replacement-read w total stands base least at above next read = slotted (listedN
 
 -- A net replacement that was read.
 pub record IsPair (w : List ℕ) (total least at above next : ℕ) : Type 0 where
-  pub from-is : IsNet w total 0 (length w) at
-  pub to-is : IsNet w total 0 (length w) (at + 1)
+  pub from-is : IsNet w total false (length w) at
+  pub to-is : IsNet w total false (length w) (at + 1)
   pub low : least ≤ payloadOfNet (netIn w at)
   pub up : above ≡ payloadOfNet (netIn w at) + 1
   pub after : next ≡ at + 2
@@ -197,7 +197,7 @@ pair-read w total least at above next read = first (listedNetAt w total at) refl
     Goal = IsPair w total least at above next
 
     right :
-        IsNet w total 0 (length w) at → IsNet w total 0 (length w) (at + 1) → (after : ℕ) → after ≡ at + 1 + 1 →
+        IsNet w total false (length w) at → IsNet w total false (length w) (at + 1) → (after : ℕ) → after ≡ at + 1 + 1 →
         (b : Bool) → leb least (numberIn w at) ≡ b →
         cond b (T.Read (numberIn w at + 1) after) (T.Refused (fault 13 at)) ≡ T.Read above next → Goal
     right from to after place false b e = let z : _≡_ {A = ℕ} 0 1 = cc in absurd (omega arith)
@@ -209,7 +209,7 @@ pair-read w total least at above next read = first (listedNetAt w total at) refl
         record { from-is = from; to-is = to; low = omega arith; up = omega arith; after = omega arith }
 
     second :
-        IsNet w total 0 (length w) at → (s : Scan) → listedNetAt w total (at + 1) ≡ s →
+        IsNet w total false (length w) at → (s : Scan) → listedNetAt w total (at + 1) ≡ s →
         onScan s T.Refused (λ (after : ℕ).
         cond (leb least (numberIn w at)) (T.Read (numberIn w at + 1) after) (T.Refused (fault 13 at)))
         ≡ T.Read above next →

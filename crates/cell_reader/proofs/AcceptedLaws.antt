@@ -239,8 +239,8 @@ pub body-read :
     (next ≡ end) × IsBody w total layout n end at
 unfolding bodyAt tailAt
 body-read w total layout n end at read =
-    let controls = both-read (netsAt w total 1 end (layout .controls) at) _ read in
-    let nets = both-read (netsAt w total 0 end (layout .nets) (controls .place)) _ (controls .second) in
+    let controls = both-read (netsAt w total true end (layout .controls) at) _ read in
+    let nets = both-read (netsAt w total false end (layout .nets) (controls .place)) _ (controls .second) in
     let constants = both-read (constantsAt w end (layout .constants) (nets .place)) _ (nets .second) in
     let patterns = both-read (patternsAt w n end (layout .patterns) (constants .place)) _ (constants .second) in
     let ends = ends-read end (patterns .place) (patterns .second) in (

@@ -1,7 +1,7 @@
 -- Document 01, "Words" and "Faults and what stays": a record of the design list, field by field, up to its first fault.
 use Prim.Native.Nat.{ℕ, _+_, _-_, _^_}
 use mathlib.Core.List.{List}
-use mathlib.Core.Bool.{cond}
+use mathlib.Core.Bool.{true, false, cond}
 use lib.Dec.{ltb, eqb}
 use Rattle.logic.specs.declared.Fault.{Fault}
 use Rattle.cell.specs.Operation.{numbersOf, fieldsOf}
@@ -57,8 +57,8 @@ tailAt w layout n end at =
 
 unfoldable pub bodyAt : List ℕ → ℕ → Fields → ℕ → ℕ → ℕ → Scan
 bodyAt w total layout n end at =
-    onScan (netsAt w total 1 end (layout .controls) at) S.Refused (λ (nets : ℕ).
-    onScan (netsAt w total 0 end (layout .nets) nets) S.Refused (tailAt w layout n end))
+    onScan (netsAt w total true end (layout .controls) at) S.Refused (λ (nets : ℕ).
+    onScan (netsAt w total false end (layout .nets) nets) S.Refused (tailAt w layout n end))
 
 unfoldable pub contentsAt : List ℕ → ℕ → Operation → ℕ → ℕ → Record
 contentsAt w total op end first =

@@ -18,8 +18,8 @@ use Rattle.fields.specs.declared.Scan.{Scan}
 use Rattle.fields.specs.declared.Scan.the-variants.{Clean, Refused}
 use Rattle.fields.specs.declared.Bit.the-variants as B
 use Rattle.fields.specs.declared.Head.the-variants as H
-use Rattle.fields.specs.Field.{fault, onScan, isConstant, isKnown, numberAt, netAt, bitAt, scanBit, constantAt}
-use Rattle.fields.specs.Field.{scanMany, endsAt}
+use Rattle.fields.specs.Field.{fault, onScan, isConstant, isKnown, mostKind, numberAt, netAt, bitAt, scanBit}
+use Rattle.fields.specs.Field.{constantAt, scanMany, endsAt}
 use Rattle.fields.specs.Head.{recordOf, headOf, headAt}
 use Rattle.fields.specs.Accepted.{IsNumber}
 
@@ -109,23 +109,25 @@ ends-read end at {next} read = go (eqb at end) refl read
     go false k e = let z : _≡_ {A = ℕ} 0 1 = cc in absurd (omega arith)
 
 -- A net that was read: it stands in the record and is a constant or a slot below the total.
-pub record IsNet (w : List ℕ) (total most end at : ℕ) : Type 0 where
+pub record IsNet (w : List ℕ) (total : ℕ) (mayInvert : Bool) (end at : ℕ) : Type 0 where
   pub inside : at < end
-  pub kind : kindOf (getD w at 0) ≤ most
+  pub kind : kindOf (getD w at 0) ≤ mostKind mayInvert
   pub known : isKnown total (payloadOf (getD w at 0)) ≡ true
 
-pub net-read : (w : List ℕ) (total most end at : ℕ) {next : ℕ} → netAt w total most end at ≡ Clean next →
-    (next ≡ at + 1) × IsNet w total most end at
+pub net-read :
+    (w : List ℕ) (total : ℕ) (mayInvert : Bool) (end at : ℕ) {next : ℕ} → netAt w total mayInvert end at ≡ Clean next →
+    (next ≡ at + 1) × IsNet w total mayInvert end at
 unfolding netAt
-net-read w total most end at {next} read =
-    go (ltb at end) (leb (kindOf (getD w at 0)) most) (isKnown total (payloadOf (getD w at 0))) refl refl refl read
+net-read w total mayInvert end at {next} read =
+    go (ltb at end) (leb (kindOf (getD w at 0)) (mostKind mayInvert)) (isKnown total (payloadOf (getD w at 0)))
+    refl refl refl read
   where
     go :
-        (inside right known : Bool) → ltb at end ≡ inside → leb (kindOf (getD w at 0)) most ≡ right →
+        (inside right known : Bool) → ltb at end ≡ inside → leb (kindOf (getD w at 0)) (mostKind mayInvert) ≡ right →
         isKnown total (payloadOf (getD w at 0)) ≡ known →
         cond inside (cond right (cond known (Clean (at + 1)) (Refused (fault 6 at))) (Refused (fault 2 at)))
         (Refused (fault 5 at)) ≡ Clean next →
-        (next ≡ at + 1) × IsNet w total most end at
+        (next ≡ at + 1) × IsNet w total mayInvert end at
     go true true true i k n e = (cc, record { inside = ltb-true _ _ i; kind = leb-true _ _ k; known = n })
     go true true false i k n e = let z : _≡_ {A = ℕ} 0 1 = cc in absurd (omega arith)
     go true false n i k _ e = let z : _≡_ {A = ℕ} 0 1 = cc in absurd (omega arith)

@@ -2,7 +2,7 @@
 -- design list, each up to its first fault.
 use Prim.Native.Nat.{ℕ, zero, suc, _+_, _-_, _^_}
 use mathlib.Core.List.{List, [], _∷_}
-use mathlib.Core.Bool.{Bool, not, _&&_}
+use mathlib.Core.Bool.{Bool, false, not, _&&_}
 use lib.ListN.{length}
 use lib.Dec.{ltb, leb, eqb}
 use Rattle.logic.specs.declared.Fault.{Fault}
@@ -60,7 +60,7 @@ listedNumberAt w at =
     unless (ltb at (length w)) (N.Refused (fault 1 (length w))) (numberAt w (2 ^ 29 - 1) (length w) at)
 
 unfoldable pub listedNetAt : List ℕ → ℕ → ℕ → Scan
-listedNetAt w total at = unless (ltb at (length w)) (Refused (fault 1 (length w))) (netAt w total 0 (length w) at)
+listedNetAt w total at = unless (ltb at (length w)) (Refused (fault 1 (length w))) (netAt w total false (length w) at)
 
 -- What stands at a slot: the first slot of the cell that takes it, whether that is a Void, and its output width.
 pub record AtSlot : Type 0 where

@@ -97,7 +97,7 @@ fn listed_net_at(list: &[u32], total: usize, at: usize) -> Scan
     ensures { λ r. ⌜ r ≡ listedNetAt (now (list .entry)) total at ⌝ }
 {
     if at < list.len() {
-        reader::net_in(list, total, 0, list.len(), at)
+        reader::net_in(list, total, list.len(), at)
     } else {
         Scan::Refused(Fault {
             number: 1,

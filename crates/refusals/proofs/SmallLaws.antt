@@ -23,8 +23,8 @@ use Rattle.fields.specs.declared.Scan.the-variants.{Clean, Refused}
 use Rattle.fields.specs.declared.Bit.the-variants as B
 use Rattle.fields.specs.declared.Head.{Head}
 use Rattle.fields.specs.declared.Head.the-variants as H
-use Rattle.fields.specs.Field.{fault, onNumber, onScan, isConstant, isKnown, numberAt, netAt, bitAt, scanBit}
-use Rattle.fields.specs.Field.{constantAt, scanMany, netsAt, constantsAt, endsAt}
+use Rattle.fields.specs.Field.{fault, onNumber, onScan, isConstant, isKnown, mostKind, numberAt, netAt, bitAt}
+use Rattle.fields.specs.Field.{scanBit, constantAt, scanMany, netsAt, constantsAt, endsAt}
 use Rattle.fields.specs.Pattern.{alternateAt, patternAt, patternsAt}
 use Rattle.fields.specs.Head.{recordOf, onHead, headOf, headAt}
 use Rattle.cell_reader.specs.declared.Leading.{Leading}
@@ -98,10 +98,10 @@ module _ (w : List ℕ) (end : ℕ) (low : end ≤ 16384) where
       go true false c e = omega arith
       go false b c e = omega arith
 
-  net-small : (total most at : ℕ) → at ≤ end → SmallScan end (netAt w total most end at)
+  net-small : (total : ℕ) (mayInvert : Bool) (at : ℕ) → at ≤ end → SmallScan end (netAt w total mayInvert end at)
   unfolding netAt
-  net-small total most at here =
-      go (ltb at end) (leb (kindOf (getD w at 0)) most) (isKnown total (payloadOf (getD w at 0))) refl
+  net-small total mayInvert at here =
+      go (ltb at end) (leb (kindOf (getD w at 0)) (mostKind mayInvert)) (isKnown total (payloadOf (getD w at 0))) refl
     where
       go :
           (a b c : Bool) → ltb at end ≡ a →
@@ -163,10 +163,10 @@ module _ (w : List ℕ) (end : ℕ) (low : end ≤ 16384) where
   body-small : (total : ℕ) (layout : Fields) (n at : ℕ) → at ≤ end → SmallScan end (bodyAt w total layout n end at)
   unfolding bodyAt tailAt
   body-small total layout n at here =
-      clean-small (netsAt w total 1 end (layout .controls) at) _
-      (many-small (netAt w total 1 end) (net-small total 1) (layout .controls) at here) (λ a ha.
-      clean-small (netsAt w total 0 end (layout .nets) a) _
-      (many-small (netAt w total 0 end) (net-small total 0) (layout .nets) a ha) (λ b hb.
+      clean-small (netsAt w total true end (layout .controls) at) _
+      (many-small (netAt w total true end) (net-small total true) (layout .controls) at here) (λ a ha.
+      clean-small (netsAt w total false end (layout .nets) a) _
+      (many-small (netAt w total false end) (net-small total false) (layout .nets) a ha) (λ b hb.
       clean-small (constantsAt w end (layout .constants) b) _
       (many-small (constantAt w end) constant-small (layout .constants) b hb) (λ c hc.
       clean-small (patternsAt w n end (layout .patterns) c) _ (patterns-small n (layout .patterns) c hc) ends-small)))
@@ -348,8 +348,8 @@ module _ (w : List ℕ) (short : length w ≤ 16384) where
   unfolding listedNetAt
   listed-net-small total at here = go (ltb at (length w))
     where
-      go : (a : Bool) → SmallScan (length w) (cond a (netAt w total 0 (length w) at) (Refused (fault 1 (length w))))
-      go true = net-small w (length w) short total 0 at here
+      go : (a : Bool) → SmallScan (length w) (cond a (netAt w total false (length w) at) (Refused (fault 1 (length w))))
+      go true = net-small w (length w) short total false at here
       go false = omega arith
 
   replacement-small : (total : ℕ) (right : Test) (least at : ℕ) →

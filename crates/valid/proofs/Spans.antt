@@ -149,18 +149,18 @@ module _ (w : List ℕ) (at : ℕ) where
 -- ---- Vectors.
 module _ (w : List ℕ) (total end : ℕ) where
   pub nets-span :
-      (n at next : ℕ) → scanMany (netAt w total 0 end) n at ≡ S.Clean next →
+      (n at next : ℕ) → scanMany (netAt w total false end) n at ≡ S.Clean next →
       Spans w at (map netWordOf (netsIn w n at)) next
   nets-span =
-      spans-many w netWordOf (netIn w) (netAt w total 0 end)
-      (λ at next e. let is = net-read w total 0 end at e in (is .0, net-word w at (is .1 .kind)))
+      spans-many w netWordOf (netIn w) (netAt w total false end)
+      (λ at next e. let is = net-read w total false end at e in (is .0, net-word w at (is .1 .kind)))
 
   pub controls-span :
-      (n at next : ℕ) → scanMany (netAt w total 1 end) n at ≡ S.Clean next →
+      (n at next : ℕ) → scanMany (netAt w total true end) n at ≡ S.Clean next →
       Spans w at (map controlWordOf (tab n (λ i. controlIn w (at + i)))) next
   controls-span =
-      spans-many w controlWordOf (controlIn w) (netAt w total 1 end)
-      (λ at next e. let is = net-read w total 1 end at e in (is .0, control-word w at (is .1 .kind)))
+      spans-many w controlWordOf (controlIn w) (netAt w total true end)
+      (λ at next e. let is = net-read w total true end at e in (is .0, control-word w at (is .1 .kind)))
 
   pub constants-span :
       (n at next : ℕ) → scanMany (constantAt w end) n at ≡ S.Clean next →
