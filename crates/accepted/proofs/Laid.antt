@@ -6,10 +6,10 @@ use Prim.Native.Nat.{ℕ, zero, suc, _+_, _-_, _≤_, _<_, max}
 use native.Mathlib.Omega.{arith}
 use native.Mathlib.Decide.{decLt}
 use lib.ListN.{length, getD, replicate}
-use lib.Dec.{ltb, eqb}
+use lib.Dec.{ltb}
 use borrow.Author.Tests.{lt-ltb, le-ltb, le-leb}
 use Rattle.logic.specs.Net.{payloadOfNet}
-use Rattle.cell.specs.Cell.{Cell, outputLen, slotsOf, standing}
+use Rattle.cell.specs.Cell.{Cell, outputLen, slotsOf, standing, standsVoid}
 use Rattle.cell.specs.Cell as C
 use Rattle.cell.specs.Operation.{mayReplace}
 use Rattle.cell.specs.Design.{Placed, NetPair, Design, total}
@@ -112,7 +112,7 @@ cell-takes d i run low =
     let zeroed : 0 + i ≡ i = omega arith in rw zeroed at (run-takes (d .cells) 0 (total d) i run (omega arith))
 
 -- ---- The cell replacements.
-pub not-void : (c : Cell) → eqb (standing c) 0 ≡ false → isVoid (role c) ≡ false
+pub not-void : (c : Cell) → standsVoid (standing c) ≡ false → isVoid (role c) ≡ false
 not-void C.void e = absurd (true≢false e)
 not-void C.note e = refl
 not-void (C.input n) e = refl

@@ -5,12 +5,11 @@ use mathlib.Core.List.{List}
 use Prim.Native.Nat.{ℕ, _+_, _-_, _/_, _≤_, _<_}
 use native.Mathlib.Omega.{arith}
 use lib.ListN.{length, getD}
-use lib.Dec.{eqb}
 use borrow.Author.Tests.{lt-ltb, le-leb, ne-eqb}
 use Rattle.logic.specs.Word.{kindOf}
 use Rattle.logic.specs.Net.{Net, constant, slot, driverOfNet}
 use Rattle.logic.proofs.NetLaws.{driver-of-payload}
-use Rattle.cell.specs.Cell.{Cell}
+use Rattle.cell.specs.Cell.{Cell, standsDff}
 use Rattle.cell.specs.Operation.{numbersOf, fieldsOf, standingOf}
 use Rattle.cell.specs.Design.{Placed, NetPair, Design, total}
 use Rattle.cell.specs.declared.Operation.{Operation}
@@ -135,7 +134,7 @@ module _ (w : List ℕ) (d : Design) (run : Run 0 (d .cells) (total d)) where
     cell-avoids :
         (op : Operation) {n m start : ℕ} → IsLeading w (numbersOf op) end (at + 1) n m start →
         Body w (total d) (fieldsOf op n m) n end start →
-        Clean (cond (eqb (standingOf op) 1) (at + 3) 0) (at + 1) end →
+        Clean (cond (standsDff (standingOf op)) (at + 3) 0) (at + 1) end →
         Each (Stands w (total d) start end) (netsOf (cellIn w op (at + 1))) →
         Each (NoVoid d) (netsBesideClock (cellIn w op (at + 1)))
     cell-avoids O.Void l b c s = plain O.Void (omega arith) l c s

@@ -330,23 +330,3 @@ standing-in w O.Dff at = refl
 pub standing-at : (w : List ℕ) (at : ℕ) → standing (cellAt w at) ≡ standingOf (opAt w at)
 unfolding cellAt
 standing-at w at = standing-in w (opAt w at) (at + 1)
-
--- Standings are 0, 1 and 2.
-low-standing : (op : Operation) → standingOf op ≤ 2
-low-standing O.Void = omega arith
-low-standing O.Note = omega arith
-low-standing O.IoBuf = omega arith
-low-standing O.Input = omega arith
-low-standing (O.Unary operator) = omega arith
-low-standing (O.Binary operator) = omega arith
-low-standing O.Mux = omega arith
-low-standing O.Adc = omega arith
-low-standing O.Aig = omega arith
-low-standing (O.Shift operator) = omega arith
-low-standing O.Match = omega arith
-low-standing O.Assign = omega arith
-low-standing O.Dff = omega arith
-
-pub record-standing : {w : List ℕ} {total at : ℕ} {op : Operation} {width next : ℕ} → IsRecord w total at op width next
-    → standingOf op ≤ 2
-record-standing {op = op} is = low-standing op

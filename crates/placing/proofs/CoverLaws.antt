@@ -11,16 +11,17 @@ use lib.Seq.{sets, sets-eq}
 use lib.Dec.{ltb, leb, eqb}
 use borrow.Author.Tests.{ltb-true, ltb-false}
 use Rattle.logic.specs.declared.Slot.{Slot}
-use Rattle.cell.specs.Cell.{Cell, void, note, input, ioBuf, unary, binary, mux, adc, aig, shift, match, assign, dff}
-use Rattle.cell.specs.Cell.{outputLen, slotsOf, standing}
+use Rattle.cell.specs.Cell.{outputLen, slotsOf, standing, standsVoid}
 use Rattle.cell.specs.Operation.{mayReplace}
+use Rattle.cell.specs.declared.Standing.{Standing}
+use Rattle.cell.specs.declared.Standing.the-variants as T
 use Rattle.cell.specs.declared.Operation.{Operation}
 use Rattle.cell.specs.Design.{Placed}
 use Rattle.fields.specs.declared.Scan.the-variants as S
 use Rattle.cell_reader.specs.Parse.{cellAt}
 use Rattle.placing.specs.declared.Placing.{Placing}
 use Rattle.placing.specs.declared.Placing.the-variants as P
-use Rattle.placing.specs.Slots.{covering, nowhere, takes, atSlot, isVoid, markOf, marks}
+use Rattle.placing.specs.Slots.{covering, nowhere, takes, atSlot, isVoid, standingNumber, markOf, marks}
 use Rattle.items.specs.Items.{stop, refuse, push, AtSlot, replaces}
 use Rattle.placing.specs.Cells.{onPlacing, placedAt, cellsFrom, cellsOf}
 use Rattle.items.specs.Marks.{atSlotIn}
@@ -135,20 +136,16 @@ walk-narrow {w = w} (placed {at = at} {width = width} inside is rest) = (
   walk-narrow rest,
 )
 
-cell-standing : (c : Cell) → standing c ≤ 2
-cell-standing void = omega arith
-cell-standing note = omega arith
-cell-standing (input n) = omega arith
-cell-standing (ioBuf n) = omega arith
-cell-standing (unary op a) = omega arith
-cell-standing (binary op a b) = omega arith
-cell-standing (mux s a b) = omega arith
-cell-standing (adc a b c) = omega arith
-cell-standing (aig a b) = omega arith
-cell-standing (shift op value amount stride) = omega arith
-cell-standing (match value enable patterns) = omega arith
-cell-standing (assign value enable update offset) = omega arith
-cell-standing (dff ff) = omega arith
+-- The numbers of what stands at a slot are 0, 1 and 2, and 0 is a Void's.
+standing-low : (s : Standing) → standingNumber s ≤ 2
+standing-low T.Void = omega arith
+standing-low T.Dff = omega arith
+standing-low T.Other = omega arith
+
+void-number : (s : Standing) → eqb (standingNumber s) 0 ≡ standsVoid s
+void-number T.Void = refl
+void-number T.Dff = refl
+void-number T.Other = refl
 
 -- The word of a slot gives back what stands there, the output width and the first slot.
 module _ (base : ℕ) (c : Placed) (narrow : Narrow c) where
@@ -156,14 +153,14 @@ module _ (base : ℕ) (c : Placed) (narrow : Narrow c) where
   added-low true = omega arith
   added-low false = omega arith
 
-  mark-standing : markOf base c % 4 ≡ standing (c .cell)
-  mark-standing = omega (arith, cell-standing (c .cell), added-low (ltb (c .slot) base))
+  mark-standing : markOf base c % 4 ≡ standingNumber (standing (c .cell))
+  mark-standing = omega (arith, standing-low (standing (c .cell)), added-low (ltb (c .slot) base))
 
   mark-width : markOf base c / 8 % 128 ≡ outputLen (c .cell)
-  mark-width = omega (arith, cell-standing (c .cell), added-low (ltb (c .slot) base))
+  mark-width = omega (arith, standing-low (standing (c .cell)), added-low (ltb (c .slot) base))
 
   mark-first : markOf base c / 1024 ≡ c .slot
-  mark-first = omega (arith, cell-standing (c .cell), added-low (ltb (c .slot) base))
+  mark-first = omega (arith, standing-low (standing (c .cell)), added-low (ltb (c .slot) base))
 
 getD-any : {A : Type 0} (l : List A) (i : ℕ) (d e : A) → i < length l → getD l i d ≡ getD l i e
 getD-any [] i d e low = absurd (omega arith)
@@ -193,6 +190,7 @@ module _ (base : ℕ) (cells : List Placed) (t : List ℕ) (room : length (cover
           word,
           mark-first base (takes cells slot) small,
           mark-standing base (takes cells slot) small,
+          void-number (standing (takes cells slot .cell)),
           mark-width base (takes cells slot) small,
         )
 
@@ -221,10 +219,14 @@ module _ (base : ℕ) (cells : List Placed) (t : List ℕ) (room : length (cover
         go :
             (slot : ℕ) (b : Bool) → ltb slot base ≡ b →
             cond b (eqb (getD (sets t 0 (marks base cells)) slot 0 % 4) 0) false
-            ≡ cond b (eqb (standing (takes cells slot .cell)) 0) false
+            ≡ cond b (standsVoid (standing (takes cells slot .cell))) false
         go slot false b = refl
         go slot true b =
             let low : slot < base = ltb-true _ _ b in
             let word = table-at slot (omega arith) in
             let small = takes-all Narrow cells (omega arith) narrow slot in
-            rw (word, mark-standing base (takes cells slot) small)
+            rw (
+              word,
+              mark-standing base (takes cells slot) small,
+              void-number (standing (takes cells slot .cell)),
+            )
