@@ -18,8 +18,9 @@ use Rattle.cell.specs.declared.Fields.{Fields}
 use Rattle.fields.specs.declared.Number.{Number}
 use Rattle.fields.specs.declared.Number.the-variants as N
 use Rattle.fields.specs.declared.Scan.the-variants as S
-use Rattle.fields.specs.Field.{knownDriver, isKnown, numberAt, netAt, constantAt, netsAt, constantsAt, scanMany}
-use Rattle.fields.specs.Pattern.{onNumber, alternateAt, patternAt, patternsAt}
+use Rattle.fields.specs.Field.{onNumber, knownDriver, isKnown, mostKind, numberAt, netAt, constantAt, netsAt}
+use Rattle.fields.specs.Field.{constantsAt, scanMany}
+use Rattle.fields.specs.Pattern.{alternateAt, patternAt, patternsAt}
 use Rattle.fields.proofs.AcceptedLaws.{number-read, IsNet, net-read, constant-read, many-read, both-read}
 use Rattle.cell_reader.specs.Parse.{numberIn, netIn, netsIn, tritsIn, patternsIn}
 use Rattle.cell_reader.specs.Accepted.{IsBody}
@@ -59,7 +60,7 @@ pub record Vector (P : Net → Type 0) (n : ℕ) (nets : List Net) : Type 0 wher
 module _ (w : List ℕ) (total : ℕ) where
   -- The words from a place on are net or control words.
   abbrev pub Named : ℕ → ℕ → ℕ → Type 0
-  Named end from to = (at : ℕ) → from ≤ at → at < to → IsNet w total 1 end at
+  Named end from to = (at : ℕ) → from ≤ at → at < to → IsNet w total true end at
 
   pub net :
       {end from to : ℕ} → Named end from to → (at : ℕ) → from ≤ at → at < to → Stands w total from end (netIn w at)
@@ -83,20 +84,26 @@ module _ (w : List ℕ) (total : ℕ) where
         (λ i l. net named (at + i) (omega arith) (omega arith));
   }
 
+  most-kind : (mayInvert : Bool) → mostKind mayInvert ≤ 1
+  most-kind true = omega arith
+  most-kind false = omega arith
+
   pub nets-read :
-      (most end n at : ℕ) {next : ℕ} → most ≤ 1 → netsAt w total most end n at ≡ S.Clean next →
+      (mayInvert : Bool) (end n at : ℕ) {next : ℕ} → netsAt w total mayInvert end n at ≡ S.Clean next →
       (next ≡ at + n) × Named end at (at + n)
-  nets-read most end n at {next} few read = (all .0, at-place)
+  nets-read mayInvert end n at {next} read = (all .0, at-place)
     where
-      all : (next ≡ at + n) × ((i : ℕ) → i < n → IsNet w total most end (at + i))
-      all = many-read (netAt w total most end) (IsNet w total most end) (λ i next e. net-read w total most end i e) n
-          at next read
+      all : (next ≡ at + n) × ((i : ℕ) → i < n → IsNet w total mayInvert end (at + i))
+      all =
+          many-read (netAt w total mayInvert end) (IsNet w total mayInvert end)
+          (λ i next e. net-read w total mayInvert end i e) n at next read
 
       at-place : Named end at (at + n)
       at-place i low high =
           let same : at + (i - at) ≡ i = omega arith in
-          let is : IsNet w total most end i = rw same at (all .1 (i - at) (omega arith)) in
-          let right : kindOf (getD w i 0) ≤ most = is .kind in
+          let is : IsNet w total mayInvert end i = rw same at (all .1 (i - at) (omega arith)) in
+          let right : kindOf (getD w i 0) ≤ mostKind mayInvert = is .kind in
+          let few = most-kind mayInvert in
           record { inside = is .inside; kind = omega arith; known = is .known }
 
 module _ (w : List ℕ) (end : ℕ) where
@@ -135,7 +142,7 @@ module _ (w : List ℕ) (end : ℕ) where
     where
       go :
           (v : Number) → numberAt w 64 end at ≡ v → {place : ℕ} →
-          onNumber v (scanMany (alternateAt w n end)) ≡ S.Clean place →
+          onNumber v S.Refused (scanMany (alternateAt w n end)) ≡ S.Clean place →
           (next ≡ place + sumBy patternWords (patternsIn w n k place)) ×
           Each (λ (alternates : List (List Trit)). length alternates ≤ 64) (patternsIn w n k place) →
           (next ≡ at + sumBy patternWords (patternsIn w n (suc k) at)) ×
@@ -177,8 +184,8 @@ pub body-of :
     {w : List ℕ} {total : ℕ} {layout : Fields} {n end start : ℕ} → IsBody w total layout n end start →
     Body w total layout n end start
 body-of {w} {total} {layout} {n} {end} {start} is =
-    let controls = nets-read w total 1 end (layout .controls) start (omega arith) (is .controls-read) in
-    let nets = nets-read w total 0 end (layout .nets) (is .nets) (omega arith) (is .nets-read) in
+    let controls = nets-read w total true end (layout .controls) start (is .controls-read) in
+    let nets = nets-read w total false end (layout .nets) (is .nets) (is .nets-read) in
     let nets-at : is .nets ≡ start + layout .controls = controls .0 in
     let constants-at : is .constants ≡ start + layout .controls + layout .nets = nets .0 ∙ rw nets-at in
     let patterns-at : is .patterns ≡ start + layout .controls + layout .nets + layout .constants =
@@ -193,6 +200,7 @@ body-of {w} {total} {layout} {n} {end} {start} is =
   where
     go : (at : ℕ) → start ≤ at → at < start + layout .controls + layout .nets → Dec (at < start + layout .controls) →
         Named w total end start (start + layout .controls) →
-        Named w total end (start + layout .controls) (start + layout .controls + layout .nets) → IsNet w total 1 end at
+        Named w total end (start + layout .controls) (start + layout .controls + layout .nets) →
+        IsNet w total true end at
     go at low high (yes y) controls nets = controls at low y
     go at low high (no n) controls nets = nets at (omega arith) high

@@ -6,10 +6,10 @@ use Prim.Native.Nat.{ℕ, zero, suc, _+_, _-_, _≤_, _<_, max}
 use native.Mathlib.Omega.{arith}
 use native.Mathlib.Decide.{decLt}
 use lib.ListN.{length, getD, replicate}
-use lib.Dec.{ltb, eqb}
-use borrow.Author.Tests.{ltb-true, eqb-true, lt-ltb, le-ltb, le-leb}
+use lib.Dec.{ltb}
+use borrow.Author.Tests.{lt-ltb, le-ltb, le-leb}
 use Rattle.logic.specs.Net.{payloadOfNet}
-use Rattle.cell.specs.Cell.{Cell, outputLen, slotsOf, standing}
+use Rattle.cell.specs.Cell.{Cell, outputLen, slotsOf, standing, standsVoid}
 use Rattle.cell.specs.Cell as C
 use Rattle.cell.specs.Operation.{mayReplace}
 use Rattle.cell.specs.Design.{Placed, NetPair, Design, total}
@@ -21,8 +21,8 @@ use Rattle.cell_reader.specs.Accepted.{IsRecord}
 use Rattle.fields.specs.declared.Scan.the-variants as S
 use Rattle.voids.specs.Voids.{voidsAt}
 use Rattle.placing.specs.Slots as Slots
-use Rattle.placing.specs.Slots.{covering, nowhere, takes, heads}
-use Rattle.items.specs.Items.{newCell, netPair, replacementAt, pairAt}
+use Rattle.placing.specs.Slots.{covering, nowhere, takes, atSlot}
+use Rattle.items.specs.Items.{newCell, netPair, replaces, replacementAt, pairAt}
 use Rattle.placing.specs.Placement.{IsPlaced}
 use Rattle.placing.specs.Cover.{Walk, done, placed}
 use Rattle.placing.proofs.CoverLaws.{walk-cells}
@@ -112,7 +112,7 @@ cell-takes d i run low =
     let zeroed : 0 + i ≡ i = omega arith in rw zeroed at (run-takes (d .cells) 0 (total d) i run (omega arith))
 
 -- ---- The cell replacements.
-pub not-void : (c : Cell) → eqb (standing c) 0 ≡ false → isVoid (role c) ≡ false
+pub not-void : (c : Cell) → standsVoid (standing c) ≡ false → isVoid (role c) ≡ false
 not-void C.void e = absurd (true≢false e)
 not-void C.note e = refl
 not-void (C.input n) e = refl
@@ -142,32 +142,6 @@ may-replace w O.Match at e = tt
 may-replace w O.Assign at e = tt
 may-replace w O.Dff at e = tt
 
--- A slot that heads a base cell, as the reader tests it.
-record Heads (cells : List Placed) (base slot width : ℕ) : Type 0 where
-  low : slot < base
-  first : takes cells slot .slot ≡ slot
-  old : eqb (standing (takes cells slot .cell)) 0 ≡ false
-  wide : outputLen (takes cells slot .cell) ≡ width
-
-heads-read :
-    (cells : List Placed) (base slot width : ℕ) → heads cells base slot width ≡ true → Heads cells base slot width
-unfolding heads
-heads-read cells base slot width =
-    go (ltb slot base) (eqb (takes cells slot .slot) slot) (eqb (standing (takes cells slot .cell)) 0)
-    (eqb (outputLen (takes cells slot .cell)) width) refl refl refl refl
-  where
-    go :
-        (a b c d : Bool) → ltb slot base ≡ a → eqb (takes cells slot .slot) slot ≡ b →
-        eqb (standing (takes cells slot .cell)) 0 ≡ c →
-        eqb (outputLen (takes cells slot .cell)) width ≡ d → cond a (cond b (cond c false d) false) false ≡ true →
-        Heads cells base slot width
-    go true true false true a b c d e =
-        record { low = ltb-true _ _ a; first = eqb-true _ _ b; old = c; wide = eqb-true _ _ d }
-    go true true false false a b c d e = absurd (false≢true e)
-    go true true true y a b c d e = absurd (false≢true e)
-    go true false x y a b c d e = absurd (false≢true e)
-    go false v x y a b c d e = absurd (false≢true e)
-
 module _ (d : Design) (w : List ℕ) where
   placed-laid :
       {at : ℕ} {op : Operation} {width next : ℕ} → IsRecord w (total d) at op width next → (slot : ℕ) →
@@ -182,11 +156,11 @@ module _ (d : Design) (w : List ℕ) where
 
   replacement-replaces :
       Run 0 (d .cells) (total d) → {least at above next : ℕ} →
-      IsReplacement w (total d) (heads (d .cells) (d .base)) least at above next →
+      IsReplacement w (total d) (atSlot (d .cells)) (d .base) least at above next →
       Replaces d (newCell w at)
   unfolding cellAt
   replacement-replaces run {at = at} is =
-      let head = heads-read (d .cells) (d .base) (numberIn w at) (is .width) (is .heads) in
+      let head = is .replaced in
       let low : numberIn w at < d .base = head .low in
       let same = cell-takes d (numberIn w at) run (omega arith) in
       let op : is .op ≡ opAt w (at + 1) = is .record-is .same-op in
@@ -195,7 +169,7 @@ module _ (d : Design) (w : List ℕ) where
         heads = rw same (head .first);
         old = rw same (not-void (takes (d .cells) (numberIn w at) .cell) (head .old));
         width = rw same (sym (is .record-is .same-width) ∙ sym (head .wide));
-        new = rw op at (may-replace w (is .op) (at + 1 + 1) (is .may));
+        new = rw op at (may-replace w (is .op) (at + 1 + 1) (head .may));
       }
 
   pair-within : {least at above next : ℕ} → IsPair w (total d) least at above next → PairWithin d (netPair w at)
@@ -209,7 +183,7 @@ module _ (d : Design) (w : List ℕ) where
 pub record Stages (w : List ℕ) (d : Design) (replacements pairs last : ℕ) : Type 0 where
   pub walk : Walk w (d .base) (total d) 0 4 (d .cells) replacements
   pub reps :
-      Climb (IsReplacement w (total d) (heads (d .cells) (d .base))) (newCell w) 0 replacements (d .cellReps) pairs
+      Climb (IsReplacement w (total d) (atSlot (d .cells)) (d .base)) (newCell w) 0 replacements (d .cellReps) pairs
   pub nets : Climb (IsPair w (total d)) (netPair w) 0 pairs (d .netReps) (length w)
   pub voids :
       voidsAt w (Slots.isVoid (d .cells) (d .base)) (length (d .cells)) (length (d .cellReps)) (length (d .netReps))
@@ -218,8 +192,9 @@ pub record Stages (w : List ℕ) (d : Design) (replacements pairs last : ℕ) : 
 pub stages : {w : List ℕ} {d : Design} {r p : ℕ} (is : IsAccepted w d r p) → Stages w d r p (is .last)
 stages {w} {d} {r} {p} is =
     let reps =
-    climb-read (IsReplacement w (total d) head) (newCell w) (replacementAt w (total d) head)
-    (replacement-read w (total d) head)
+    climb-read (IsReplacement w (total d) (atSlot (d .cells)) (d .base)) (newCell w)
+    (replacementAt w (total d) (replaces (atSlot (d .cells)) (d .base)))
+    (replacement-read w (total d) (atSlot (d .cells)) (d .base))
     (is .header .cellreps) 0 r p (is .reps-read) in
     let nets =
     climb-read (IsPair w (total d)) (netPair w) (pairAt w (total d)) (pair-read w (total d)) (is .header .netreps) 0 p
@@ -231,9 +206,6 @@ stages {w} {d} {r} {p} is =
       nets = rw (is .pairs-are, ← is .ended) (nets .climb);
       voids = rw (ap length (is .reps-are) ∙ reps .many, ap length (is .pairs-are) ∙ nets .many) (is .voids-read);
     }
-  where
-    head : ℕ → ℕ → Bool
-    head = heads (d .cells) (d .base)
 
 pub accepted-laid : (w : List ℕ) {d : Design} {r p : ℕ} → read w ≡ accepted d r p → Laid d
 accepted-laid w {d} e =
@@ -248,7 +220,9 @@ accepted-laid w {d} e =
           climb-each _ _ (CellLaid d) (λ least at above next is. placed-laid d w (is .record-is) (numberIn w at))
           (all .reps);
       replaces = climb-each _ _ (Replaces d) (λ least at above next is. replacement-replaces d w run is) (all .reps);
-      slots = climb-ascends _ _ (λ (q : Placed). q .slot) (λ least at above next is. (is .low, is .up)) (all .reps) .1;
+      slots =
+          climb-ascends _ _ (λ (q : Placed). q .slot) (λ least at above next is. (is .replaced .ascends, is .up))
+          (all .reps) .1;
       nets = climb-each _ _ (PairWithin d) (λ least at above next is. pair-within d w is) (all .nets);
       froms =
           climb-ascends _ _ (λ (q : NetPair). payloadOfNet (q .from)) (λ least at above next is. (is .low, is .up))

@@ -9,25 +9,25 @@ use lib.Dec.{ltb, leb}
 use borrow.Author.Tests.{leb-true}
 use Rattle.logic.specs.Net.{payloadOfNet}
 use Rattle.logic.proofs.NetLaws.{payload-of-net}
-use Rattle.cell.specs.Operation.{mayReplace}
 use Rattle.cell.specs.declared.Operation.{Operation}
 use Rattle.fields.specs.declared.Number.{Number}
 use Rattle.fields.specs.declared.Number.the-variants as N
 use Rattle.fields.specs.declared.Scan.{Scan}
 use Rattle.fields.specs.declared.Scan.the-variants as S
-use Rattle.fields.specs.Field.{fault, numberAt, netAt}
+use Rattle.fields.specs.Field.{fault, onNumber, onScan, numberAt, netAt}
 use Rattle.fields.specs.Accepted.{IsNumber}
 use Rattle.fields.proofs.AcceptedLaws.{number-read, IsNet, net-read}
 use Rattle.cell_reader.specs.declared.Record.{Record}
 use Rattle.cell_reader.specs.declared.Record.the-variants as R
-use Rattle.cell_reader.specs.Record.{recordAt}
+use Rattle.cell_reader.specs.Record.{onRecord, recordAt}
 use Rattle.cell_reader.specs.Parse.{numberIn, netIn}
 use Rattle.cell_reader.specs.Accepted.{IsRecord}
 use Rattle.cell_reader.proofs.AcceptedLaws.{record-read}
-use Rattle.items.specs.Step.{Step}
+use Rattle.items.specs.Step.{Step, onStep}
 use Rattle.items.specs.Step as T
-use Rattle.items.specs.Items.{push, onStep, ascending, listedNumberAt, listedNetAt, onSlot, onNewCell, replaces}
-use Rattle.items.specs.Items.{replacementAt, onNet, pairAt}
+use Rattle.items.specs.Items.{refuse, push, ascending, listedNumberAt, listedNetAt, AtSlot, replaces}
+use Rattle.items.specs.Items.{replacementAt, pairAt}
+use Rattle.items.proofs.Laws.{IsReplaced, replaces-read}
 use Rattle.working_out.specs.Reading.{Each}
 use Rattle.working_out.proofs.ReadingLaws.{each-map}
 use Rattle.working_out.specs.Laid.{Ascending}
@@ -59,11 +59,12 @@ module _ {A : Type 0} (R : ℕ → ℕ → ℕ → ℕ → Type 0) (item : ℕ �
       where
         go :
             (s : Step) → step least at ≡ s →
-            onStep s (λ (above next : ℕ). push (item at) (ascending step item k above next)) .scan ≡ S.Clean end →
+            onStep s refuse (λ (above next : ℕ). push (item at) (ascending step item k above next)) .scan
+            ≡ S.Clean end →
             ((above next : ℕ) → ascending step item k above next .scan ≡ S.Clean end →
             IsRun k above next end (ascending step item k above next .items)) →
             IsRun (suc k) least at end
-            (onStep s (λ (above next : ℕ). push (item at) (ascending step item k above next)) .items)
+            (onStep s refuse (λ (above next : ℕ). push (item at) (ascending step item k above next)) .items)
         go (T.Refused f) s e rest = let z : _≡_ {A = ℕ} 0 1 = cc in absurd (omega arith)
         go (T.Read above next) s e rest =
             let later = rest above next e in
@@ -112,88 +113,76 @@ listed-number w at {n} {next} = go (ltb at (length w))
 
 listed-net :
     (w : List ℕ) (total at : ℕ) {next : ℕ} → listedNetAt w total at ≡ S.Clean next →
-    (next ≡ at + 1) × IsNet w total 0 (length w) at
+    (next ≡ at + 1) × IsNet w total false (length w) at
 unfolding listedNetAt
 listed-net w total at {next} = go (ltb at (length w))
   where
     go :
-        (b : Bool) → cond b (netAt w total 0 (length w) at) (S.Refused (fault 1 (length w))) ≡ S.Clean next →
-        (next ≡ at + 1) × IsNet w total 0 (length w) at
-    go true e = net-read w total 0 (length w) at e
+        (b : Bool) → cond b (netAt w total false (length w) at) (S.Refused (fault 1 (length w))) ≡ S.Clean next →
+        (next ≡ at + 1) × IsNet w total false (length w) at
+    go true e = net-read w total false (length w) at e
     go false e = let z : _≡_ {A = ℕ} 0 1 = cc in absurd (omega arith)
 
 -- A cell replacement that was read.
-pub record IsReplacement (w : List ℕ) (total : ℕ) (head : ℕ → ℕ → Bool) (least at above next : ℕ) : Type 0 where
+pub record IsReplacement (w : List ℕ) (total : ℕ) (stands : ℕ → AtSlot) (base least at above next : ℕ) : Type 0 where
   pub op : Operation
   pub width : ℕ
-  pub low : least ≤ numberIn w at
   pub up : above ≡ numberIn w at + 1
-  pub heads : head (numberIn w at) width ≡ true
-  pub may : mayReplace op ≡ true
+  pub replaced : IsReplaced stands base least (numberIn w at) op width
   pub record-is : IsRecord w total (at + 1) op width next
 
 pub replacement-read :
-    (w : List ℕ) (total : ℕ) (head : ℕ → ℕ → Bool) (least at above next : ℕ) →
-    replacementAt w total head least at ≡ T.Read above next → IsReplacement w total head least at above next
-unfolding replacementAt replaces
-replacement-read w total head least at above next read = slotted (listedNumberAt w at) refl read
+    (w : List ℕ) (total : ℕ) (stands : ℕ → AtSlot) (base least at above next : ℕ) →
+    replacementAt w total (replaces stands base) least at ≡ T.Read above next →
+    IsReplacement w total stands base least at above next
+unfolding replacementAt
+replacement-read w total stands base least at above next read = slotted (listedNumberAt w at) refl read
   where
     Goal : Type 0
-    Goal = IsReplacement w total head least at above next
+    Goal = IsReplacement w total stands base least at above next
 
     right :
         (slot start : ℕ) → IsNumber w (2 ^ 29 - 1) (length w) at slot start → (op : Operation) (width after : ℕ) →
-        IsRecord w total start op width after → (a b c : Bool) → leb least slot ≡ a → head slot width ≡ b →
-        mayReplace op ≡ c →
-        cond (cond a (cond b c false) false) (T.Read (slot + 1) after) (T.Refused (fault 12 at)) ≡ T.Read above next →
-        Goal
-    right slot start is op width after new true true true a b c e =
+        IsRecord w total start op width after → (b : Bool) → replaces stands base least slot op width ≡ b →
+        cond b (T.Read (slot + 1) after) (T.Refused (fault 12 at)) ≡ T.Read above next → Goal
+    right slot start is op width after new true b e =
         let value : slot ≡ numberIn w at = is .value in
         let begins : start ≡ at + 1 = is .after in
         let last : after ≡ next = cc in
         let top : above ≡ slot + 1 = cc in
-        let above-least : least ≤ slot = leb-true _ _ a in
         record {
           op = op;
           width = width;
-          low = omega arith;
           up = omega arith;
-          heads = rw value at b;
-          may = c;
+          replaced = rw value at (replaces-read stands base least slot op width b);
           record-is = rw last at (rw begins at new);
         }
-    right slot start is op width after new true true false a b c e = let z : _≡_ {A = ℕ} 0 1 = cc in
-        absurd (omega arith)
-    right slot start is op width after new true false y a b c e = let z : _≡_ {A = ℕ} 0 1 = cc in absurd (omega arith)
-    right slot start is op width after new false x y a b c e = let z : _≡_ {A = ℕ} 0 1 = cc in absurd (omega arith)
+    right slot start is op width after new false b e = let z : _≡_ {A = ℕ} 0 1 = cc in absurd (omega arith)
 
     recorded :
         (slot start : ℕ) → IsNumber w (2 ^ 29 - 1) (length w) at slot start → (r : Record) →
         recordAt w total start ≡ r →
-        onNewCell r (λ (op : Operation) (width after : ℕ).
-        cond (cond (leb least slot) (cond (head slot width) (mayReplace op) false) false) (T.Read (slot + 1) after)
-        (T.Refused (fault 12 at)))
+        onRecord r T.Refused (λ (op : Operation) (width after : ℕ).
+        cond (replaces stands base least slot op width) (T.Read (slot + 1) after) (T.Refused (fault 12 at)))
         ≡ T.Read above next → Goal
     recorded slot start is (R.Refused f) r e = let z : _≡_ {A = ℕ} 0 1 = cc in absurd (omega arith)
     recorded slot start is (R.Read op width after) r e =
-        right slot start is op width after (record-read w total start r) (leb least slot) (head slot width)
-        (mayReplace op)
-        refl refl refl e
+        right slot start is op width after (record-read w total start r) (replaces stands base least slot op width)
+        refl e
 
     slotted :
         (v : Number) → listedNumberAt w at ≡ v →
-        onSlot v (λ (slot start : ℕ).
-        onNewCell (recordAt w total start) (λ (op : Operation) (width after : ℕ).
-        cond (cond (leb least slot) (cond (head slot width) (mayReplace op) false) false) (T.Read (slot + 1) after)
-        (T.Refused (fault 12 at))))
+        onNumber v T.Refused (λ (slot start : ℕ).
+        onRecord (recordAt w total start) T.Refused (λ (op : Operation) (width after : ℕ).
+        cond (replaces stands base least slot op width) (T.Read (slot + 1) after) (T.Refused (fault 12 at))))
         ≡ T.Read above next → Goal
     slotted (N.Refused f) v e = let z : _≡_ {A = ℕ} 0 1 = cc in absurd (omega arith)
     slotted (N.Value slot start) v e = recorded slot start (listed-number w at v) (recordAt w total start) refl e
 
 -- A net replacement that was read.
 pub record IsPair (w : List ℕ) (total least at above next : ℕ) : Type 0 where
-  pub from-is : IsNet w total 0 (length w) at
-  pub to-is : IsNet w total 0 (length w) (at + 1)
+  pub from-is : IsNet w total false (length w) at
+  pub to-is : IsNet w total false (length w) (at + 1)
   pub low : least ≤ payloadOfNet (netIn w at)
   pub up : above ≡ payloadOfNet (netIn w at) + 1
   pub after : next ≡ at + 2
@@ -208,7 +197,7 @@ pair-read w total least at above next read = first (listedNetAt w total at) refl
     Goal = IsPair w total least at above next
 
     right :
-        IsNet w total 0 (length w) at → IsNet w total 0 (length w) (at + 1) → (after : ℕ) → after ≡ at + 1 + 1 →
+        IsNet w total false (length w) at → IsNet w total false (length w) (at + 1) → (after : ℕ) → after ≡ at + 1 + 1 →
         (b : Bool) → leb least (numberIn w at) ≡ b →
         cond b (T.Read (numberIn w at + 1) after) (T.Refused (fault 13 at)) ≡ T.Read above next → Goal
     right from to after place false b e = let z : _≡_ {A = ℕ} 0 1 = cc in absurd (omega arith)
@@ -220,8 +209,8 @@ pair-read w total least at above next read = first (listedNetAt w total at) refl
         record { from-is = from; to-is = to; low = omega arith; up = omega arith; after = omega arith }
 
     second :
-        IsNet w total 0 (length w) at → (s : Scan) → listedNetAt w total (at + 1) ≡ s →
-        onNet s (λ (after : ℕ).
+        IsNet w total false (length w) at → (s : Scan) → listedNetAt w total (at + 1) ≡ s →
+        onScan s T.Refused (λ (after : ℕ).
         cond (leb least (numberIn w at)) (T.Read (numberIn w at + 1) after) (T.Refused (fault 13 at)))
         ≡ T.Read above next →
         Goal
@@ -231,8 +220,8 @@ pair-read w total least at above next read = first (listedNetAt w total at) refl
 
     first :
         (s : Scan) → listedNetAt w total at ≡ s →
-        onNet s (λ (to : ℕ).
-        onNet (listedNetAt w total to) (λ (after : ℕ).
+        onScan s T.Refused (λ (to : ℕ).
+        onScan (listedNetAt w total to) T.Refused (λ (after : ℕ).
         cond (leb least (numberIn w at)) (T.Read (numberIn w at + 1) after) (T.Refused (fault 13 at))))
         ≡ T.Read above next →
         Goal

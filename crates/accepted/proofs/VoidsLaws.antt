@@ -5,12 +5,11 @@ use mathlib.Core.List.{List}
 use Prim.Native.Nat.{ℕ, _+_, _-_, _/_, _≤_, _<_}
 use native.Mathlib.Omega.{arith}
 use lib.ListN.{length, getD}
-use lib.Dec.{eqb}
 use borrow.Author.Tests.{lt-ltb, le-leb, ne-eqb}
 use Rattle.logic.specs.Word.{kindOf}
 use Rattle.logic.specs.Net.{Net, constant, slot, driverOfNet}
 use Rattle.logic.proofs.NetLaws.{driver-of-payload}
-use Rattle.cell.specs.Cell.{Cell}
+use Rattle.cell.specs.Cell.{Cell, standsDff}
 use Rattle.cell.specs.Operation.{numbersOf, fieldsOf, standingOf}
 use Rattle.cell.specs.Design.{Placed, NetPair, Design, total}
 use Rattle.cell.specs.declared.Operation.{Operation}
@@ -23,7 +22,7 @@ use Rattle.cell_reader.specs.Parse.{numberIn, netIn, cellIn, opAt, endAt, cellA
 use Rattle.cell_reader.specs.Accepted.{IsLeading, IsRecord}
 use Rattle.placing.specs.Slots.{takes}
 use Rattle.placing.specs.Slots as Slots
-use Rattle.items.specs.Items.{newCell}
+use Rattle.items.specs.Items.{AtSlot, newCell}
 use Rattle.voids.specs.Voids.{voidDriver, namesVoid, offends, voidAt, clockAt, recordVoidsAt, replacementVoidsAt}
 use Rattle.voids.specs.Voids.{pairVoidsAt, itemVoidsAt, voidsAt}
 use Rattle.voids.specs.declared.Item.the-variants as I
@@ -135,7 +134,7 @@ module _ (w : List ℕ) (d : Design) (run : Run 0 (d .cells) (total d)) where
     cell-avoids :
         (op : Operation) {n m start : ℕ} → IsLeading w (numbersOf op) end (at + 1) n m start →
         Body w (total d) (fieldsOf op n m) n end start →
-        Clean (cond (eqb (standingOf op) 1) (at + 3) 0) (at + 1) end →
+        Clean (cond (standsDff (standingOf op)) (at + 3) 0) (at + 1) end →
         Each (Stands w (total d) start end) (netsOf (cellIn w op (at + 1))) →
         Each (NoVoid d) (netsBesideClock (cellIn w op (at + 1)))
     cell-avoids O.Void l b c s = plain O.Void (omega arith) l c s
@@ -184,7 +183,8 @@ module _ (w : List ℕ) (d : Design) (run : Run 0 (d .cells) (total d)) where
       (later .0, (here .1, later .1))
 
   replacement-avoids :
-      {head : ℕ → ℕ → Bool} (least at above next after : ℕ) → IsReplacement w (total d) head least at above next →
+      {stands : ℕ → AtSlot} {base : ℕ} (least at above next after : ℕ) →
+      IsReplacement w (total d) stands base least at above next →
       replacementVoidsAt w void at ≡ S.Clean after → (after ≡ next) × Avoiding (newCell w at)
   unfolding replacementVoidsAt Avoiding
   replacement-avoids least at above next after is read =

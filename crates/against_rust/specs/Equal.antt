@@ -34,7 +34,7 @@ unfolding digits.span digits.climb digits.size table.tab bits.bv2nat bits.nat2bv
     parse.cellAt body.thirdAt body.secondAt body.firstAt body.leadingAt body.tailAt body.bodyAt body.contentsAt
     body.recordAt items.countsAt items.headerAt cells.placedAt cells.cellsFrom cells.cellsOf items.listedNumberAt
     items.listedNetAt items.replaces items.replacementAt items.ascending items.pairAt items.finishAt slots.covering
-    slots.heads slots.isVoid voids.namesVoid voids.offends voids.voidAt voids.clockAt voids.recordVoidsAt
+    slots.isVoid voids.namesVoid voids.offends voids.voidAt voids.clockAt voids.recordVoidsAt
     voids.replacementVoidsAt voids.pairVoidsAt voids.voidsAt reader.readNetReps reader.readCellReps reader.readCells
     reader.read encode.opOf encode.digits encode.encode encode.fromDigits encode.callsFrom builder.bvConcatOn
     builder.bvConcat builder.bvIsZero builder.bvToBool builder.boolToBv builder.tvLit builder.tvConst

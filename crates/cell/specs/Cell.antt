@@ -1,12 +1,14 @@
 -- Document 01, "Words": a cell, its output width and the slots it takes. The abstract syntax that every other layer
 -- uses.
-use mathlib.Core.Bool.{Bool, cond}
+use mathlib.Core.Bool.{Bool, true, false, cond}
 use mathlib.Core.List.{List}
 use Prim.Native.Nat.{ℕ, _+_, max}
 use lib.ListN.{length}
 use Rattle.logic.specs.Net.{Net}
 use Rattle.logic.specs.declared.Trit.{Trit}
 use Rattle.operators.specs.Operators.{compares}
+use Rattle.cell.specs.declared.Standing.{Standing}
+use Rattle.cell.specs.declared.Standing.the-variants as S
 -- Operations on one vector, #n n*.
 pub use Rattle.operators.specs.declared.Unary.{Unary}
 pub use Rattle.operators.specs.declared.Unary.the-variants.{Buf as buf, Not as not}
@@ -74,18 +76,29 @@ outputLen (dff ff) = length (ff .dat)
 abbrev pub slotsOf : Cell → ℕ
 slotsOf c = max 1 (outputLen c)
 
--- What stands at a slot, as far as reading nets goes: 0 a Void, 1 a Dff, 2 another cell.
-abbrev pub standing : Cell → ℕ
-standing void = 0
-standing note = 2
-standing (input n) = 2
-standing (ioBuf n) = 2
-standing (unary op a) = 2
-standing (binary op a b) = 2
-standing (mux s a b) = 2
-standing (adc a b c) = 2
-standing (aig a b) = 2
-standing (shift op value amount stride) = 2
-standing (match value enable patterns) = 2
-standing (assign value enable update offset) = 2
-standing (dff ff) = 1
+-- What stands at the slots of a cell, as far as reading nets goes.
+abbrev pub standing : Cell → Standing
+standing void = S.Void
+standing note = S.Other
+standing (input n) = S.Other
+standing (ioBuf n) = S.Other
+standing (unary op a) = S.Other
+standing (binary op a b) = S.Other
+standing (mux s a b) = S.Other
+standing (adc a b c) = S.Other
+standing (aig a b) = S.Other
+standing (shift op value amount stride) = S.Other
+standing (match value enable patterns) = S.Other
+standing (assign value enable update offset) = S.Other
+standing (dff ff) = S.Dff
+
+-- Whether that is a Void, and whether a Dff.
+abbrev pub standsVoid : Standing → Bool
+standsVoid S.Void = true
+standsVoid S.Dff = false
+standsVoid S.Other = false
+
+abbrev pub standsDff : Standing → Bool
+standsDff S.Void = false
+standsDff S.Dff = true
+standsDff S.Other = false

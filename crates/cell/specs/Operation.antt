@@ -17,6 +17,8 @@ use Rattle.cell.specs.declared.Decoded.{Decoded}
 use Rattle.cell.specs.declared.Decoded.the-variants.{Known, Unknown}
 use Rattle.cell.specs.declared.Numbers.{Numbers}
 use Rattle.cell.specs.declared.Fields.{Fields}
+use Rattle.cell.specs.declared.Standing.{Standing}
+use Rattle.cell.specs.declared.Standing.the-variants as S
 
 -- The operations by their numbers, from 0.
 abbrev pub operations : List Operation
@@ -78,6 +80,7 @@ lead count least second within = record { count = count; least = least; second =
 -- The numbers of each layout: k, u ≤ 63, m ≤ 32, flag ≤ 1 (n ≤ 63 in all); in Assign offset + u must be within n (fault
 -- 9).
 abbrev pub numbersIn : Layout → Numbers
+-- columns: how many, least n, bound of the second, within
 numbersIn L.Empty = lead 0 0 0 false
 -- #n
 numbersIn L.Port = lead 1 0 0 false
@@ -110,6 +113,7 @@ body controls nets constants patterns width =
 
 -- What follows the numbers n and m (m also stands for k and u) in each layout, and the output width (`output_len`).
 abbrev pub fieldsIn : Layout → ℕ → ℕ → Fields
+-- columns: controls, nets, constants, patterns, output width
 fieldsIn L.Empty n m = body 0 0 0 0 0
 -- #n
 fieldsIn L.Port n m = body 0 0 0 0 n
@@ -135,21 +139,21 @@ fieldsIn L.Dff n m = body 4 n (n + n) 0 n
 abbrev pub fieldsOf : Operation → ℕ → ℕ → Fields
 fieldsOf op n m = fieldsIn (layoutOf op) n m
 
--- What stands at a slot, as far as reading nets goes: 0 a Void, 1 a Dff, 2 another cell.
-abbrev pub standingOf : Operation → ℕ
-standingOf O.Void = 0
-standingOf O.Note = 2
-standingOf O.IoBuf = 2
-standingOf O.Input = 2
-standingOf (O.Unary operator) = 2
-standingOf (O.Binary operator) = 2
-standingOf O.Mux = 2
-standingOf O.Adc = 2
-standingOf O.Aig = 2
-standingOf (O.Shift operator) = 2
-standingOf O.Match = 2
-standingOf O.Assign = 2
-standingOf O.Dff = 1
+-- What stands at the slots of an operation's cell.
+abbrev pub standingOf : Operation → Standing
+standingOf O.Void = S.Void
+standingOf O.Note = S.Other
+standingOf O.IoBuf = S.Other
+standingOf O.Input = S.Other
+standingOf (O.Unary operator) = S.Other
+standingOf (O.Binary operator) = S.Other
+standingOf O.Mux = S.Other
+standingOf O.Adc = S.Other
+standingOf O.Aig = S.Other
+standingOf (O.Shift operator) = S.Other
+standingOf O.Match = S.Other
+standingOf O.Assign = S.Other
+standingOf O.Dff = S.Dff
 
 -- Void, Input and Note may not be the new cell of a replacement (fault 12).
 abbrev pub mayReplace : Operation → Bool

@@ -25,6 +25,13 @@ pub enum Operation {
     Dff,
 }
 
+// What stands at a slot, as far as reading nets goes: a Void, a Dff or another cell.
+pub enum Standing {
+    Void,
+    Dff,
+    Other,
+}
+
 // How a body is laid out; of two vectors and of a shift the least n or the output width goes by the operator.
 pub enum Layout {
     Empty,
@@ -157,6 +164,7 @@ pub fn numbers_in(layout: Layout) -> Numbers
     ensures { λ r. ⌜ r ≡ numbersIn layout ⌝ }
 {
     match layout {
+        // columns: how many, least n, bound of the second, within
         Layout::Empty => lead(0, 0, 0, false),
         Layout::Port => lead(1, 0, 0, false),
         Layout::Unary => lead(1, 0, 0, false),
@@ -178,6 +186,7 @@ pub fn fields_in(layout: Layout, first: u32, second: u32) -> Fields
     let n = first as usize;
     let m = second as usize;
     match layout {
+        // columns: controls, nets, constants, patterns, output width
         Layout::Empty => body(0, 0, 0, 0, 0),
         Layout::Port => body(0, 0, 0, 0, n),
         Layout::Unary => body(0, n, 0, 0, n),
@@ -206,24 +215,24 @@ pub fn fields_of(op: Operation, first: u32, second: u32) -> Fields
     fields_in(layout_of(op), first, second)
 }
 
-// What stands at the slots of an operation's cell: 0 a Void, 1 a Dff, 2 another cell.
-pub fn standing_of(op: Operation) -> u32
+// What stands at the slots of an operation's cell.
+pub fn standing_of(op: Operation) -> Standing
     ensures { λ r. ⌜ r ≡ standingOf op ⌝ }
 {
     match op {
-        Operation::Void => 0,
-        Operation::Note => 2,
-        Operation::IoBuf => 2,
-        Operation::Input => 2,
-        Operation::Unary(_) => 2,
-        Operation::Binary(_) => 2,
-        Operation::Mux => 2,
-        Operation::Adc => 2,
-        Operation::Aig => 2,
-        Operation::Shift(_) => 2,
-        Operation::Match => 2,
-        Operation::Assign => 2,
-        Operation::Dff => 1,
+        Operation::Void => Standing::Void,
+        Operation::Note => Standing::Other,
+        Operation::IoBuf => Standing::Other,
+        Operation::Input => Standing::Other,
+        Operation::Unary(_) => Standing::Other,
+        Operation::Binary(_) => Standing::Other,
+        Operation::Mux => Standing::Other,
+        Operation::Adc => Standing::Other,
+        Operation::Aig => Standing::Other,
+        Operation::Shift(_) => Standing::Other,
+        Operation::Match => Standing::Other,
+        Operation::Assign => Standing::Other,
+        Operation::Dff => Standing::Dff,
     }
 }
 

@@ -21,17 +21,17 @@ use Rattle.fields.specs.declared.Scan.{Scan}
 use Rattle.fields.specs.declared.Scan.the-variants as S
 use Rattle.fields.specs.declared.Head.{Head}
 use Rattle.fields.specs.declared.Head.the-variants as H
-use Rattle.fields.specs.Field.{fault, numberAt, netsAt, constantsAt}
+use Rattle.fields.specs.Field.{fault, onNumber, onScan, numberAt, netsAt, constantsAt}
 use Rattle.fields.specs.Pattern.{patternsAt}
-use Rattle.fields.specs.Head.{headAt}
+use Rattle.fields.specs.Head.{onHead, headAt}
 use Rattle.fields.specs.Accepted.{IsNumber}
 use Rattle.fields.proofs.AcceptedLaws.{number-read, IsHead, head-read, ends-read, both-read}
 use Rattle.cell_reader.specs.declared.Leading.{Leading}
 use Rattle.cell_reader.specs.declared.Leading.the-variants as L
 use Rattle.cell_reader.specs.declared.Record.{Record}
 use Rattle.cell_reader.specs.declared.Record.the-variants as R
-use Rattle.cell_reader.specs.Record.{onValue, thirdAt, secondAt, firstAt, leadingAt, tailAt, bodyAt, onHead}
-use Rattle.cell_reader.specs.Record.{onLeading, onBody, contentsAt, recordAt}
+use Rattle.cell_reader.specs.Record.{thirdAt, secondAt, firstAt, leadingAt, tailAt, bodyAt, onLeading}
+use Rattle.cell_reader.specs.Record.{contentsAt, recordAt}
 use Rattle.cell_reader.specs.Parse.{numberIn, patternsIn, cellIn, opAt, cellAt}
 use Rattle.cell_reader.specs.Accepted.{IsLeading, IsBody, IsRecord}
 
@@ -68,7 +68,7 @@ module _ (w : List ℕ) (numbers : Numbers) (end : ℕ) where
 
       go :
           (v : Number) → numberAt w (2 ^ 29 - 1) end at ≡ v →
-          onValue v
+          onNumber v L.Refused
           (λ (offset k : ℕ). cond (numbers .within)
           (cond (ltb n (offset + m)) (L.Refused (fault 9 at)) (L.Read n m k)) (L.Read n m k))
           ≡ L.Read n′ m′ next → IsThird n m at n′ m′ next
@@ -113,7 +113,7 @@ module _ (w : List ℕ) (numbers : Numbers) (end : ℕ) where
 
       go :
           (v : Number) → numberAt w (numbers .second) end at ≡ v →
-          onValue v (λ (m k : ℕ). cond (eqb (numbers .count) 2) (L.Read n m k) (thirdAt w numbers end n m k))
+          onNumber v L.Refused (λ (m k : ℕ). cond (eqb (numbers .count) 2) (L.Read n m k) (thirdAt w numbers end n m k))
           ≡ L.Read n′ m′ next →
           IsSecond n at n′ m′ next
       go (N.Refused f) v e = let z : _≡_ {A = ℕ} 0 1 = cc in absurd (omega arith)
@@ -172,7 +172,7 @@ module _ (w : List ℕ) (numbers : Numbers) (end : ℕ) where
 
       go :
           (v : Number) → numberAt w 63 end at ≡ v → (numbers .count ≡ 0 → ⊥) →
-          onValue v
+          onNumber v L.Refused
           (λ (n k : ℕ). cond (ltb n (numbers .least)) (L.Refused (fault 7 at))
           (cond (eqb (numbers .count) 1) (L.Read n 0 k) (secondAt w numbers end n k)))
           ≡ L.Read n m next → (IsLeading w numbers end) at n m next
@@ -239,8 +239,8 @@ pub body-read :
     (next ≡ end) × IsBody w total layout n end at
 unfolding bodyAt tailAt
 body-read w total layout n end at read =
-    let controls = both-read (netsAt w total 1 end (layout .controls) at) _ read in
-    let nets = both-read (netsAt w total 0 end (layout .nets) (controls .place)) _ (controls .second) in
+    let controls = both-read (netsAt w total true end (layout .controls) at) _ read in
+    let nets = both-read (netsAt w total false end (layout .nets) (controls .place)) _ (controls .second) in
     let constants = both-read (constantsAt w end (layout .constants) (nets .place)) _ (nets .second) in
     let patterns = both-read (patternsAt w n end (layout .patterns) (constants .place)) _ (constants .second) in
     let ends = ends-read end (patterns .place) (patterns .second) in (
@@ -265,8 +265,8 @@ record-read w total at {op} {width} {next} read = head (headAt w at) refl read
         (o : Operation) (first end n m start : ℕ) → IsHead w at o first end →
         IsLeading w (numbersOf o) end first n m start →
         (s : Scan) → bodyAt w total (fieldsOf o n m) n end start ≡ s →
-        onBody s (λ (after : ℕ). R.Read o (fieldsOf o n m .width) after) ≡ R.Read op width next → IsRecord w total
-        at op width next
+        onScan s R.Refused (λ (after : ℕ). R.Read o (fieldsOf o n m .width) after) ≡ R.Read op width next →
+        IsRecord w total at op width next
     body o first end n m start h l (S.Refused f) s e = let z : _≡_ {A = ℕ} 0 1 = cc in absurd (omega arith)
     body o first end n m start h l (S.Clean after) s e =
         let was = body-read w total (fieldsOf o n m) n end start s in
@@ -295,8 +295,8 @@ record-read w total at {op} {width} {next} read = head (headAt w at) refl read
     lead :
         (o : Operation) (first end : ℕ) → IsHead w at o first end → (l : Leading) → leadingAt w (numbersOf o) end first
         ≡ l →
-        onLeading l
-        (λ (n m start : ℕ). onBody (bodyAt w total (fieldsOf o n m) n end start)
+        onLeading l R.Refused
+        (λ (n m start : ℕ). onScan (bodyAt w total (fieldsOf o n m) n end start) R.Refused
         (λ (after : ℕ). R.Read o (fieldsOf o n m .width) after))
         ≡ R.Read op width next → IsRecord w total at op width next
     lead o first end h (L.Refused f) l e = let z : _≡_ {A = ℕ} 0 1 = cc in absurd (omega arith)
@@ -305,8 +305,8 @@ record-read w total at {op} {width} {next} read = head (headAt w at) refl read
         (bodyAt w total (fieldsOf o n m) n end start) refl e
 
     head :
-        (h : Head) → headAt w at ≡ h → onHead h (λ (o : Operation) (first end : ℕ). contentsAt w total o end first)
-        ≡ R.Read op width next →
+        (h : Head) → headAt w at ≡ h →
+        onHead h R.Refused (λ (o : Operation) (first end : ℕ). contentsAt w total o end first) ≡ R.Read op width next →
         IsRecord w total at op width next
     head (H.Refused f) h e = let z : _≡_ {A = ℕ} 0 1 = cc in absurd (omega arith)
     head (H.Record o first end) h e = lead o first end (head-read w at h) (leadingAt w (numbersOf o) end first) refl e
@@ -330,23 +330,3 @@ standing-in w O.Dff at = refl
 pub standing-at : (w : List ℕ) (at : ℕ) → standing (cellAt w at) ≡ standingOf (opAt w at)
 unfolding cellAt
 standing-at w at = standing-in w (opAt w at) (at + 1)
-
--- Standings are 0, 1 and 2.
-low-standing : (op : Operation) → standingOf op ≤ 2
-low-standing O.Void = omega arith
-low-standing O.Note = omega arith
-low-standing O.IoBuf = omega arith
-low-standing O.Input = omega arith
-low-standing (O.Unary operator) = omega arith
-low-standing (O.Binary operator) = omega arith
-low-standing O.Mux = omega arith
-low-standing O.Adc = omega arith
-low-standing O.Aig = omega arith
-low-standing (O.Shift operator) = omega arith
-low-standing O.Match = omega arith
-low-standing O.Assign = omega arith
-low-standing O.Dff = omega arith
-
-pub record-standing : {w : List ℕ} {total at : ℕ} {op : Operation} {width next : ℕ} → IsRecord w total at op width next
-    → standingOf op ≤ 2
-record-standing {op = op} is = low-standing op

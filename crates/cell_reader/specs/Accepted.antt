@@ -2,7 +2,7 @@
 use Prim.Native.Nat.{ℕ, _+_, _<_, _≤_}
 use mathlib.Core.Path.{_≡_}
 use mathlib.Core.List.{List}
-use mathlib.Core.Bool.{true}
+use mathlib.Core.Bool.{true, false}
 use lib.ListN.{getD, length}
 use Rattle.logic.specs.Word.{kindOf}
 use Rattle.cell.specs.Cell.{outputLen}
@@ -32,8 +32,8 @@ pub record IsBody (w : List ℕ) (total : ℕ) (layout : Fields) (n end at : ℕ
   pub nets : ℕ
   pub constants : ℕ
   pub patterns : ℕ
-  pub controls-read : netsAt w total 1 end (layout .controls) at ≡ S.Clean nets
-  pub nets-read : netsAt w total 0 end (layout .nets) nets ≡ S.Clean constants
+  pub controls-read : netsAt w total true end (layout .controls) at ≡ S.Clean nets
+  pub nets-read : netsAt w total false end (layout .nets) nets ≡ S.Clean constants
   pub constants-read : constantsAt w end (layout .constants) constants ≡ S.Clean patterns
   pub patterns-read : patternsAt w n end (layout .patterns) patterns ≡ S.Clean end
 

@@ -112,9 +112,9 @@ pub fn tail_at(list: &[u32], layout: Fields, n: usize, end: usize, at: usize) ->
 pub fn body_at(list: &[u32], total: usize, layout: Fields, n: usize, end: usize, at: usize) -> Scan
     ensures { λ r. ⌜ r ≡ bodyAt (now (list .entry)) total layout n end at ⌝ }
 {
-    match fields::nets_at(list, total, 1, end, layout.controls, at) {
+    match fields::nets_at(list, total, true, end, layout.controls, at) {
         Scan::Refused(f) => Scan::Refused(f),
-        Scan::Clean(nets) => match fields::nets_at(list, total, 0, end, layout.nets, nets) {
+        Scan::Clean(nets) => match fields::nets_at(list, total, false, end, layout.nets, nets) {
             Scan::Refused(f) => Scan::Refused(f),
             Scan::Clean(constants) => tail_at(list, layout, n, end, constants),
         },

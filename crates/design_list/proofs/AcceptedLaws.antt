@@ -10,15 +10,15 @@ use borrow.Author.Tests.{ltb-false, eqb-true}
 use Rattle.cell.specs.Design.{Placed, Design}
 use Rattle.fields.specs.declared.Scan.{Scan}
 use Rattle.fields.specs.declared.Scan.the-variants as S
-use Rattle.fields.specs.Field.{fault}
+use Rattle.fields.specs.Field.{fault, onScan}
 use Rattle.items.specs.declared.Header.{Header}
 use Rattle.items.specs.declared.Opening.{Opening}
 use Rattle.items.specs.declared.Opening.the-variants as O
-use Rattle.placing.specs.Slots.{heads, isVoid}
-use Rattle.items.specs.Items.{headerAt, cellRepsFrom, netRepsFrom, finishAt}
+use Rattle.placing.specs.Slots.{atSlot, isVoid}
+use Rattle.items.specs.Items.{onOpening, headerAt, replaces, cellRepsFrom, netRepsFrom, finishAt}
 use Rattle.placing.specs.Cells.{cellsOf}
 use Rattle.voids.specs.Voids.{voidsAt}
-use Rattle.design_list.specs.Read.{Read, refused, accepted, onScan, onOpening, readNetReps, readCellReps}
+use Rattle.design_list.specs.Read.{Read, refused, accepted, readNetReps, readCellReps}
 use Rattle.design_list.specs.Read.{readCells, read}
 use Rattle.items.proofs.Laws.{header-read}
 use Rattle.design_list.specs.Accepted.{IsAccepted}
@@ -29,8 +29,8 @@ record Onward (s : Scan) (f : ℕ → Read) (d : Design) (replacements pairs : �
   clean : s ≡ S.Clean place
   rest : f place ≡ accepted d replacements pairs
 
-onward : (s : Scan) (f : ℕ → Read) {d : Design} {replacements pairs : ℕ} → onScan s f ≡ accepted d replacements pairs →
-    Onward s f d replacements pairs
+onward : (s : Scan) (f : ℕ → Read) {d : Design} {replacements pairs : ℕ} →
+    onScan s refused f ≡ accepted d replacements pairs → Onward s f d replacements pairs
 onward (S.Clean n) f e = record { place = n; clean = refl; rest = e }
 onward (S.Refused g) f e = let z : _≡_ {A = ℕ} 0 1 = cc in absurd (omega arith)
 
@@ -57,7 +57,8 @@ module _ (w : List ℕ) (h : Header) (short : length w ≤ 16384) (long : 4 ≤ 
   cells = cellsOf w (h .base) (h .base + h .added) .items
 
   reps : ℕ → List Placed
-  reps replacements = cellRepsFrom w (h .base + h .added) (heads cells (h .base)) (h .cellreps) 0 replacements .items
+  reps replacements =
+      cellRepsFrom w (h .base + h .added) (replaces (atSlot cells) (h .base)) (h .cellreps) 0 replacements .items
 
   design : ℕ → ℕ → Design
   design pairs replacements = record {
@@ -74,8 +75,9 @@ module _ (w : List ℕ) (h : Header) (short : length w ≤ 16384) (long : 4 ≤ 
   cells-accepted {d} {replacements} {pairs} e =
       let after-cells = onward (cellsOf w (h .base) (h .base + h .added) .scan) _ e in
       let after-reps =
-      onward (cellRepsFrom w (h .base + h .added) (heads cells (h .base)) (h .cellreps) 0 (after-cells .place) .scan) _
-      (after-cells .rest) in
+      onward
+      (cellRepsFrom w (h .base + h .added) (replaces (atSlot cells) (h .base)) (h .cellreps) 0 (after-cells .place)
+      .scan) _ (after-cells .rest) in
       let after-pairs =
       onward (netRepsFrom w (h .base + h .added) (h .netreps) 0 (after-reps .place) .scan) _ (after-reps .rest) in
       let after-end = onward (finishAt w (after-pairs .place)) _ (after-pairs .rest) in
@@ -109,8 +111,8 @@ unfolding read
 accepted-read w {d} {replacements} {pairs} e = go (ltb 16384 (length w)) (ltb (length w) 4) refl refl e
   where
     opened :
-        length w ≤ 16384 → 4 ≤ length w → (o : Opening) → headerAt w ≡ o → onOpening o (readCells w)
-        ≡ accepted d replacements pairs →
+        length w ≤ 16384 → 4 ≤ length w → (o : Opening) → headerAt w ≡ o →
+        onOpening o refused (readCells w) ≡ accepted d replacements pairs →
         IsAccepted w d replacements pairs
     opened short long (O.Refused f) o e = let z : _≡_ {A = ℕ} 0 1 = cc in absurd (omega arith)
     opened short long (O.Read h) o e = cells-accepted w h short long o e
@@ -118,7 +120,7 @@ accepted-read w {d} {replacements} {pairs} e = go (ltb 16384 (length w)) (ltb (l
     go :
         (over under : Bool) → ltb 16384 (length w) ≡ over → ltb (length w) 4 ≡ under →
         cond over (refused (fault 4 16384))
-        (cond under (refused (fault 1 (length w))) (onOpening (headerAt w) (readCells w)))
+        (cond under (refused (fault 1 (length w))) (onOpening (headerAt w) refused (readCells w)))
         ≡ accepted d replacements pairs → IsAccepted w d replacements pairs
     go true under o u e = let z : _≡_ {A = ℕ} 0 1 = cc in absurd (omega arith)
     go false true o u e = let z : _≡_ {A = ℕ} 0 1 = cc in absurd (omega arith)

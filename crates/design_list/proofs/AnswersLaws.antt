@@ -9,21 +9,22 @@ use Rattle.cell.specs.Design.{Placed}
 use Rattle.logic.specs.declared.Fault.{Fault}
 use Rattle.fields.specs.declared.Scan.{Scan}
 use Rattle.fields.specs.declared.Scan.the-variants as S
+use Rattle.fields.specs.Field.{onScan}
 use Rattle.items.specs.declared.Header.{Header}
 use Rattle.placing.specs.declared.Cells.the-variants as C
-use Rattle.items.specs.Step.{Step}
+use Rattle.items.specs.Step.{Step, onStep}
 use Rattle.items.specs.Step as T
 use Rattle.design_list.specs.declared.DesignRead.{DesignRead}
 use Rattle.design_list.specs.declared.DesignRead.the-variants as D
-use Rattle.placing.specs.Slots.{covering, heads, isVoid, marks}
-use Rattle.items.specs.Items.{Reading, push, onStep, ascending, cellRepsFrom, netRepsFrom, finishAt}
-use Rattle.placing.specs.Cells.{onCells, counted}
-use Rattle.items.specs.Marks.{headsIn}
+use Rattle.placing.specs.Slots.{covering, atSlot, isVoid, marks}
+use Rattle.items.specs.Items.{Reading, refuse, push, replaces, ascending, cellRepsFrom, netRepsFrom, finishAt}
+use Rattle.placing.specs.Cells.{counted}
+use Rattle.items.specs.Marks.{atSlotIn}
 use Rattle.voids.specs.Marks.{isVoidIn}
 use Rattle.voids.specs.Voids.{voidsAt}
-use Rattle.design_list.specs.Read.{Read, onScan, readNetReps, readCellReps, readCells, answer}
-use Rattle.placing.proofs.CoverLaws.{walk-cells, walk-total, walk-narrow, heads-same, voids-same}
-use Rattle.design_list.specs.Answers.{onAnswer, netRepsAnswer, cellRepsAnswer, cellsRead}
+use Rattle.design_list.specs.Read.{Read, refused, readNetReps, readCellReps, readCells, answer}
+use Rattle.placing.proofs.CoverLaws.{walk-cells, walk-total, walk-narrow, replaces-same, voids-same}
+use Rattle.design_list.specs.Answers.{netRepsAnswer, cellRepsAnswer, cellsRead}
 
 -- A run of k replacements without a fault has k items.
 module _ {A : Type 0} (step : ℕ → ℕ → Step) (item : ℕ → A) where
@@ -37,16 +38,16 @@ module _ {A : Type 0} (step : ℕ → ℕ → Step) (item : ℕ → A) where
       rest above n = push (item at) (ascending step item k above n)
 
       go :
-          (s : Step) → onStep s rest .scan ≡ S.Clean next →
+          (s : Step) → onStep s refuse rest .scan ≡ S.Clean next →
           ((above n : ℕ) → ascending step item k above n .scan ≡ S.Clean next →
           length (ascending step item k above n .items) ≡ k) →
-          length (onStep s rest .items) ≡ suc k
+          length (onStep s refuse rest .items) ≡ suc k
       go (T.Refused f) e more = let z : _≡_ {A = ℕ} 0 1 = cc in absurd (omega arith)
       go (T.Read above n) e more = ap suc (more above n e)
 
 -- The answer to what follows a scan follows the scan.
 answer-scan : (s : Scan) (f : ℕ → Read) (g : ℕ → DesignRead) → ((n : ℕ) → s ≡ S.Clean n → answer (f n) ≡ g n) →
-    answer (onScan s f) ≡ onAnswer s g
+    answer (onScan s refused f) ≡ onScan s D.Refused g
 answer-scan (S.Clean n) f g same = same n refl
 answer-scan (S.Refused e) f g same = refl
 
@@ -65,10 +66,11 @@ module _ (w : List ℕ) (h : Header) (cells : List Placed) where
   cell-reps-answer :
       (replacements : ℕ) →
       answer (readCellReps w h cells replacements) ≡
-      cellRepsAnswer w (heads cells (h .base)) (isVoid cells (h .base)) h (length cells) replacements
+      cellRepsAnswer w (replaces (atSlot cells) (h .base)) (isVoid cells (h .base)) h (length cells) replacements
   unfolding readCellReps cellRepsAnswer
   cell-reps-answer replacements =
-      answer-scan (cellRepsFrom w (h .base + h .added) (heads cells (h .base)) (h .cellreps) 0 replacements .scan) _ _
+      answer-scan
+      (cellRepsFrom w (h .base + h .added) (replaces (atSlot cells) (h .base)) (h .cellreps) 0 replacements .scan) _ _
       (λ pairs read.
       net-reps-answer _ replacements pairs (ascending-length _ _ (h .cellreps) 0 replacements pairs read))
 
@@ -77,38 +79,41 @@ module _ (w : List ℕ) (h : Header) where
   unfolding readCells
   cells-refused {e} read = go ((cellsRead w h) .scan) read
     where
-      go : (s : Scan) → C.Refused e ≡ onCells s (length ((cellsRead w h) .items)) →
-          D.Refused e ≡ answer (onScan s (λ (cellRepsAt : ℕ). readCellReps w h ((cellsRead w h) .items) cellRepsAt))
+      go : (s : Scan) → C.Refused e ≡ onScan s C.Refused (λ (next : ℕ). C.Read (length ((cellsRead w h) .items)) next) →
+          D.Refused e
+          ≡ answer (onScan s refused (λ (cellRepsAt : ℕ). readCellReps w h ((cellsRead w h) .items) cellRepsAt))
       go (S.Refused f) s = cc
       go (S.Clean n) s = let z : _≡_ {A = ℕ} 0 1 = cc in absurd (omega arith)
 
   -- After the cells, with the table that they leave.
   pub cells-answer :
       (t : List ℕ) {count next : ℕ} → h .base + h .added ≤ length t → C.Read count next ≡ counted (cellsRead w h) →
-      cellRepsAnswer w (headsIn (sets t 0 (marks (h .base) ((cellsRead w h) .items))) (h .base))
+      cellRepsAnswer w (replaces (atSlotIn (sets t 0 (marks (h .base) ((cellsRead w h) .items)))) (h .base))
       (isVoidIn (sets t 0 (marks (h .base) ((cellsRead w h) .items))) (h .base)) h count next
       ≡ answer (readCells w h)
   unfolding readCells
   cells-answer t {count} {next} room read = go ((cellsRead w h) .scan) refl read
     where
       after : (cellsRead w h) .scan ≡ S.Clean next → count ≡ length ((cellsRead w h) .items) →
-          cellRepsAnswer w (headsIn (sets t 0 (marks (h .base) ((cellsRead w h) .items))) (h .base))
+          cellRepsAnswer w (replaces (atSlotIn (sets t 0 (marks (h .base) ((cellsRead w h) .items)))) (h .base))
           (isVoidIn (sets t 0 (marks (h .base) ((cellsRead w h) .items))) (h .base)) h count next
           ≡ answer (readCellReps w h ((cellsRead w h) .items) next)
       after clean many =
           let walk = walk-cells w (h .base) (h .added) next clean in
           let covered : length (covering ((cellsRead w h) .items)) ≡ h .base + h .added = walk-total walk in
           rw (
-            heads-same (h .base) ((cellsRead w h) .items) t (omega arith) (omega arith) (walk-narrow walk),
+            replaces-same (h .base) ((cellsRead w h) .items) t (omega arith) (omega arith) (walk-narrow walk),
             voids-same (h .base) ((cellsRead w h) .items) t (omega arith) (omega arith) (walk-narrow walk),
             many,
           )
           (sym (cell-reps-answer w h ((cellsRead w h) .items) next))
 
-      go : (s : Scan) → (cellsRead w h) .scan ≡ s → C.Read count next ≡ onCells s (length ((cellsRead w h) .items)) →
-          cellRepsAnswer w (headsIn (sets t 0 (marks (h .base) ((cellsRead w h) .items))) (h .base))
+      go :
+          (s : Scan) → (cellsRead w h) .scan ≡ s →
+          C.Read count next ≡ onScan s C.Refused (λ (next : ℕ). C.Read (length ((cellsRead w h) .items)) next) →
+          cellRepsAnswer w (replaces (atSlotIn (sets t 0 (marks (h .base) ((cellsRead w h) .items)))) (h .base))
           (isVoidIn (sets t 0 (marks (h .base) ((cellsRead w h) .items))) (h .base)) h count next
-          ≡ answer (onScan s (λ (cellRepsAt : ℕ). readCellReps w h ((cellsRead w h) .items) cellRepsAt))
+          ≡ answer (onScan s refused (λ (cellRepsAt : ℕ). readCellReps w h ((cellsRead w h) .items) cellRepsAt))
       go (S.Refused f) s e = let z : _≡_ {A = ℕ} 0 1 = cc in absurd (omega arith)
       go (S.Clean n) s e =
           let place : n ≡ next = cc in

@@ -14,14 +14,15 @@ use Rattle.logic.specs.declared.Fault.{Fault}
 use Rattle.cell.specs.Design.{Design, total}
 use Rattle.fields.specs.declared.Scan.{Scan}
 use Rattle.fields.specs.declared.Scan.the-variants as S
+use Rattle.fields.specs.Field.{onScan}
 use Rattle.items.specs.declared.Header.{Header}
 use Rattle.design_list.specs.declared.Extent.{Extent}
 use Rattle.design_list.specs.declared.DesignRead.the-variants as D
 use Rattle.design_list.specs.declared.SlotTable.{SlotTable}
-use Rattle.placing.specs.Slots.{covering, heads, isVoid, markOf, marks}
-use Rattle.items.specs.Items.{cellRepsFrom, netRepsFrom, finishAt}
+use Rattle.placing.specs.Slots.{covering, atSlot, isVoid, markOf, marks}
+use Rattle.items.specs.Items.{replaces, cellRepsFrom, netRepsFrom, finishAt}
 use Rattle.voids.specs.Voids.{voidsAt}
-use Rattle.design_list.specs.Read.{Read, refused, accepted, onScan, readNetReps, readCellReps, readCells, read}
+use Rattle.design_list.specs.Read.{Read, refused, accepted, readNetReps, readCellReps, readCells, read}
 use Rattle.design_list.specs.Read.{answer}
 use Rattle.design_list.specs.Answers.{cellsRead}
 use Rattle.placing.proofs.CoverLaws.{walk-cells, walk-total}
@@ -38,7 +39,8 @@ tabled (accepted d replacements pairs) {before} {after} {a} same slice = go (ltb
     go true b = record { same = same; number = rw (same, b); value = rw (same, b); slice = slice }
     go false b = record { same = same; number = rw (same, b); value = rw (same, b); slice = slice }
 
-stored-scan : (t t′ : List ℕ) (s : Scan) (f : ℕ → Read) → ((n : ℕ) → Stored (f n) t t′) → Stored (onScan s f) t t′
+stored-scan : (t t′ : List ℕ) (s : Scan) (f : ℕ → Read) → ((n : ℕ) → Stored (f n) t t′) →
+    Stored (onScan s refused f) t t′
 unfolding Stored
 stored-scan t t′ (S.Clean n) f same = same n
 stored-scan t t′ (S.Refused e) f same = tt
@@ -58,7 +60,8 @@ stored-cells w h t t′ same =
   where
     reps : ℕ → Scan
     reps replacements =
-        cellRepsFrom w (h .base + h .added) (heads (cellsRead w h .items) (h .base)) (h .cellreps) 0 replacements .scan
+        cellRepsFrom w (h .base + h .added) (replaces (atSlot (cellsRead w h .items)) (h .base)) (h .cellreps) 0
+        replacements .scan
 
 -- Copying n words, at a turn and at the end.
 pub copy-turn :

@@ -7,8 +7,8 @@ use Rattle.cell.specs.Design.{Design, total}
 use Rattle.fields.specs.declared.Scan.the-variants as S
 use Rattle.items.specs.declared.Header.{Header}
 use Rattle.items.specs.declared.Opening.the-variants as O
-use Rattle.placing.specs.Slots.{heads, isVoid}
-use Rattle.items.specs.Items.{headerAt, cellRepsFrom, netRepsFrom}
+use Rattle.placing.specs.Slots.{atSlot, isVoid}
+use Rattle.items.specs.Items.{headerAt, replaces, cellRepsFrom, netRepsFrom}
 use Rattle.placing.specs.Cells.{cellsOf}
 use Rattle.voids.specs.Voids.{voidsAt}
 use Rattle.design_list.specs.Read.{Read}
@@ -26,10 +26,11 @@ pub record IsAccepted (w : List ℕ) (d : Design) (replacements pairs : ℕ) : T
   pub same-added : d .added ≡ header .added
   pub cells-read : cellsOf w (d .base) (total d) .scan ≡ S.Clean replacements
   pub cells-are : d .cells ≡ cellsOf w (d .base) (total d) .items
-  pub reps-read : cellRepsFrom w (total d) (heads (d .cells) (d .base)) (header .cellreps) 0 replacements .scan
+  pub reps-read :
+      cellRepsFrom w (total d) (replaces (atSlot (d .cells)) (d .base)) (header .cellreps) 0 replacements .scan
       ≡ S.Clean pairs
   pub reps-are : d .cellReps
-      ≡ cellRepsFrom w (total d) (heads (d .cells) (d .base)) (header .cellreps) 0 replacements .items
+      ≡ cellRepsFrom w (total d) (replaces (atSlot (d .cells)) (d .base)) (header .cellreps) 0 replacements .items
   pub pairs-read : netRepsFrom w (total d) (header .netreps) 0 pairs .scan ≡ S.Clean end
   pub pairs-are : d .netReps ≡ netRepsFrom w (total d) (header .netreps) 0 pairs .items
   pub ended : end ≡ length w

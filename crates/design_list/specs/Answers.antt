@@ -3,24 +3,19 @@ use Prim.Native.Nat.{ℕ, _+_}
 use mathlib.Core.Bool.{Bool}
 use mathlib.Core.List.{List}
 use Rattle.cell.specs.Design.{Placed}
-use Rattle.fields.specs.declared.Scan.{Scan}
-use Rattle.fields.specs.declared.Scan.the-variants as S
+use Rattle.fields.specs.Field.{onScan}
 use Rattle.items.specs.declared.Header.{Header}
 use Rattle.design_list.specs.declared.DesignRead.{DesignRead}
 use Rattle.design_list.specs.declared.DesignRead.the-variants as D
-use Rattle.items.specs.Items.{Reading, cellRepsFrom, netRepsFrom, finishAt}
+use Rattle.items.specs.Items.{Reading, Test, cellRepsFrom, netRepsFrom, finishAt}
 use Rattle.placing.specs.Cells.{cellsOf}
 use Rattle.voids.specs.Voids.{voidsAt}
 
-abbrev pub onAnswer : Scan → (ℕ → DesignRead) → DesignRead
-onAnswer (S.Clean next) f = f next
-onAnswer (S.Refused e) f = D.Refused e
-
 unfoldable pub netRepsAnswer : List ℕ → (ℕ → Bool) → Header → ℕ → ℕ → ℕ → DesignRead
 netRepsAnswer w void h count replacements pairs =
-    onAnswer (netRepsFrom w (h .base + h .added) (h .netreps) 0 pairs .scan) (λ (next : ℕ).
-    onAnswer (finishAt w next) (λ (_ : ℕ).
-    onAnswer (voidsAt w void count (h .cellreps) (h .netreps)) (λ (_ : ℕ).
+    onScan (netRepsFrom w (h .base + h .added) (h .netreps) 0 pairs .scan) D.Refused (λ (next : ℕ).
+    onScan (finishAt w next) D.Refused (λ (_ : ℕ).
+    onScan (voidsAt w void count (h .cellreps) (h .netreps)) D.Refused (λ (_ : ℕ).
     D.Accepted record {
       base = h .base;
       added = h .added;
@@ -31,9 +26,9 @@ netRepsAnswer w void h count replacements pairs =
       pairs = pairs;
     })))
 
-unfoldable pub cellRepsAnswer : List ℕ → (ℕ → ℕ → Bool) → (ℕ → Bool) → Header → ℕ → ℕ → DesignRead
-cellRepsAnswer w head void h count replacements =
-    onAnswer (cellRepsFrom w (h .base + h .added) head (h .cellreps) 0 replacements .scan) (λ (pairs : ℕ).
+unfoldable pub cellRepsAnswer : List ℕ → Test → (ℕ → Bool) → Header → ℕ → ℕ → DesignRead
+cellRepsAnswer w right void h count replacements =
+    onScan (cellRepsFrom w (h .base + h .added) right (h .cellreps) 0 replacements .scan) D.Refused (λ (pairs : ℕ).
     netRepsAnswer w void h count replacements pairs)
 
 module _ (w : List ℕ) (h : Header) where

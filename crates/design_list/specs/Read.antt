@@ -9,16 +9,12 @@ use lib.ListN.{length}
 use lib.Dec.{ltb}
 use Rattle.logic.specs.declared.Fault.{Fault}
 use Rattle.cell.specs.Design.{Placed, NetPair, Design, total}
-use Rattle.fields.specs.declared.Scan.{Scan}
-use Rattle.fields.specs.declared.Scan.the-variants as S
-use Rattle.fields.specs.Field.{fault}
+use Rattle.fields.specs.Field.{fault, onScan}
 use Rattle.items.specs.declared.Header.{Header}
-use Rattle.items.specs.declared.Opening.{Opening}
-use Rattle.items.specs.declared.Opening.the-variants as O
 use Rattle.design_list.specs.declared.DesignRead.{DesignRead}
 use Rattle.design_list.specs.declared.DesignRead.the-variants as D
-use Rattle.placing.specs.Slots.{heads, isVoid}
-use Rattle.items.specs.Items.{Reading, headerAt, cellRepsFrom, netRepsFrom, finishAt}
+use Rattle.placing.specs.Slots.{atSlot, isVoid}
+use Rattle.items.specs.Items.{Reading, onOpening, headerAt, replaces, cellRepsFrom, netRepsFrom, finishAt}
 use Rattle.placing.specs.Cells.{cellsOf}
 use Rattle.voids.specs.Voids.{voidsAt}
 
@@ -27,21 +23,13 @@ pub data Read : Type 0 where
   refused : Fault → Read
   accepted : Design → ℕ → ℕ → Read
 
-abbrev pub onScan : Scan → (ℕ → Read) → Read
-onScan (S.Clean next) f = f next
-onScan (S.Refused e) f = refused e
-
-abbrev pub onOpening : Opening → (Header → Read) → Read
-onOpening (O.Read h) f = f h
-onOpening (O.Refused e) f = refused e
-
 -- The net replacements, words left over, and then fault 10.
 unfoldable pub readNetReps : List ℕ → Header → List Placed → List Placed → ℕ → ℕ → Read
 readNetReps w h cells cellReps cellRepsAt netRepsAt =
     let pairs : Reading NetPair = netRepsFrom w (h .base + h .added) (h .netreps) 0 netRepsAt in
-    onScan (pairs .scan) (λ (next : ℕ).
-    onScan (finishAt w next) (λ (_ : ℕ).
-    onScan (voidsAt w (isVoid cells (h .base)) (length cells) (h .cellreps) (h .netreps)) (λ (_ : ℕ).
+    onScan (pairs .scan) refused (λ (next : ℕ).
+    onScan (finishAt w next) refused (λ (_ : ℕ).
+    onScan (voidsAt w (isVoid cells (h .base)) (length cells) (h .cellreps) (h .netreps)) refused (λ (_ : ℕ).
     accepted
     (record { base = h .base; added = h .added; cells = cells; cellReps = cellReps; netReps = pairs .items })
     cellRepsAt netRepsAt)))
@@ -50,21 +38,21 @@ readNetReps w h cells cellReps cellRepsAt netRepsAt =
 unfoldable pub readCellReps : List ℕ → Header → List Placed → ℕ → Read
 readCellReps w h cells cellRepsAt =
     let reps : Reading Placed =
-    cellRepsFrom w (h .base + h .added) (heads cells (h .base)) (h .cellreps) 0 cellRepsAt in
-    onScan (reps .scan) (λ (netRepsAt : ℕ). readNetReps w h cells (reps .items) cellRepsAt netRepsAt)
+    cellRepsFrom w (h .base + h .added) (replaces (atSlot cells) (h .base)) (h .cellreps) 0 cellRepsAt in
+    onScan (reps .scan) refused (λ (netRepsAt : ℕ). readNetReps w h cells (reps .items) cellRepsAt netRepsAt)
 
 -- The cells.
 unfoldable pub readCells : List ℕ → Header → Read
 readCells w h =
     let cells : Reading Placed = cellsOf w (h .base) (h .base + h .added) in
-    onScan (cells .scan) (λ (cellRepsAt : ℕ). readCellReps w h (cells .items) cellRepsAt)
+    onScan (cells .scan) refused (λ (cellRepsAt : ℕ). readCellReps w h (cells .items) cellRepsAt)
 
 -- The whole list: at most 16,384 words, at least the four of the header.
 unfoldable pub read : List ℕ → Read
 read w =
     cond (ltb 16384 (length w)) (refused (fault 4 16384))
     (cond (ltb (length w) 4) (refused (fault 1 (length w)))
-    (onOpening (headerAt w) (readCells w)))
+    (onOpening (headerAt w) refused (readCells w)))
 
 -- What the reader answers: the fault, or the counts and the places of the replacements.
 abbrev pub answer : Read → DesignRead

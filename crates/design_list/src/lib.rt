@@ -9,7 +9,8 @@ ghost use Prim.Native.Nat.{_+_, _-_, _<_, _≤_};
 ghost use lib.ListN.{length, take, drop};
 ghost use lib.Seq.{sets};
 ghost use Rattle.placing.specs.Slots.{marks};
-ghost use Rattle.items.specs.Marks.{headsIn};
+ghost use Rattle.items.specs.Items.{replaces};
+ghost use Rattle.items.specs.Marks.{atSlotIn};
 ghost use Rattle.voids.specs.Marks.{isVoidIn};
 ghost use Rattle.design_list.specs.Read.{readCells, read, answer, Answered};
 ghost use Rattle.design_list.specs.Answers.{netRepsAnswer, cellRepsAnswer, cellsRead};
@@ -88,7 +89,7 @@ fn read_cell_reps(
     replacements: usize,
 ) -> DesignRead
     requires { ⌜ header .base + header .added ≤ 4096 ⌝ }
-    ensures { λ r. ⌜ r ≡ cellRepsAnswer (now (list .entry)) (headsIn (now (table .entry)) (header .base))
+    ensures { λ r. ⌜ r ≡ cellRepsAnswer (now (list .entry)) (replaces (atSlotIn (now (table .entry))) (header .base))
         (isVoidIn (now (table .entry)) (header .base)) header count replacements ⌝ }
 {
     match items::cell_reps_at(

@@ -18,9 +18,9 @@ use Rattle.fields.specs.declared.Scan.{Scan}
 use Rattle.fields.specs.declared.Scan.the-variants.{Clean, Refused}
 use Rattle.fields.specs.declared.Bit.the-variants as B
 use Rattle.fields.specs.declared.Head.the-variants as H
-use Rattle.fields.specs.Field.{fault, onClean, isConstant, isKnown, numberAt, netAt, bitAt, scanBit, constantAt}
-use Rattle.fields.specs.Field.{scanMany, endsAt}
-use Rattle.fields.specs.Head.{recordOf, onKnown, headAt}
+use Rattle.fields.specs.Field.{fault, onScan, isConstant, isKnown, mostKind, numberAt, netAt, bitAt, scanBit}
+use Rattle.fields.specs.Field.{constantAt, scanMany, endsAt}
+use Rattle.fields.specs.Head.{recordOf, headOf, headAt}
 use Rattle.fields.specs.Accepted.{IsNumber}
 
 pub number-read : (w : List ℕ) (bound end at : ℕ) {n next : ℕ} → numberAt w bound end at ≡ N.Value n next →
@@ -63,37 +63,40 @@ pub head-read : (w : List ℕ) (at : ℕ) {op : Operation} {first end : ℕ} →
     at op first end
 unfolding headAt recordOf
 head-read w at {op} {first} {end} read =
-    go (ltb at (length w)) (eqb (kindOf (getD w at 0)) 2) (operationOf (payloadOf (getD w at 0) % 32))
-    (leb (at + 1 + count) (length w)) refl refl
-    refl refl read
+    go (ltb at (length w)) (eqb (kindOf (getD w at 0)) 2) (operationOf (payloadOf (getD w at 0) % 32)) refl refl refl
+    read
   where
     count : ℕ
     count = payloadOf (getD w at 0) / 32
 
-    go :
-        (inside right : Bool) (d : Decoded) (fits : Bool) → ltb at (length w) ≡ inside → eqb (kindOf (getD w at 0)) 2
-        ≡ right →
-        operationOf (payloadOf (getD w at 0) % 32) ≡ d → leb (at + 1 + count) (length w) ≡ fits →
-        cond inside
-        (cond right
-        (onKnown d (fault 3 at)
-        (λ (o : Operation). cond fits (H.Record o (at + 1) (at + 1 + count)) (H.Refused (fault 1 (length w)))))
-        (H.Refused (fault 2 at)))
-        (H.Refused (fault 1 (length w)))
-        ≡ H.Record op first end → IsHead w at op first end
-    go true true (D.Known o) true i k d f e = record {
-      inside = ltb-true _ _ i;
-      kind = eqb-true _ _ k;
+    known :
+        at < length w → kindOf (getD w at 0) ≡ 2 → (o : Operation) →
+        operationOf (payloadOf (getD w at 0) % 32) ≡ D.Known o → (fits : Bool) →
+        leb (at + 1 + count) (length w) ≡ fits →
+        cond fits (H.Record o (at + 1) (at + 1 + count)) (H.Refused (fault 1 (length w))) ≡ H.Record op first end →
+        IsHead w at op first end
+    known i k o d true f e = record {
+      inside = i;
+      kind = k;
       decoded = cc;
       start = cc;
       finish = cc;
       fits = let same : end ≡ at + 1 + count = cc in let low : at + 1 + count ≤ length w = leb-true _ _ f in
           omega arith;
     }
-    go true true (D.Known o) false i k d f e = let z : _≡_ {A = ℕ} 0 1 = cc in absurd (omega arith)
-    go true true D.Unknown f i k d _ e = let z : _≡_ {A = ℕ} 0 1 = cc in absurd (omega arith)
-    go true false d f i k _ _ e = let z : _≡_ {A = ℕ} 0 1 = cc in absurd (omega arith)
-    go false r d f i k _ _ e = let z : _≡_ {A = ℕ} 0 1 = cc in absurd (omega arith)
+    known i k o d false f e = let z : _≡_ {A = ℕ} 0 1 = cc in absurd (omega arith)
+
+    go :
+        (inside right : Bool) (d : Decoded) → ltb at (length w) ≡ inside → eqb (kindOf (getD w at 0)) 2 ≡ right →
+        operationOf (payloadOf (getD w at 0) % 32) ≡ d →
+        cond inside (cond right (headOf d count (length w) at) (H.Refused (fault 2 at)))
+        (H.Refused (fault 1 (length w)))
+        ≡ H.Record op first end → IsHead w at op first end
+    go true true (D.Known o) i k d e =
+        known (ltb-true _ _ i) (eqb-true _ _ k) o d (leb (at + 1 + count) (length w)) refl e
+    go true true D.Unknown i k d e = let z : _≡_ {A = ℕ} 0 1 = cc in absurd (omega arith)
+    go true false d i k _ e = let z : _≡_ {A = ℕ} 0 1 = cc in absurd (omega arith)
+    go false r d i k _ e = let z : _≡_ {A = ℕ} 0 1 = cc in absurd (omega arith)
 
 -- A record whose fields were read ends where its head says.
 pub ends-read : (end at : ℕ) {next : ℕ} → endsAt end at ≡ Clean next → (at ≡ end) × (next ≡ end)
@@ -106,23 +109,25 @@ ends-read end at {next} read = go (eqb at end) refl read
     go false k e = let z : _≡_ {A = ℕ} 0 1 = cc in absurd (omega arith)
 
 -- A net that was read: it stands in the record and is a constant or a slot below the total.
-pub record IsNet (w : List ℕ) (total most end at : ℕ) : Type 0 where
+pub record IsNet (w : List ℕ) (total : ℕ) (mayInvert : Bool) (end at : ℕ) : Type 0 where
   pub inside : at < end
-  pub kind : kindOf (getD w at 0) ≤ most
+  pub kind : kindOf (getD w at 0) ≤ mostKind mayInvert
   pub known : isKnown total (payloadOf (getD w at 0)) ≡ true
 
-pub net-read : (w : List ℕ) (total most end at : ℕ) {next : ℕ} → netAt w total most end at ≡ Clean next →
-    (next ≡ at + 1) × IsNet w total most end at
+pub net-read :
+    (w : List ℕ) (total : ℕ) (mayInvert : Bool) (end at : ℕ) {next : ℕ} → netAt w total mayInvert end at ≡ Clean next →
+    (next ≡ at + 1) × IsNet w total mayInvert end at
 unfolding netAt
-net-read w total most end at {next} read =
-    go (ltb at end) (leb (kindOf (getD w at 0)) most) (isKnown total (payloadOf (getD w at 0))) refl refl refl read
+net-read w total mayInvert end at {next} read =
+    go (ltb at end) (leb (kindOf (getD w at 0)) (mostKind mayInvert)) (isKnown total (payloadOf (getD w at 0)))
+    refl refl refl read
   where
     go :
-        (inside right known : Bool) → ltb at end ≡ inside → leb (kindOf (getD w at 0)) most ≡ right →
+        (inside right known : Bool) → ltb at end ≡ inside → leb (kindOf (getD w at 0)) (mostKind mayInvert) ≡ right →
         isKnown total (payloadOf (getD w at 0)) ≡ known →
         cond inside (cond right (cond known (Clean (at + 1)) (Refused (fault 6 at))) (Refused (fault 2 at)))
         (Refused (fault 5 at)) ≡ Clean next →
-        (next ≡ at + 1) × IsNet w total most end at
+        (next ≡ at + 1) × IsNet w total mayInvert end at
     go true true true i k n e = (cc, record { inside = ltb-true _ _ i; kind = leb-true _ _ k; known = n })
     go true true false i k n e = let z : _≡_ {A = ℕ} 0 1 = cc in absurd (omega arith)
     go true false n i k _ e = let z : _≡_ {A = ℕ} 0 1 = cc in absurd (omega arith)
@@ -156,7 +161,7 @@ module _ (step : ℕ → Scan) (P : ℕ → Type 0) (one : (at next : ℕ) → s
   many-read (suc n) at next read = go (step at) refl read (many-read n (at + 1) next)
     where
       go :
-          (s : Scan) → step at ≡ s → onClean s (scanMany step n) ≡ Clean next →
+          (s : Scan) → step at ≡ s → onScan s Refused (scanMany step n) ≡ Clean next →
           (scanMany step n (at + 1) ≡ Clean next → (next ≡ at + 1 + n) × ((i : ℕ) → i < n → P (at + 1 + i))) →
           (next ≡ at + suc n) × ((i : ℕ) → i < suc n → P (at + i))
       go (Refused f) s e rest = let z : _≡_ {A = ℕ} 0 1 = cc in absurd (omega arith)
@@ -173,6 +178,6 @@ pub record Both (s : Scan) (f : ℕ → Scan) (next : ℕ) : Type 0 where
   pub first : s ≡ Clean place
   pub second : f place ≡ Clean next
 
-pub both-read : (s : Scan) (f : ℕ → Scan) {next : ℕ} → onClean s f ≡ Clean next → Both s f next
+pub both-read : (s : Scan) (f : ℕ → Scan) {next : ℕ} → onScan s Refused f ≡ Clean next → Both s f next
 both-read (Clean k) f e = record { place = k; first = refl; second = e }
 both-read (Refused f₁) f e = let z : _≡_ {A = ℕ} 0 1 = cc in absurd (omega arith)

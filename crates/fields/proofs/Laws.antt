@@ -10,7 +10,7 @@ use Rattle.fields.specs.declared.Number.the-variants as N
 use Rattle.fields.specs.declared.Scan.{Scan}
 use Rattle.fields.specs.declared.Scan.the-variants.{Clean, Refused}
 use Rattle.fields.specs.declared.Bit.the-variants as B
-use Rattle.fields.specs.Field.{fault, onClean, scanMany, numberAt, bitAt, constantAt}
+use Rattle.fields.specs.Field.{fault, onScan, scanMany, numberAt, bitAt, constantAt}
 use Rattle.fields.specs.Pattern.{alternateAt, patternAt, patternsAt}
 
 module _ (step : ℕ → Scan) where
@@ -19,7 +19,7 @@ module _ (step : ℕ → Scan) where
   many-none zero at none = refl
   many-none (suc n) at none = absurd (omega arith)
 
-  pub many-step : (n at : ℕ) → 0 < n → scanMany step n at ≡ onClean (step at) (scanMany step (n - 1))
+  pub many-step : (n at : ℕ) → 0 < n → scanMany step n at ≡ onScan (step at) Refused (scanMany step (n - 1))
   unfolding scanMany
   many-step zero at some = absurd (omega arith)
   many-step (suc n) at some = rw sub-one
@@ -33,13 +33,13 @@ module _ (step : ℕ → Scan) where
 -- What is left to scan before `alternate` alternates of the first of `pattern` patterns.
 abbrev pub inPattern : List ℕ → ℕ → ℕ → ℕ → ℕ → ℕ → Scan
 inPattern w n end pattern alternate at =
-    onClean (scanMany (alternateAt w n end) alternate at) (patternsAt w n end (pattern - 1))
+    onScan (scanMany (alternateAt w n end) alternate at) Refused (patternsAt w n end (pattern - 1))
 
 -- The same before `word` words of the first of these alternates.
 abbrev pub inAlternate : List ℕ → ℕ → ℕ → ℕ → ℕ → ℕ → ℕ → Scan
 inAlternate w n end pattern alternate word at =
-    onClean (onClean (scanMany (constantAt w end) word at) (scanMany (alternateAt w n end) (alternate - 1)))
-    (patternsAt w n end (pattern - 1))
+    onScan (onScan (scanMany (constantAt w end) word at) Refused (scanMany (alternateAt w n end) (alternate - 1)))
+    Refused (patternsAt w n end (pattern - 1))
 
 module _ (w : List ℕ) (n end : ℕ) where
   pub no-pattern : (k at : ℕ) → k ≡ 0 → patternsAt w n end k at ≡ Clean at
@@ -62,7 +62,8 @@ module _ (w : List ℕ) (n end : ℕ) where
 
   pub alternate-begins : (k a at : ℕ) → 0 < a → inPattern w n end k a at ≡ inAlternate w n end k a n at
   unfolding alternateAt
-  alternate-begins k a at some = ap (λ (s : Scan). onClean s (patternsAt w n end (k - 1))) (many-step _ a at some)
+  alternate-begins k a at some =
+      ap (λ (s : Scan). onScan s Refused (patternsAt w n end (k - 1))) (many-step _ a at some)
 
   pub alternate-ends : (k a j at : ℕ) → j ≤ 0 → inAlternate w n end k a j at ≡ inPattern w n end k (a - 1) at
   alternate-ends k a j at none = rw (many-none (constantAt w end) j at)

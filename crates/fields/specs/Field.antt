@@ -26,10 +26,16 @@ module _ {A : Type 0} where
   abbrev pub unless : Bool → A → A → A
   unless holds refusal rest = cond holds rest refusal
 
--- What follows a scan without a fault, from the place it reached.
-abbrev pub onClean : Scan → (ℕ → Scan) → Scan
-onClean (Clean next) f = f next
-onClean (Refused e) f = Refused e
+-- What follows an outcome: of a fault met, its refusal; else what comes after it. Each outcome of the reader has one of
+-- these, `on` and the outcome's name, and all have this form.
+module _ {A : Type 0} where
+  abbrev pub onNumber : Number → (Fault → A) → (ℕ → ℕ → A) → A
+  onNumber (N.Value n next) refusal rest = rest n next
+  onNumber (N.Refused e) refusal rest = refusal e
+
+  abbrev pub onScan : Scan → (Fault → A) → (ℕ → A) → A
+  onScan (Clean next) refusal rest = rest next
+  onScan (Refused e) refusal rest = refusal e
 
 -- A number at `at` of a record that ends before `end`: outside the count 5, kind 2, above its bound 4.
 unfoldable pub numberAt : List ℕ → ℕ → ℕ → ℕ → Number
@@ -57,12 +63,15 @@ knownDriver total NoNet = false
 abbrev pub isKnown : ℕ → ℕ → Bool
 isKnown total net = knownDriver total (driverOf net)
 
--- A net of a kind up to `most` (0: net words only; 1: a control, which may be inverted): outside the count 5, kind 2,
--- unknown slot 6.
-unfoldable pub netAt : List ℕ → ℕ → ℕ → ℕ → ℕ → Scan
-netAt w total most end at =
+-- "Only controls may be inverted": the greatest kind of a net's word is 0, net, and of a control's 1, inverted net.
+abbrev pub mostKind : Bool → ℕ
+mostKind mayInvert = cond mayInvert 1 0
+
+-- A net or, where it may be inverted, a control: outside the count 5, kind 2, unknown slot 6.
+unfoldable pub netAt : List ℕ → ℕ → Bool → ℕ → ℕ → Scan
+netAt w total mayInvert end at =
     unless (ltb at end) (Refused (fault 5 at))
-    (unless (leb (kindOf (getD w at 0)) most) (Refused (fault 2 at))
+    (unless (leb (kindOf (getD w at 0)) (mostKind mayInvert)) (Refused (fault 2 at))
     (unless (isKnown total (payloadOf (getD w at 0))) (Refused (fault 6 at))
     (Clean (at + 1))))
 
@@ -86,10 +95,10 @@ constantAt w end at = scanBit (bitAt w end at) at
 -- `step` n times, from place to place, up to the first fault.
 unfoldable pub scanMany : (ℕ → Scan) → ℕ → ℕ → Scan
 scanMany step zero at = Clean at
-scanMany step (suc n) at = onClean (step at) (scanMany step n)
+scanMany step (suc n) at = onScan (step at) Refused (scanMany step n)
 
-abbrev pub netsAt : List ℕ → ℕ → ℕ → ℕ → ℕ → ℕ → Scan
-netsAt w total most end n at = scanMany (netAt w total most end) n at
+abbrev pub netsAt : List ℕ → ℕ → Bool → ℕ → ℕ → ℕ → Scan
+netsAt w total mayInvert end n at = scanMany (netAt w total mayInvert end) n at
 
 abbrev pub constantsAt : List ℕ → ℕ → ℕ → ℕ → Scan
 constantsAt w end n at = scanMany (constantAt w end) n at

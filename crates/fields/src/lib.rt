@@ -5,8 +5,9 @@ use logic::Driver;
 use logic::Fault;
 use logic::Net;
 ghost use mathlib.Core.Path.{_≡_};
-ghost use Rattle.fields.specs.Field.{numberAt, isConstant, isKnown, netAt, bitAt, constantAt, netsAt};
-ghost use Rattle.fields.specs.Field.{constantsAt, endsAt};
+ghost use mathlib.Core.Bool.{false};
+ghost use Rattle.fields.specs.Field.{numberAt, isConstant, isKnown, mostKind, netAt, bitAt, constantAt};
+ghost use Rattle.fields.specs.Field.{netsAt, constantsAt, endsAt};
 ghost use Rattle.fields.specs.Pattern.{patternsAt};
 ghost use Rattle.fields.specs.Head.{recordOf, headAt};
 
@@ -94,13 +95,20 @@ pub fn is_known(total: usize, net: Net) -> bool
     }
 }
 
-// A net at a place of a record, of a kind up to `most`: 0 a net word, 1 a control, which may be inverted.
-pub fn net_at(list: &[u32], total: usize, most: u32, end: usize, at: usize) -> Scan
-    ensures { λ r. ⌜ r ≡ netAt (now (list .entry)) total most end at ⌝ }
+// The greatest kind of a word that stands for a net: 0, and of a control 1.
+fn most_kind(control: bool) -> u32
+    ensures { λ r. ⌜ r ≡ mostKind control ⌝ }
+{
+    if control { 1 } else { 0 }
+}
+
+// A net at a place of a record; a control may be inverted.
+pub fn net_at(list: &[u32], total: usize, control: bool, end: usize, at: usize) -> Scan
+    ensures { λ r. ⌜ r ≡ netAt (now (list .entry)) total control end at ⌝ }
 {
     if at < end {
         let word = logic::word_at(list, at);
-        if logic::kind(word) <= most {
+        if logic::kind(word) <= most_kind(control) {
             if is_known(total, Net(logic::payload(word))) {
                 Scan::Clean(at + 1)
             } else {
@@ -121,6 +129,13 @@ pub fn net_at(list: &[u32], total: usize, most: u32, end: usize, at: usize) -> S
             place: at,
         })
     }
+}
+
+// A net that is no control.
+pub fn plain_net_at(list: &[u32], total: usize, end: usize, at: usize) -> Scan
+    ensures { λ r. ⌜ r ≡ netAt (now (list .entry)) total false end at ⌝ }
+{
+    net_at(list, total, false, end, at)
 }
 
 // A word of a record where only a constant may stand.
@@ -163,14 +178,21 @@ pub fn constant_at(list: &[u32], end: usize, at: usize) -> Scan
     }
 }
 
-// A run of n nets of a kind up to `most`.
-pub fn nets_at(list: &[u32], total: usize, most: u32, end: usize, n: usize, start: usize) -> Scan
-    ensures { λ r. ⌜ r ≡ netsAt (now (list .entry)) total most end n start ⌝ }
+// A run of n nets, or of n controls.
+pub fn nets_at(
+    list: &[u32],
+    total: usize,
+    control: bool,
+    end: usize,
+    n: usize,
+    start: usize,
+) -> Scan
+    ensures { λ r. ⌜ r ≡ netsAt (now (list .entry)) total control end n start ⌝ }
 {
     let mut at = start;
     let mut left = n;
     while 0 < left {
-        match net_at(list, total, most, end, at) {
+        match net_at(list, total, control, end, at) {
             Scan::Refused(f) => {
                 return Scan::Refused(f);
             }

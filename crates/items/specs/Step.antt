@@ -12,6 +12,11 @@ pub data Step : Type 0 where
   Read : ℕ → ℕ → Step
   Refused : Fault → Step
 
+module _ {A : Type 0} where
+  abbrev pub onStep : Step → (Fault → A) → (ℕ → ℕ → A) → A
+  onStep (Read least next) refusal rest = rest least next
+  onStep (Refused e) refusal rest = refusal e
+
 -- Of a cell replacement the number is a slot's.
 abbrev pub cellStep : Step → CellStep
 cellStep (Read least next) = C.Read (record { 0 = least }) next

@@ -11,7 +11,7 @@ ghost use Prim.Native.Nat.{_+_, _-_, _<_};
 ghost use Rattle.items.specs.Step.{cellStep, netStep};
 ghost use Rattle.items.specs.Items.{countsAt, headerAt, listedNumberAt, listedNetAt, replaces, replacementAt};
 ghost use Rattle.items.specs.Items.{cellRepsFrom, pairAt, netRepsFrom, finishAt};
-ghost use Rattle.items.specs.Marks.{headsIn};
+ghost use Rattle.items.specs.Marks.{atSlotIn};
 
 // The four words of the header.
 pub struct Header {
@@ -97,7 +97,7 @@ fn listed_net_at(list: &[u32], total: usize, at: usize) -> Scan
     ensures { λ r. ⌜ r ≡ listedNetAt (now (list .entry)) total at ⌝ }
 {
     if at < list.len() {
-        reader::net_in(list, total, 0, list.len(), at)
+        reader::net_in(list, total, list.len(), at)
     } else {
         Scan::Refused(Fault {
             number: 1,
@@ -106,24 +106,7 @@ fn listed_net_at(list: &[u32], total: usize, at: usize) -> Scan
     }
 }
 
-// Whether a slot heads a cell of the base that is no Void and has an output width, by the table's words.
-fn heads(table: &[u32], base: usize, slot: Slot, width: usize) -> bool
-    ensures { λ r. ⌜ r ≡ headsIn (now (table .entry)) base (slot .0) width ⌝ }
-{
-    if (slot.0 as usize) < base {
-        let mark = logic::word_at(table, slot.0 as usize);
-        if mark / 1024 == slot.0 {
-            if mark % 4 == 0 {
-                return false;
-            }
-            return (mark / 8 % 128) as usize == width;
-        }
-        return false;
-    }
-    false
-}
-
-// Whether a replacement is right.
+// Whether a replacement has none of the reasons of fault 12, by the table's words.
 fn replaces(
     table: &[u32],
     base: usize,
@@ -132,15 +115,25 @@ fn replaces(
     op: Operation,
     width: usize,
 ) -> bool
-    ensures { λ r. ⌜ r ≡ replaces (headsIn (now (table .entry)) base) (least .0) (slot .0) op width ⌝ }
+    ensures { λ r. ⌜ r ≡ replaces (atSlotIn (now (table .entry))) base (least .0) (slot .0) op width ⌝ }
 {
-    if least.0 <= slot.0 {
-        if heads(table, base, slot, width) {
-            return cell::may_replace(op);
-        }
+    if base <= slot.0 as usize {
         return false;
     }
-    false
+    let mark = logic::word_at(table, slot.0 as usize);
+    if mark / 1024 != slot.0 {
+        return false;
+    }
+    if mark % 4 == 0 {
+        return false;
+    }
+    if slot.0 < least.0 {
+        return false;
+    }
+    if (mark / 8 % 128) as usize != width {
+        return false;
+    }
+    cell::may_replace(op)
 }
 
 // The cell replacement at a place.
@@ -152,8 +145,8 @@ fn replacement_at(
     least: Slot,
     at: usize,
 ) -> CellStep
-    ensures { λ r. ⌜ r ≡ cellStep (replacementAt (now (list .entry)) total (headsIn (now (table .entry)) base)
-        (least .0) at) ⌝ }
+    ensures { λ r. ⌜ r ≡ cellStep (replacementAt (now (list .entry)) total (replaces (atSlotIn (now (table .entry)))
+        base) (least .0) at) ⌝ }
 {
     match listed_number_at(list, at) {
         Number::Refused(f) => CellStep::Refused(f),
@@ -185,7 +178,7 @@ pub fn cell_reps_at(
     k: usize,
     start: usize,
 ) -> Scan
-    ensures { λ r. ⌜ r ≡ cellRepsFrom (now (list .entry)) total (headsIn (now (table .entry)) base)
+    ensures { λ r. ⌜ r ≡ cellRepsFrom (now (list .entry)) total (replaces (atSlotIn (now (table .entry))) base)
         k 0 start .scan ⌝ }
 {
     let mut at = start;

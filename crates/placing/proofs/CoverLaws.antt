@@ -1,26 +1,30 @@
 -- Laws of the definitions of Cover.
 use Prim.Native.Nat.{ℕ, zero, suc, _+_, _/_, _%_, _<_, _≤_, max}
-use mathlib.Core.Path.{_≡_, refl, fun-ext, _∙_}
-use mathlib.Core.Bool.{Bool, true, false, cond}
+use mathlib.Core.Path.{_≡_, refl, ap, fun-ext, _∙_}
+use mathlib.Core.Bool.{Bool, true, false, cond, not, _&&_}
 use mathlib.Core.List.{List, [], _∷_, _++_}
 use native.Mathlib.Omega.{arith}
 use native.Mathlib.Nat.{add-zero}
 use lib.ListN.{length, getD, drop, replicate, length-append, length-replicate, length-map, List·getD-map}
 use lib.ListN.{List·getD-append}
 use lib.Seq.{sets, sets-eq}
-use lib.Dec.{ltb, eqb}
+use lib.Dec.{ltb, leb, eqb}
 use borrow.Author.Tests.{ltb-true, ltb-false}
-use Rattle.cell.specs.Cell.{Cell, void, note, input, ioBuf, unary, binary, mux, adc, aig, shift, match, assign, dff}
-use Rattle.cell.specs.Cell.{outputLen, slotsOf, standing}
+use Rattle.logic.specs.declared.Slot.{Slot}
+use Rattle.cell.specs.Cell.{outputLen, slotsOf, standing, standsVoid}
+use Rattle.cell.specs.Operation.{mayReplace}
+use Rattle.cell.specs.declared.Standing.{Standing}
+use Rattle.cell.specs.declared.Standing.the-variants as T
+use Rattle.cell.specs.declared.Operation.{Operation}
 use Rattle.cell.specs.Design.{Placed}
 use Rattle.fields.specs.declared.Scan.the-variants as S
 use Rattle.cell_reader.specs.Parse.{cellAt}
 use Rattle.placing.specs.declared.Placing.{Placing}
 use Rattle.placing.specs.declared.Placing.the-variants as P
-use Rattle.placing.specs.Slots.{covering, nowhere, takes, heads, isVoid, markOf, marks}
-use Rattle.items.specs.Items.{stop, push}
-use Rattle.placing.specs.Cells.{onPlaced, placedAt, cellsFrom, cellsOf}
-use Rattle.items.specs.Marks.{headsIn}
+use Rattle.placing.specs.Slots.{covering, nowhere, takes, atSlot, isVoid, standingNumber, markOf, marks}
+use Rattle.items.specs.Items.{stop, refuse, push, AtSlot, replaces}
+use Rattle.placing.specs.Cells.{onPlacing, placedAt, cellsFrom, cellsOf}
+use Rattle.items.specs.Marks.{atSlotIn}
 use Rattle.voids.specs.Marks.{isVoidIn}
 use Rattle.placing.proofs.Laws.{placed-read, limit-low}
 use Rattle.placing.specs.Cover.{Walk, done, placed}
@@ -43,14 +47,13 @@ module _ (w : List ℕ) (base total : ℕ) where
 
       go :
           slot < total → (p : Placing) → placedAt w base total slot at ≡ p →
-          onPlaced p
-          (λ (after next : ℕ). push (record { slot = slot; cell = cellAt w at })
-          (cellsFrom w base total turns after next)) .scan ≡ S.Clean end →
+          onPlacing p refuse (λ (op : Operation) (width : ℕ) (after : Slot) (next : ℕ).
+          push (record { slot = slot; cell = cellAt w at }) (cellsFrom w base total turns (after .0) next)) .scan
+          ≡ S.Clean end →
           ((after next : ℕ) → Rest after next) →
           (Walk w base total) slot at
-          (onPlaced p
-          (λ (after next : ℕ). push (record { slot = slot; cell = cellAt w at })
-          (cellsFrom w base total turns after next)) .items) end
+          (onPlacing p refuse (λ (op : Operation) (width : ℕ) (after : Slot) (next : ℕ).
+          push (record { slot = slot; cell = cellAt w at }) (cellsFrom w base total turns (after .0) next)) .items) end
       go inside (P.Refused f) p e rest = let z : _≡_ {A = ℕ} 0 1 = cc in absurd (omega arith)
       go inside (P.Placed op width after next) p e rest =
           let is = placed-read w base total slot at p in
@@ -61,16 +64,14 @@ module _ (w : List ℕ) (base total : ℕ) where
       more :
           (b : Bool) → ltb slot total ≡ b →
           cond b
-          (onPlaced (placedAt w base total slot at)
-          (λ (after next : ℕ). push (record { slot = slot; cell = cellAt w at })
-          (cellsFrom w base total turns after next)))
+          (onPlacing (placedAt w base total slot at) refuse (λ (op : Operation) (width : ℕ) (after : Slot) (next : ℕ).
+          push (record { slot = slot; cell = cellAt w at }) (cellsFrom w base total turns (after .0) next)))
           (stop (S.Clean at)) .scan ≡ S.Clean end →
           ((after next : ℕ) → Rest after next) →
           (Walk w base total) slot at
           (cond b
-          (onPlaced (placedAt w base total slot at)
-          (λ (after next : ℕ). push (record { slot = slot; cell = cellAt w at })
-          (cellsFrom w base total turns after next)))
+          (onPlacing (placedAt w base total slot at) refuse (λ (op : Operation) (width : ℕ) (after : Slot) (next : ℕ).
+          push (record { slot = slot; cell = cellAt w at }) (cellsFrom w base total turns (after .0) next)))
           (stop (S.Clean at)) .items) end
       more true b e rest = go (ltb-true _ _ b) (placedAt w base total slot at) refl e rest
       more false b e rest =
@@ -135,20 +136,16 @@ walk-narrow {w = w} (placed {at = at} {width = width} inside is rest) = (
   walk-narrow rest,
 )
 
-cell-standing : (c : Cell) → standing c ≤ 2
-cell-standing void = omega arith
-cell-standing note = omega arith
-cell-standing (input n) = omega arith
-cell-standing (ioBuf n) = omega arith
-cell-standing (unary op a) = omega arith
-cell-standing (binary op a b) = omega arith
-cell-standing (mux s a b) = omega arith
-cell-standing (adc a b c) = omega arith
-cell-standing (aig a b) = omega arith
-cell-standing (shift op value amount stride) = omega arith
-cell-standing (match value enable patterns) = omega arith
-cell-standing (assign value enable update offset) = omega arith
-cell-standing (dff ff) = omega arith
+-- The numbers of what stands at a slot are 0, 1 and 2, and 0 is a Void's.
+standing-low : (s : Standing) → standingNumber s ≤ 2
+standing-low T.Void = omega arith
+standing-low T.Dff = omega arith
+standing-low T.Other = omega arith
+
+void-number : (s : Standing) → eqb (standingNumber s) 0 ≡ standsVoid s
+void-number T.Void = refl
+void-number T.Dff = refl
+void-number T.Other = refl
 
 -- The word of a slot gives back what stands there, the output width and the first slot.
 module _ (base : ℕ) (c : Placed) (narrow : Narrow c) where
@@ -156,14 +153,14 @@ module _ (base : ℕ) (c : Placed) (narrow : Narrow c) where
   added-low true = omega arith
   added-low false = omega arith
 
-  mark-standing : markOf base c % 4 ≡ standing (c .cell)
-  mark-standing = omega (arith, cell-standing (c .cell), added-low (ltb (c .slot) base))
+  mark-standing : markOf base c % 4 ≡ standingNumber (standing (c .cell))
+  mark-standing = omega (arith, standing-low (standing (c .cell)), added-low (ltb (c .slot) base))
 
   mark-width : markOf base c / 8 % 128 ≡ outputLen (c .cell)
-  mark-width = omega (arith, cell-standing (c .cell), added-low (ltb (c .slot) base))
+  mark-width = omega (arith, standing-low (standing (c .cell)), added-low (ltb (c .slot) base))
 
   mark-first : markOf base c / 1024 ≡ c .slot
-  mark-first = omega (arith, cell-standing (c .cell), added-low (ltb (c .slot) base))
+  mark-first = omega (arith, standing-low (standing (c .cell)), added-low (ltb (c .slot) base))
 
 getD-any : {A : Type 0} (l : List A) (i : ℕ) (d e : A) → i < length l → getD l i d ≡ getD l i e
 getD-any [] i d e low = absurd (omega arith)
@@ -185,35 +182,35 @@ module _ (base : ℕ) (cells : List Placed) (t : List ℕ) (room : length (cover
       List·getD-map (markOf base) (covering cells) i nowhere)
 
   module _ (below-base : base ≤ length (covering cells)) (narrow : All Narrow cells) where
-    pub heads-same : headsIn (sets t 0 (marks base cells)) base ≡ heads cells base
-    unfolding headsIn heads
-    heads-same = fun-ext (λ slot. fun-ext (λ width. go slot width (ltb slot base) refl))
+    at-slot-same : (slot : ℕ) → slot < base → atSlotIn (sets t 0 (marks base cells)) slot ≡ atSlot cells slot
+    at-slot-same slot low =
+        let word = table-at slot (omega arith) in
+        let small = takes-all Narrow cells (omega arith) narrow slot in
+        rw (
+          word,
+          mark-first base (takes cells slot) small,
+          mark-standing base (takes cells slot) small,
+          void-number (standing (takes cells slot .cell)),
+          mark-width base (takes cells slot) small,
+        )
+
+    pub replaces-same : replaces (atSlotIn (sets t 0 (marks base cells))) base ≡ replaces (atSlot cells) base
+    unfolding replaces
+    replaces-same =
+        fun-ext (λ least. fun-ext (λ slot. fun-ext (λ op. fun-ext (λ width.
+        go least slot op width (ltb slot base) refl))))
       where
+        right : Bool → AtSlot → ℕ → ℕ → Operation → ℕ → Bool
+        right b s least slot op width =
+            (b && eqb (s .first) slot) && not (s .void) && leb least slot && eqb (s .width) width && mayReplace op
+
         go :
-            (slot width : ℕ) (b : Bool) → ltb slot base ≡ b →
-            cond b
-            (cond (eqb (getD (sets t 0 (marks base cells)) slot 0 / 1024) slot)
-            (cond (eqb (getD (sets t 0 (marks base cells)) slot 0 % 4) 0) false
-            (eqb (getD (sets t 0 (marks base cells)) slot 0 / 8 % 128) width))
-            false)
-            false
-            ≡
-            cond b
-            (cond (eqb (takes cells slot .slot) slot)
-            (cond (eqb (standing (takes cells slot .cell)) 0) false (eqb (outputLen (takes cells slot .cell)) width))
-            false)
-            false
-        go slot width false b = refl
-        go slot width true b =
-            let low : slot < base = ltb-true _ _ b in
-            let word = table-at slot (omega arith) in
-            let small = takes-all Narrow cells (omega arith) narrow slot in
-            rw (
-              word,
-              mark-first base (takes cells slot) small,
-              mark-standing base (takes cells slot) small,
-              mark-width base (takes cells slot) small,
-            )
+            (least slot : ℕ) (op : Operation) (width : ℕ) (b : Bool) → ltb slot base ≡ b →
+            right b (atSlotIn (sets t 0 (marks base cells)) slot) least slot op width
+            ≡ right b (atSlot cells slot) least slot op width
+        go least slot op width false b = refl
+        go least slot op width true b =
+            ap (λ (s : AtSlot). right true s least slot op width) (at-slot-same slot (ltb-true _ _ b))
 
     pub voids-same : isVoidIn (sets t 0 (marks base cells)) base ≡ isVoid cells base
     unfolding isVoidIn isVoid
@@ -222,10 +219,14 @@ module _ (base : ℕ) (cells : List Placed) (t : List ℕ) (room : length (cover
         go :
             (slot : ℕ) (b : Bool) → ltb slot base ≡ b →
             cond b (eqb (getD (sets t 0 (marks base cells)) slot 0 % 4) 0) false
-            ≡ cond b (eqb (standing (takes cells slot .cell)) 0) false
+            ≡ cond b (standsVoid (standing (takes cells slot .cell))) false
         go slot false b = refl
         go slot true b =
             let low : slot < base = ltb-true _ _ b in
             let word = table-at slot (omega arith) in
             let small = takes-all Narrow cells (omega arith) narrow slot in
-            rw (word, mark-standing base (takes cells slot) small)
+            rw (
+              word,
+              mark-standing base (takes cells slot) small,
+              void-number (standing (takes cells slot .cell)),
+            )

@@ -21,7 +21,7 @@ use Rattle.fields.specs.declared.Scan.the-variants as S
 use Rattle.fields.specs.Field.{fault}
 use Rattle.cell_reader.specs.declared.Record.{Record}
 use Rattle.cell_reader.specs.declared.Record.the-variants as R
-use Rattle.cell_reader.specs.Record.{recordAt}
+use Rattle.cell_reader.specs.Record.{onRecord, recordAt}
 use Rattle.cell_reader.specs.Parse.{opAt, cellAt}
 use Rattle.cell_reader.specs.Accepted.{IsRecord}
 use Rattle.cell_reader.proofs.AcceptedLaws.{record-read, standing-at}
@@ -29,7 +29,7 @@ use Rattle.placing.specs.declared.Placing.the-variants as P
 use Rattle.placing.specs.declared.Cells.the-variants as C
 use Rattle.placing.specs.Slots.{covering, markOf, markWord, marks}
 use Rattle.items.specs.Items.{Reading, stop, push}
-use Rattle.placing.specs.Cells.{limitOf, onRecord, placedAt, cellsFrom, cellsOf, counted}
+use Rattle.placing.specs.Cells.{limitOf, placedAt, cellsFrom, cellsOf, counted}
 use Rattle.placing.specs.Placement.{IsPlaced}
 
 map-append : {A B : Type 0} (f : A → B) (a b : List A) → map f (a ++ b) ≡ map f a ++ map f b
@@ -77,7 +77,7 @@ placed-read w base total slot at {op} {width} {next} {after} read = go (recordAt
 
     go :
         (r : Record) → recordAt w total at ≡ r →
-        onRecord r (λ (o : Operation) (width₁ next₁ : ℕ).
+        onRecord r P.Refused (λ (o : Operation) (width₁ next₁ : ℕ).
         cond (leb (slot + max 1 width₁) (limitOf base total slot))
         (P.Placed o width₁ (record { 0 = slot + max 1 width₁ }) next₁) (P.Refused (fault 11 at)))
         ≡ P.Placed op width after next → IsPlaced w base total slot at op width (after .0) next

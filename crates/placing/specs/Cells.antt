@@ -4,18 +4,17 @@ use mathlib.Core.List.{List}
 use mathlib.Core.Bool.{cond}
 use lib.ListN.{length}
 use lib.Dec.{ltb, leb}
+use Rattle.logic.specs.declared.Fault.{Fault}
+use Rattle.logic.specs.declared.Slot.{Slot}
 use Rattle.cell.specs.declared.Operation.{Operation}
 use Rattle.cell.specs.Design.{Placed}
-use Rattle.fields.specs.declared.Scan.{Scan}
-use Rattle.fields.specs.declared.Scan.the-variants.{Clean, Refused}
-use Rattle.fields.specs.Field.{fault, unless}
-use Rattle.cell_reader.specs.declared.Record.{Record}
-use Rattle.cell_reader.specs.declared.Record.the-variants as R
-use Rattle.cell_reader.specs.Record.{recordAt}
+use Rattle.fields.specs.declared.Scan.the-variants.{Clean}
+use Rattle.fields.specs.Field.{fault, unless, onScan}
+use Rattle.cell_reader.specs.Record.{onRecord, recordAt}
 use Rattle.cell_reader.specs.Parse.{cellAt}
 use Rattle.placing.specs.declared.Placing.{Placing}
 use Rattle.placing.specs.declared.Placing.the-variants as P
-use Rattle.items.specs.Items.{Reading, stop, push}
+use Rattle.items.specs.Items.{Reading, stop, refuse, push}
 use Rattle.placing.specs.declared.Cells.{Cells}
 use Rattle.placing.specs.declared.Cells.the-variants as C
 
@@ -23,27 +22,24 @@ use Rattle.placing.specs.declared.Cells.the-variants as C
 abbrev pub limitOf : ℕ → ℕ → ℕ → ℕ
 limitOf base total slot = cond (ltb slot base) base total
 
-abbrev pub onRecord : Record → (Operation → ℕ → ℕ → Placing) → Placing
-onRecord (R.Read op width next) f = f op width next
-onRecord (R.Refused e) f = P.Refused e
+module _ {A : Type 0} where
+  abbrev pub onPlacing : Placing → (Fault → A) → (Operation → ℕ → Slot → ℕ → A) → A
+  onPlacing (P.Placed op width after next) refusal rest = rest op width after next
+  onPlacing (P.Refused e) refusal rest = refusal e
 
 unfoldable pub placedAt : List ℕ → ℕ → ℕ → ℕ → ℕ → Placing
 placedAt w base total slot at =
-    onRecord (recordAt w total at) (λ (op : Operation) (width next : ℕ).
+    onRecord (recordAt w total at) P.Refused (λ (op : Operation) (width next : ℕ).
     unless (leb (slot + max 1 width) (limitOf base total slot)) (P.Refused (fault 11 at))
     (P.Placed op width (record { 0 = slot + max 1 width }) next))
-
-abbrev pub onPlaced : Placing → (ℕ → ℕ → Reading Placed) → Reading Placed
-onPlaced (P.Placed op width after next) f = f (after .0) next
-onPlaced (P.Refused e) f = stop (Refused e)
 
 -- Cells until the total's slots are taken; each takes at least one, so as many turns as slots are enough.
 unfoldable pub cellsFrom : List ℕ → ℕ → ℕ → ℕ → ℕ → ℕ → Reading Placed
 cellsFrom w base total zero slot at = stop (Clean at)
 cellsFrom w base total (suc turns) slot at =
     cond (ltb slot total)
-    (onPlaced (placedAt w base total slot at) (λ (after next : ℕ).
-    push (record { slot = slot; cell = cellAt w at }) (cellsFrom w base total turns after next)))
+    (onPlacing (placedAt w base total slot at) refuse (λ (op : Operation) (width : ℕ) (after : Slot) (next : ℕ).
+    push (record { slot = slot; cell = cellAt w at }) (cellsFrom w base total turns (after .0) next)))
     (stop (Clean at))
 
 -- The first cell stands after the header, and takes slots from 0.
@@ -51,9 +47,5 @@ unfoldable pub cellsOf : List ℕ → ℕ → ℕ → Reading Placed
 cellsOf w base total = cellsFrom w base total total 0 4
 
 -- How many cells were read, with the place after them.
-abbrev pub onCells : Scan → ℕ → Cells
-onCells (Clean next) count = C.Read count next
-onCells (Refused e) count = C.Refused e
-
 abbrev pub counted : Reading Placed → Cells
-counted cells = onCells (cells .scan) (length (cells .items))
+counted cells = onScan (cells .scan) C.Refused (λ (next : ℕ). C.Read (length (cells .items)) next)

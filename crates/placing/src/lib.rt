@@ -1,12 +1,13 @@
 // The cells of a design list, each placed on its slots after the one before, with the word of every slot.
 use cell::Operation;
+use cell::Standing;
 use cell_reader::Record;
 use logic::Fault;
 use logic::Slot;
 ghost use mathlib.Core.Path.{_≡_};
 ghost use Prim.Native.Nat.{_+_, _-_, _<_, _≤_, _^_, max};
 ghost use lib.Seq.{sets};
-ghost use Rattle.placing.specs.Slots.{markWord, marks};
+ghost use Rattle.placing.specs.Slots.{standingNumber, markWord, marks};
 ghost use Rattle.placing.specs.Cells.{limitOf, placedAt, cellsOf, counted};
 
 // A cell's operation and output width, the slot and the place after it; or the fault met.
@@ -70,16 +71,28 @@ fn placed_at(list: &[u32], base: usize, total: usize, slot: Slot, at: usize) -> 
     }
 }
 
+// What stands at a slot, as a number.
+fn standing_number(stands: Standing) -> u32
+    ensures { λ r. ⌜ (r ≡ standingNumber stands) × (r ≤ 2) ⌝ }
+{
+    match stands {
+        Standing::Void => 0,
+        Standing::Dff => 1,
+        Standing::Other => 2,
+    }
+}
+
 // The word for the slots of a cell.
-fn mark_word(base: usize, stands: u32, width: usize, first: Slot) -> u32
-    requires { ⌜ (stands ≤ 2) × (width ≤ 64) × (first .0 < 2 ^ 17) ⌝ }
+fn mark_word(base: usize, stands: Standing, width: usize, first: Slot) -> u32
+    requires { ⌜ (width ≤ 64) × (first .0 < 2 ^ 17) ⌝ }
     ensures { λ r. ⌜ r ≡ markWord base stands width (first .0) ⌝ }
 {
+    let number = standing_number(stands);
     let rest = 8 * (width as u32) + 1024 * first.0;
     if (first.0 as usize) < base {
-        stands + rest
+        number + rest
     } else {
-        stands + 4 + rest
+        number + 4 + rest
     }
 }
 

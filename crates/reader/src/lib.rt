@@ -1,6 +1,7 @@
 // A reader over the caller's words with its place. A thin function takes it apart and calls the one on a list and a
 // place; the functions at the end have plain parameters and go through a reader.
 ghost use mathlib.Core.Path.{_≡_};
+ghost use mathlib.Core.Bool.{false};
 ghost use Rattle.fields.specs.Field.{numberAt, netAt, constantAt};
 ghost use Rattle.fields.specs.Head.{headAt};
 ghost use Rattle.cell_reader.specs.Record.{recordAt};
@@ -39,11 +40,11 @@ pub fn number<'a>(r: Reader<'a>, bound: u32, end: usize) -> fields::Number
     fields::number_at(r.list, bound, end, r.at)
 }
 
-// The net at a reader's place, of a kind up to `most`.
-pub fn net<'a>(r: Reader<'a>, total: usize, most: u32, end: usize) -> fields::Scan
-    ensures { λ s. ⌜ s ≡ netAt (now (r .entry .list)) total most end (r .entry .at) ⌝ }
+// The net at a reader's place, which is no control.
+pub fn net<'a>(r: Reader<'a>, total: usize, end: usize) -> fields::Scan
+    ensures { λ s. ⌜ s ≡ netAt (now (r .entry .list)) total false end (r .entry .at) ⌝ }
 {
-    fields::net_at(r.list, total, most, end, r.at)
+    fields::plain_net_at(r.list, total, end, r.at)
 }
 
 // The constant at a reader's place.
@@ -75,10 +76,10 @@ pub fn number_in(list: &[u32], bound: u32, end: usize, at: usize) -> fields::Num
 }
 
 // The net at a place of a list, through a reader.
-pub fn net_in(list: &[u32], total: usize, most: u32, end: usize, at: usize) -> fields::Scan
-    ensures { λ s. ⌜ s ≡ netAt (now (list .entry)) total most end at ⌝ }
+pub fn net_in(list: &[u32], total: usize, end: usize, at: usize) -> fields::Scan
+    ensures { λ s. ⌜ s ≡ netAt (now (list .entry)) total false end at ⌝ }
 {
-    net(moved(open(list), at), total, most, end)
+    net(moved(open(list), at), total, end)
 }
 
 // The record at a place of a list, through a reader.

@@ -9,6 +9,7 @@ use lib.Dec.{ltb, leb, eqb}
 use borrow.Author.Tests.{ltb-true, ltb-false, leb-true}
 use Rattle.logic.specs.Word.{kindOf, payloadOf}
 use Rattle.logic.specs.Net.{driverOf}
+use Rattle.logic.specs.declared.Slot.{Slot}
 use Rattle.cell.specs.Operation.{operationOf, numbersOf, fieldsOf}
 use Rattle.cell.specs.declared.Operation.{Operation}
 use Rattle.cell.specs.declared.Decoded.{Decoded}
@@ -22,10 +23,10 @@ use Rattle.fields.specs.declared.Scan.the-variants.{Clean, Refused}
 use Rattle.fields.specs.declared.Bit.the-variants as B
 use Rattle.fields.specs.declared.Head.{Head}
 use Rattle.fields.specs.declared.Head.the-variants as H
-use Rattle.fields.specs.Field.{fault, onClean, isConstant, isKnown, numberAt, netAt, bitAt, scanBit, constantAt}
-use Rattle.fields.specs.Field.{scanMany, netsAt, constantsAt, endsAt}
-use Rattle.fields.specs.Pattern.{onNumber, alternateAt, patternAt, patternsAt}
-use Rattle.fields.specs.Head.{recordOf, onKnown, headAt}
+use Rattle.fields.specs.Field.{fault, onNumber, onScan, isConstant, isKnown, mostKind, numberAt, netAt, bitAt}
+use Rattle.fields.specs.Field.{scanBit, constantAt, scanMany, netsAt, constantsAt, endsAt}
+use Rattle.fields.specs.Pattern.{alternateAt, patternAt, patternsAt}
+use Rattle.fields.specs.Head.{recordOf, onHead, headOf, headAt}
 use Rattle.cell_reader.specs.declared.Leading.{Leading}
 use Rattle.cell_reader.specs.declared.Leading.the-variants as L
 use Rattle.cell_reader.specs.declared.Record.{Record}
@@ -37,20 +38,20 @@ use Rattle.items.specs.declared.Opening.{Opening}
 use Rattle.items.specs.declared.Opening.the-variants as O
 use Rattle.placing.specs.declared.Placing.{Placing}
 use Rattle.placing.specs.declared.Placing.the-variants as P
-use Rattle.items.specs.Step.{Step}
+use Rattle.items.specs.Step.{Step, onStep}
 use Rattle.items.specs.Step as T
-use Rattle.items.specs.Items.{Reading, stop, push, onHeaderNumber, countsAt, headerAt, listedNumberAt, listedNetAt}
-use Rattle.items.specs.Items.{onSlot, onNewCell, replaces, replacementAt, onStep, ascending, newCell, cellRepsFrom}
-use Rattle.items.specs.Items.{onNet, pairAt, netPair, netRepsFrom, finishAt}
-use Rattle.placing.specs.Cells.{limitOf, onRecord, onPlaced, placedAt, cellsFrom, cellsOf}
+use Rattle.items.specs.Items.{Reading, stop, refuse, push, onOpening, countsAt, headerAt, listedNumberAt, listedNetAt}
+use Rattle.items.specs.Items.{replaces, Test, replacementAt, ascending, newCell, cellRepsFrom}
+use Rattle.items.specs.Items.{pairAt, netPair, netRepsFrom, finishAt}
+use Rattle.placing.specs.Cells.{limitOf, onPlacing, placedAt, cellsFrom, cellsOf}
 use Rattle.voids.specs.declared.Item.{Item}
 use Rattle.voids.specs.declared.Item.the-variants as I
-use Rattle.placing.specs.Slots.{heads, isVoid}
+use Rattle.placing.specs.Slots.{atSlot, isVoid}
 use Rattle.voids.specs.Voids.{voidDriver, namesVoid, offends, voidAt, clockAt, recordVoidsAt, replacementVoidsAt}
 use Rattle.voids.specs.Voids.{pairVoidsAt, itemVoidsAt, voidsAt}
-use Rattle.design_list.specs.Read.{Read, refused, onScan, onOpening, readNetReps, readCellReps, readCells, read}
-use Rattle.cell_reader.specs.Record.{onValue, thirdAt, secondAt, firstAt, leadingAt, tailAt, bodyAt, onHead, onLeading}
-use Rattle.cell_reader.specs.Record.{onBody, contentsAt, recordAt}
+use Rattle.design_list.specs.Read.{Read, refused, readNetReps, readCellReps, readCells, read}
+use Rattle.cell_reader.specs.Record.{onLeading, onRecord, thirdAt, secondAt, firstAt, leadingAt, tailAt, bodyAt}
+use Rattle.cell_reader.specs.Record.{contentsAt, recordAt}
 use Rattle.refusals.specs.Small.{Small, SmallRead}
 
 -- What each answer may be, where its places are at most `end`.
@@ -97,10 +98,10 @@ module _ (w : List ℕ) (end : ℕ) (low : end ≤ 16384) where
       go true false c e = omega arith
       go false b c e = omega arith
 
-  net-small : (total most at : ℕ) → at ≤ end → SmallScan end (netAt w total most end at)
+  net-small : (total : ℕ) (mayInvert : Bool) (at : ℕ) → at ≤ end → SmallScan end (netAt w total mayInvert end at)
   unfolding netAt
-  net-small total most at here =
-      go (ltb at end) (leb (kindOf (getD w at 0)) most) (isKnown total (payloadOf (getD w at 0))) refl
+  net-small total mayInvert at here =
+      go (ltb at end) (leb (kindOf (getD w at 0)) (mostKind mayInvert)) (isKnown total (payloadOf (getD w at 0))) refl
     where
       go :
           (a b c : Bool) → ltb at end ≡ a →
@@ -128,7 +129,7 @@ module _ (w : List ℕ) (end : ℕ) (low : end ≤ 16384) where
 
   -- One scan after another, and many.
   clean-small : (s : Scan) (f : ℕ → Scan) → SmallScan end s → ((n : ℕ) → n ≤ end → SmallScan end (f n)) →
-      SmallScan end (onClean s f)
+      SmallScan end (onScan s Refused f)
   clean-small (Clean n) f here rest = rest n here
   clean-small (Refused e) f here rest = here
 
@@ -143,7 +144,7 @@ module _ (w : List ℕ) (end : ℕ) (low : end ≤ 16384) where
   unfolding patternAt alternateAt
   pattern-small n at here = go (numberAt w 64 end at) (number-small 64 at here)
     where
-      go : (c : Number) → SmallNumber end c → SmallScan end (onNumber c (scanMany (alternateAt w n end)))
+      go : (c : Number) → SmallNumber end c → SmallScan end (onNumber c Refused (scanMany (alternateAt w n end)))
       go (N.Refused e) s = s
       go (N.Value a next) s = many-small (alternateAt w n end) (many-small (constantAt w end) constant-small n) a next s
 
@@ -162,17 +163,17 @@ module _ (w : List ℕ) (end : ℕ) (low : end ≤ 16384) where
   body-small : (total : ℕ) (layout : Fields) (n at : ℕ) → at ≤ end → SmallScan end (bodyAt w total layout n end at)
   unfolding bodyAt tailAt
   body-small total layout n at here =
-      clean-small (netsAt w total 1 end (layout .controls) at) _
-      (many-small (netAt w total 1 end) (net-small total 1) (layout .controls) at here) (λ a ha.
-      clean-small (netsAt w total 0 end (layout .nets) a) _
-      (many-small (netAt w total 0 end) (net-small total 0) (layout .nets) a ha) (λ b hb.
+      clean-small (netsAt w total true end (layout .controls) at) _
+      (many-small (netAt w total true end) (net-small total true) (layout .controls) at here) (λ a ha.
+      clean-small (netsAt w total false end (layout .nets) a) _
+      (many-small (netAt w total false end) (net-small total false) (layout .nets) a ha) (λ b hb.
       clean-small (constantsAt w end (layout .constants) b) _
       (many-small (constantAt w end) constant-small (layout .constants) b hb) (λ c hc.
       clean-small (patternsAt w n end (layout .patterns) c) _ (patterns-small n (layout .patterns) c hc) ends-small)))
 
   value-small :
       (v : Number) (f : ℕ → ℕ → Leading) → SmallNumber end v → ((n next : ℕ) → next ≤ end → SmallLeading end (f n next))
-      → SmallLeading end (onValue v f)
+      → SmallLeading end (onNumber v L.Refused f)
   value-small (N.Value n next) f here rest = rest n next here
   value-small (N.Refused e) f here rest = here
 
@@ -223,15 +224,15 @@ module _ (w : List ℕ) (end : ℕ) (low : end ≤ 16384) where
       go (leadingAt w (numbersOf op) end first) (leading-small (numbersOf op) first here)
     where
       body : (s : Scan) (width : ℕ) → SmallScan end s →
-          SmallRecord end (onBody s (λ (after : ℕ). R.Read op width after))
+          SmallRecord end (onScan s R.Refused (λ (after : ℕ). R.Read op width after))
       body (Clean next) width s = s
       body (Refused e) width s = s
 
       go :
           (l : Leading) → SmallLeading end l →
           SmallRecord end
-          (onLeading l
-          (λ (n m next : ℕ). onBody (bodyAt w total (fieldsOf op n m) n end next)
+          (onLeading l R.Refused
+          (λ (n m next : ℕ). onScan (bodyAt w total (fieldsOf op n m) n end next) R.Refused
           (λ (after : ℕ). R.Read op (fieldsOf op n m .width) after)))
       go (L.Refused e) s = s
       go (L.Read n m next) s =
@@ -246,7 +247,8 @@ abbrev RefusesSmall : Scan → Type 0
 RefusesSmall (Clean next) = Unit {0}
 RefusesSmall (Refused e) = Small e
 
-clean-refuses : (s : Scan) (f : ℕ → Scan) → RefusesSmall s → ((n : ℕ) → RefusesSmall (f n)) → RefusesSmall (onClean s f)
+clean-refuses : (s : Scan) (f : ℕ → Scan) → RefusesSmall s → ((n : ℕ) → RefusesSmall (f n)) →
+    RefusesSmall (onScan s Refused f)
 clean-refuses (Clean n) f here rest = rest n
 clean-refuses (Refused e) f here rest = here
 
@@ -260,25 +262,23 @@ module _ (w : List ℕ) (short : length w ≤ 16384) where
   unfolding headAt recordOf
   head-small at here =
       go (ltb at (length w)) (eqb (kindOf (getD w at 0)) 2) (operationOf (payloadOf (getD w at 0) % 32))
-      (leb (at + 1 + count) (length w)) refl
     where
       count : ℕ
       count = payloadOf (getD w at 0) / 32
 
+      known : (o : Operation) (c : Bool) → leb (at + 1 + count) (length w) ≡ c →
+          SmallHead (length w) (cond c (H.Record o (at + 1) (at + 1 + count)) (H.Refused (fault 1 (length w))))
+      known o true e = let fits : at + 1 + count ≤ length w = leb-true _ _ e in omega arith
+      known o false e = omega arith
+
       go :
-          (a b : Bool) (d : Decoded) (c : Bool) → leb (at + 1 + count) (length w) ≡ c →
+          (a b : Bool) (d : Decoded) →
           SmallHead (length w)
-          (cond a
-          (cond b
-          (onKnown d (fault 3 at)
-          (λ (o : Operation). cond c (H.Record o (at + 1) (at + 1 + count)) (H.Refused (fault 1 (length w)))))
-          (H.Refused (fault 2 at)))
-          (H.Refused (fault 1 (length w))))
-      go true true (D.Known o) true e = let fits : at + 1 + count ≤ length w = leb-true _ _ e in omega arith
-      go true true (D.Known o) false e = omega arith
-      go true true D.Unknown c e = omega arith
-      go true false d c e = omega arith
-      go false b d c e = omega arith
+          (cond a (cond b (headOf d count (length w) at) (H.Refused (fault 2 at))) (H.Refused (fault 1 (length w))))
+      go true true (D.Known o) = known o (leb (at + 1 + count) (length w)) refl
+      go true true D.Unknown = omega arith
+      go true false d = omega arith
+      go false b d = omega arith
 
   wider : (end : ℕ) (r : Record) → end ≤ length w → SmallRecord end r → SmallRecord (length w) r
   wider end (R.Read op width next) low s = omega arith
@@ -289,7 +289,8 @@ module _ (w : List ℕ) (short : length w ≤ 16384) where
   record-small total at here = go (headAt w at) (head-small at here)
     where
       go : (h : Head) → SmallHead (length w) h →
-          SmallRecord (length w) (onHead h (λ (op : Operation) (first end : ℕ). contentsAt w total op end first))
+          SmallRecord (length w)
+          (onHead h R.Refused (λ (op : Operation) (first end : ℕ). contentsAt w total op end first))
       go (H.Refused e) s = s
       go (H.Record op first end) s =
           wider end (contentsAt w total op end first) (s .1) (contents-small w end (omega arith) total op first (s .0))
@@ -308,7 +309,7 @@ module _ (w : List ℕ) (short : length w ≤ 16384) where
       go :
           (r : Record) → SmallRecord (length w) r →
           SmallPlacing (length w)
-          (onRecord r (λ (op : Operation) (width next : ℕ).
+          (onRecord r P.Refused (λ (op : Operation) (width next : ℕ).
           cond (leb (slot + max 1 width) (limitOf base total slot))
           (P.Placed op width (record { 0 = slot + max 1 width }) next) (P.Refused (fault 11 at))))
       go (R.Refused e) s = s
@@ -322,13 +323,14 @@ module _ (w : List ℕ) (short : length w ≤ 16384) where
       more (ltb slot total) (placedAt w base total slot at) (placed-small base total slot at here)
       (λ after next s. cells-small base total turns after next s)
     where
-      rest : ℕ → ℕ → Reading Placed
-      rest after next = push (record { slot = slot; cell = cellAt w at }) (cellsFrom w base total turns after next)
+      rest : Operation → ℕ → Slot → ℕ → Reading Placed
+      rest op width after next =
+          push (record { slot = slot; cell = cellAt w at }) (cellsFrom w base total turns (after .0) next)
 
       more :
           (a : Bool) (p : Placing) → SmallPlacing (length w) p →
           ((after next : ℕ) → next ≤ length w → SmallScan (length w) (cellsFrom w base total turns after next .scan)) →
-          SmallScan (length w) (cond a (onPlaced p rest) (stop (Clean at)) .scan)
+          SmallScan (length w) (cond a (onPlacing p refuse rest) (stop (Clean at)) .scan)
       more false p s next = here
       more true (P.Refused e) s next = s
       more true (P.Placed op width after place) s next = next (after .0) place s
@@ -346,14 +348,14 @@ module _ (w : List ℕ) (short : length w ≤ 16384) where
   unfolding listedNetAt
   listed-net-small total at here = go (ltb at (length w))
     where
-      go : (a : Bool) → SmallScan (length w) (cond a (netAt w total 0 (length w) at) (Refused (fault 1 (length w))))
-      go true = net-small w (length w) short total 0 at here
+      go : (a : Bool) → SmallScan (length w) (cond a (netAt w total false (length w) at) (Refused (fault 1 (length w))))
+      go true = net-small w (length w) short total false at here
       go false = omega arith
 
-  replacement-small : (total : ℕ) (head : ℕ → ℕ → Bool) (least at : ℕ) →
-      at ≤ length w → SmallStep (length w) (replacementAt w total head least at)
+  replacement-small : (total : ℕ) (right : Test) (least at : ℕ) →
+      at ≤ length w → SmallStep (length w) (replacementAt w total right least at)
   unfolding replacementAt
-  replacement-small total head least at here = numbered (listedNumberAt w at) (listed-number-small at here)
+  replacement-small total right least at here = numbered (listedNumberAt w at) (listed-number-small at here)
     where
       chosen : (a : Bool) (slot next : ℕ) → next ≤ length w →
           SmallStep (length w) (cond a (T.Read (slot + 1) next) (T.Refused (fault 12 at)))
@@ -363,17 +365,17 @@ module _ (w : List ℕ) (short : length w ≤ 16384) where
       made :
           (slot : ℕ) (r : Record) → SmallRecord (length w) r →
           SmallStep (length w)
-          (onNewCell r (λ (op : Operation) (width next : ℕ).
-          cond (replaces head least slot op width) (T.Read (slot + 1) next) (T.Refused (fault 12 at))))
+          (onRecord r T.Refused (λ (op : Operation) (width next : ℕ).
+          cond (right least slot op width) (T.Read (slot + 1) next) (T.Refused (fault 12 at))))
       made slot (R.Refused e) s = s
-      made slot (R.Read op width next) s = chosen (replaces head least slot op width) slot next s
+      made slot (R.Read op width next) s = chosen (right least slot op width) slot next s
 
       numbered :
           (n : Number) → SmallNumber (length w) n →
           SmallStep (length w)
-          (onSlot n (λ (slot start : ℕ).
-          onNewCell (recordAt w total start) (λ (op : Operation) (width next : ℕ).
-          cond (replaces head least slot op width) (T.Read (slot + 1) next) (T.Refused (fault 12 at)))))
+          (onNumber n T.Refused (λ (slot start : ℕ).
+          onRecord (recordAt w total start) T.Refused (λ (op : Operation) (width next : ℕ).
+          cond (right least slot op width) (T.Read (slot + 1) next) (T.Refused (fault 12 at)))))
       numbered (N.Refused e) s = s
       numbered (N.Value slot start) s = made slot (recordAt w total start) (record-small total start s)
 
@@ -389,7 +391,7 @@ module _ (w : List ℕ) (short : length w ≤ 16384) where
       second :
           (t : Scan) → SmallScan (length w) t →
           SmallStep (length w)
-          (onNet t (λ (next : ℕ). cond (leb least (numberIn w at)) (T.Read (numberIn w at + 1) next)
+          (onScan t T.Refused (λ (next : ℕ). cond (leb least (numberIn w at)) (T.Read (numberIn w at + 1) next)
           (T.Refused (fault 13 at))))
       second (Refused e) s = s
       second (Clean next) s = last (leb least (numberIn w at)) next s
@@ -397,7 +399,7 @@ module _ (w : List ℕ) (short : length w ≤ 16384) where
       first :
           (t : Scan) → SmallScan (length w) t →
           SmallStep (length w)
-          (onNet t (λ (to : ℕ). onNet (listedNetAt w total to) (λ (next : ℕ).
+          (onScan t T.Refused (λ (to : ℕ). onScan (listedNetAt w total to) T.Refused (λ (next : ℕ).
           cond (leb least (numberIn w at)) (T.Read (numberIn w at + 1) next) (T.Refused (fault 13 at)))))
       first (Refused e) s = s
       first (Clean to) s = second (listedNetAt w total to) (listed-net-small total to s)
@@ -414,7 +416,8 @@ module _ (w : List ℕ) (short : length w ≤ 16384) where
       go :
           (t : Step) → SmallStep (length w) t →
           ((above next : ℕ) → next ≤ length w → SmallScan (length w) (ascending step item k above next .scan)) →
-          SmallScan (length w) (onStep t (λ (above next : ℕ). push (item at) (ascending step item k above next)) .scan)
+          SmallScan (length w)
+          (onStep t refuse (λ (above next : ℕ). push (item at) (ascending step item k above next)) .scan)
       go (T.Refused e) s rest = s
       go (T.Read above next) s rest = rest above next s
 
@@ -490,11 +493,12 @@ module _ (w : List ℕ) (short : length w ≤ 16384) where
   -- The stages after the header.
   scan-small :
       (s : Scan) (f : ℕ → Read) → SmallScan (length w) s → ((n : ℕ) → n ≤ length w → SmallRead (f n)) →
-      SmallRead (onScan s f)
+      SmallRead (onScan s refused f)
   scan-small (Clean n) f here rest = rest n here
   scan-small (Refused e) f here rest = here
 
-  refuses-small : (s : Scan) (f : ℕ → Read) → RefusesSmall s → ((n : ℕ) → SmallRead (f n)) → SmallRead (onScan s f)
+  refuses-small : (s : Scan) (f : ℕ → Read) → RefusesSmall s → ((n : ℕ) → SmallRead (f n)) →
+      SmallRead (onScan s refused f)
   refuses-small (Clean n) f here rest = rest n
   refuses-small (Refused e) f here rest = here
 
@@ -514,9 +518,10 @@ module _ (w : List ℕ) (short : length w ≤ 16384) where
       SmallRead (readCellReps w h cells replacements)
   unfolding readCellReps
   cell-reps-small h cells replacements here =
-      scan-small (cellRepsFrom w (h .base + h .added) (heads cells (h .base)) (h .cellreps) 0 replacements .scan) _
-      (ascending-small (replacementAt w (h .base + h .added) (heads cells (h .base))) (newCell w)
-      (replacement-small (h .base + h .added) (heads cells (h .base))) (h .cellreps) 0 replacements here) (λ b hb.
+      let right : Test = replaces (atSlot cells) (h .base) in
+      scan-small (cellRepsFrom w (h .base + h .added) right (h .cellreps) 0 replacements .scan) _
+      (ascending-small (replacementAt w (h .base + h .added) right) (newCell w)
+      (replacement-small (h .base + h .added) right) (h .cellreps) 0 replacements here) (λ b hb.
       net-reps-small h cells _ replacements b hb)
 
   cells-read-small : (h : Header) → 4 ≤ length w → SmallRead (readCells w h)
@@ -526,27 +531,28 @@ module _ (w : List ℕ) (short : length w ≤ 16384) where
       (cells-small (h .base) (h .base + h .added) (h .base + h .added) 0 4 long) (λ a ha. cell-reps-small h _ a ha)
 
   -- The header.
-  header-number-small : (v : Number) (f : ℕ → Opening) → SmallNumber 4 v → ((n : ℕ) → SmallOpening (f n)) →
-      SmallOpening (onHeaderNumber v f)
-  header-number-small (N.Value n next) f here rest = rest n
+  header-number-small :
+      (v : Number) (f : ℕ → ℕ → Opening) → SmallNumber 4 v → ((n next : ℕ) → SmallOpening (f n next)) →
+      SmallOpening (onNumber v O.Refused f)
+  header-number-small (N.Value n next) f here rest = rest n next
   header-number-small (N.Refused e) f here rest = here
 
   header-small : SmallOpening (headerAt w)
   unfolding headerAt countsAt
   header-small =
-      header-number-small (numberAt w 4096 4 0) _ (number-small w 4 (omega arith) 4096 0 (omega arith)) (λ base.
+      header-number-small (numberAt w 4096 4 0) _ (number-small w 4 (omega arith) 4096 0 (omega arith)) (λ base _.
       header-number-small (numberAt w (4096 - base) 4 1) _
-      (number-small w 4 (omega arith) (4096 - base) 1 (omega arith)) (λ added.
-      header-number-small (numberAt w 4096 4 2) _ (number-small w 4 (omega arith) 4096 2 (omega arith)) (λ cellreps.
+      (number-small w 4 (omega arith) (4096 - base) 1 (omega arith)) (λ added _.
+      header-number-small (numberAt w 4096 4 2) _ (number-small w 4 (omega arith) 4096 2 (omega arith)) (λ cellreps _.
       header-number-small (numberAt w 4096 4 3) _ (number-small w 4 (omega arith) 4096 3 (omega arith))
-      (λ netreps. tt))))
+      (λ netreps _. tt))))
 
 pub read-small : (w : List ℕ) → SmallRead (read w)
 unfolding read
 read-small w = go (ltb 16384 (length w)) (ltb (length w) 4) refl refl
   where
     opened : (short : length w ≤ 16384) → 4 ≤ length w → (o : Opening) → SmallOpening o →
-        SmallRead (onOpening o (readCells w))
+        SmallRead (onOpening o refused (readCells w))
     opened short long (O.Refused e) s = s
     opened short long (O.Read h) s = cells-read-small w short h long
 
@@ -554,7 +560,7 @@ read-small w = go (ltb 16384 (length w)) (ltb (length w) 4) refl refl
         (a b : Bool) → ltb 16384 (length w) ≡ a → ltb (length w) 4 ≡ b →
         SmallRead
         (cond a (refused (fault 4 16384))
-        (cond b (refused (fault 1 (length w))) (onOpening (headerAt w) (readCells w))))
+        (cond b (refused (fault 1 (length w))) (onOpening (headerAt w) refused (readCells w))))
     go true b x y = omega arith
     go false true x y = let short : length w ≤ 16384 = ltb-false _ _ x in omega arith
     go false false x y = opened (ltb-false _ _ x) (ltb-false _ _ y) (headerAt w) (header-small w (ltb-false _ _ x))

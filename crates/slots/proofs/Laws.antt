@@ -13,7 +13,7 @@ use lib.Dec.{ltb, eqb}
 use borrow.Author.Tests.{ltb-true, ltb-false, lt-ltb, le-ltb, ne-eqb}
 use Rattle.cell.specs.Cell.{outputLen, slotsOf, standing}
 use Rattle.cell.specs.Design.{Design, Placed, total}
-use Rattle.placing.specs.Slots.{covering, markOf, marks}
+use Rattle.placing.specs.Slots.{covering, standingNumber, markOf, marks}
 use Rattle.placing.specs.Cover.{Walk}
 use Rattle.placing.proofs.CoverLaws.{walk-total, table-at, takes-all, Narrow, walk-narrow}
 use Rattle.design_list.specs.Read.{read, accepted}
@@ -33,7 +33,7 @@ module _ (base : ℕ) (c : Placed) (narrow : Narrow c) where
   added-low true = omega arith
   added-low false = omega arith
 
-  stands-low : standing (c .cell) ≤ 2
+  stands-low : standingNumber (standing (c .cell)) ≤ 2
   stands-low = rw (standing-role (c .cell)) (standing-low (role (c .cell)))
 
   mark-standing : markOf base c % 4 ≡ standingOf (role (c .cell))
@@ -48,10 +48,10 @@ module _ (base : ℕ) (c : Placed) (narrow : Narrow c) where
     where
       go : (b : Bool) → ltb (c .slot) base ≡ b → eqb (markOf base c % 8) 1 ≡ b && isDff (role (c .cell))
       go true b =
-          let digit : markOf base c % 8 ≡ standing (c .cell) = rw b (omega (arith, stands-low)) in
+          let digit : markOf base c % 8 ≡ standingNumber (standing (c .cell)) = rw b (omega (arith, stands-low)) in
           rw (digit, standing-role (c .cell)) (dff-stands (role (c .cell)))
       go false b =
-          let digit : markOf base c % 8 ≡ standing (c .cell) + 4 = rw b (omega (arith, stands-low)) in
+          let digit : markOf base c % 8 ≡ standingNumber (standing (c .cell)) + 4 = rw b (omega (arith, stands-low)) in
           ne-eqb (markOf base c % 8) 1 (λ e. omega arith)
 
 -- A cell's first slot is in the base exactly where each of its slots is.

@@ -4,11 +4,12 @@ use Prim.Native.Nat.{_≤_}
 use native.Mathlib.Omega.{arith}
 use lib.Dec.{eqb}
 use Rattle.cell.specs.Cell.{Cell, standing}
+use Rattle.placing.specs.Slots.{standingNumber}
 use Rattle.cell.specs.Cell as C
 use Rattle.working_out.specs.Reading.{Role, void, given, dff, other, role, isVoid, isDff}
 use Rattle.slots.specs.Tells.{standingOf}
 
-pub standing-role : (c : Cell) → standing c ≡ standingOf (role c)
+pub standing-role : (c : Cell) → standingNumber (standing c) ≡ standingOf (role c)
 standing-role C.void = refl
 standing-role C.note = refl
 standing-role (C.input n) = refl

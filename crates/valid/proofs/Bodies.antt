@@ -141,8 +141,8 @@ module _ (w : List ℕ) (total : ℕ) (layout : Fields) (n end : ℕ) (controls 
     pub many-controls : layout .controls ≡ length controls
     pub many-nets : layout .nets ≡ length nets
     pub many-constants : layout .constants ≡ length constants
-    pub controls-named : Each (Named total 1) controls
-    pub nets-named : Each (Named total 0) nets
+    pub controls-named : Each (Named total true) controls
+    pub nets-named : Each (Named total false) nets
     pub constants-fixed : Each Fixed constants
     pub patterns-right : (place : ℕ) → Stands w end place patterns →
         patternsAt w n end (layout .patterns) place ≡ Clean (place + length patterns)
@@ -166,10 +166,11 @@ module _ (w : List ℕ) (total : ℕ) (layout : Fields) (n end : ℕ) (controls 
       ) in
       rw (
         follows .many-controls,
-        scan-words w end (netAt w total 1 end) (Named total 1) (λ i l. net-right w end i l) controls at
+        scan-words w end (netAt w total true end) (Named total true) (λ i l. net-right w end i l) controls at
             (stands-first controls (nets ++ (constants ++ patterns)) s) (follows .controls-named),
         follows .many-nets,
-        scan-words w end (netAt w total 0 end) (Named total 0) (λ i l. net-right w end i l) nets (at + length controls)
+        scan-words w end (netAt w total false end) (Named total false) (λ i l. net-right w end i l) nets
+            (at + length controls)
             (stands-first nets (constants ++ patterns) s₁) (follows .nets-named),
         follows .many-constants,
         scan-words w end (constantAt w end) Fixed (constant-right w end) constants (at + length controls + length nets)

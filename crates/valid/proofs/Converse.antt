@@ -9,15 +9,15 @@ use Rattle.cell.specs.Design.{Design, total}
 use Rattle.fields.specs.declared.Number.{Number}
 use Rattle.fields.specs.declared.Number.the-variants as N
 use Rattle.fields.specs.declared.Scan.the-variants.{Clean}
-use Rattle.fields.specs.Field.{numberAt}
+use Rattle.fields.specs.Field.{onNumber, numberAt}
 use Rattle.fields.specs.Accepted.{IsNumber}
 use Rattle.fields.proofs.AcceptedLaws.{number-read}
 use Rattle.items.specs.declared.Header.{Header}
 use Rattle.items.specs.declared.Opening.{Opening}
 use Rattle.items.specs.declared.Opening.the-variants as O
 use Rattle.items.specs.Step.{Step}
-use Rattle.placing.specs.Slots.{heads}
-use Rattle.items.specs.Items.{onHeaderNumber, countsAt, headerAt, ascending, replacementAt, newCell, pairAt, netPair}
+use Rattle.placing.specs.Slots.{atSlot}
+use Rattle.items.specs.Items.{countsAt, headerAt, replaces, ascending, replacementAt, newCell, pairAt, netPair}
 use Rattle.design_list.specs.Read.{read, accepted}
 use Rattle.design_list.specs.Accepted.{IsAccepted}
 use Rattle.design_list.proofs.AcceptedLaws.{accepted-read}
@@ -30,13 +30,13 @@ use Rattle.valid.proofs.Spans.{number-word}
 use Rattle.valid.specs.Valid.{Valid}
 
 -- A number of the header was read, and what follows it.
-record Onward (v : Number) (f : ℕ → Opening) (h : Header) : Type 0 where
+record Onward (v : Number) (f : ℕ → ℕ → Opening) (h : Header) : Type 0 where
   number : ℕ
   next : ℕ
   value : v ≡ N.Value number next
-  rest : f number ≡ O.Read h
+  rest : f number next ≡ O.Read h
 
-onward : (v : Number) (f : ℕ → Opening) {h : Header} → onHeaderNumber v f ≡ O.Read h → Onward v f h
+onward : (v : Number) (f : ℕ → ℕ → Opening) {h : Header} → onNumber v O.Refused f ≡ O.Read h → Onward v f h
 onward (N.Value n next) f e = record { number = n; next = next; value = refl; rest = e }
 onward (N.Refused fault) f e = let z : _≡_ {A = ℕ} 0 1 = cc in absurd (omega arith)
 
@@ -85,7 +85,7 @@ pub accepted-counts :
     {w : List ℕ} {d : Design} {replacements pairs : ℕ} (is : IsAccepted w d replacements pairs) →
     (length (d .cellReps) ≡ is .header .cellreps) × (length (d .netReps) ≡ is .header .netreps)
 accepted-counts {w} {d} {replacements} {pairs} is =
-    let step = replacementAt w (total d) (heads (d .cells) (d .base)) in (
+    let step = replacementAt w (total d) (replaces (atSlot (d .cells)) (d .base)) in (
       ap length (is .reps-are) ∙
           many-items step (newCell w) (is .header .cellreps) 0 replacements pairs (is .reps-read),
       ap length (is .pairs-are) ∙

@@ -17,7 +17,7 @@ use Rattle.logic.specs.declared.Trit.the-variants.{Zero, One, Undef}
 use Rattle.cell.specs.Cell.{Control}
 use Rattle.fields.specs.declared.Number.the-variants as N
 use Rattle.fields.specs.declared.Scan.the-variants.{Clean}
-use Rattle.fields.specs.Field.{isConstant, isKnown, numberAt, netAt, bitAt, constantAt, scanMany}
+use Rattle.fields.specs.Field.{isConstant, isKnown, mostKind, numberAt, netAt, bitAt, constantAt, scanMany}
 use Rattle.cell_reader.specs.Parse.{numberIn, netIn, controlIn, tritIn, tritsIn}
 use Rattle.working_out.specs.Reading.{Each}
 use Rattle.working_out.specs.Laid.{Within}
@@ -64,9 +64,9 @@ trit-low Undef = omega arith
 pub trit-constant : (t : Trit) → isConstant (payloadOfNet (constant t)) ≡ true
 trit-constant t = rw (driver-of-constant t)
 
--- A word that a scan of nets, of a kind up to `most`, passes.
-pub record Named (total most word : ℕ) : Type 0 where
-  pub kind : kindOf word ≤ most
+-- A word that a scan of nets, or of controls, passes.
+pub record Named (total : ℕ) (mayInvert : Bool) (word : ℕ) : Type 0 where
+  pub kind : kindOf word ≤ mostKind mayInvert
   pub known : isKnown total (payloadOf word) ≡ true
 
 -- A word that a scan of constants passes.
@@ -75,10 +75,12 @@ pub record Fixed (word : ℕ) : Type 0 where
   pub constant : isConstant (payloadOf word) ≡ true
 
 module _ (w : List ℕ) (end at : ℕ) (inside : at < end) where
-  pub net-right : {total most : ℕ} → Named total most (wordAt w at) → netAt w total most end at ≡ Clean (at + 1)
+  pub net-right :
+      {total : ℕ} {mayInvert : Bool} → Named total mayInvert (wordAt w at) →
+      netAt w total mayInvert end at ≡ Clean (at + 1)
   unfolding netAt
-  net-right {total} {most} named =
-      rw (lt-ltb at end inside, le-leb (kindOf (wordAt w at)) most (named .kind), named .known)
+  net-right {total} {mayInvert} named =
+      rw (lt-ltb at end inside, le-leb (kindOf (wordAt w at)) (mostKind mayInvert) (named .kind), named .known)
 
   pub constant-right : Fixed (wordAt w at) → constantAt w end at ≡ Clean (at + 1)
   unfolding constantAt bitAt
@@ -96,14 +98,14 @@ abbrev control : Net → Bool → Control
 control net inverted = record { net = net; inverted = inverted }
 
 module _ (w : List ℕ) (total : ℕ) (few : total ≤ 4096) where
-  pub net-named : (n : Net) → Within total n → Named total 0 (netWordOf n)
+  pub net-named : (n : Net) → Within total n → Named total false (netWordOf n)
   unfolding netWordOf
   net-named n within = record {
     kind = rw (kind-of-word 0 (payloadOfNet n)) (omega arith);
     known = rw (payload-of-word 0 (payloadOfNet n) (payload-low total few n within)) (payload-known total few n within);
   }
 
-  pub control-named : (c : Control) → Within total (c .net) → Named total 1 (controlWordOf c)
+  pub control-named : (c : Control) → Within total (c .net) → Named total true (controlWordOf c)
   unfolding controlWordOf
   control-named c within = record {
     kind = rw (kind-of-word (cond (c .inverted) 1 0) (payloadOfNet (c .net))) (inverted-kind (c .inverted));

@@ -14,22 +14,22 @@ use Rattle.cell.specs.declared.Operation.{Operation}
 use Rattle.fields.specs.declared.Number.{Number}
 use Rattle.fields.specs.declared.Number.the-variants as N
 use Rattle.fields.specs.declared.Scan.the-variants as S
-use Rattle.fields.specs.Field.{fault, numberAt}
+use Rattle.fields.specs.Field.{fault, onNumber, numberAt}
 use Rattle.fields.specs.Accepted.{IsNumber}
 use Rattle.fields.proofs.AcceptedLaws.{number-read}
 use Rattle.cell_reader.specs.declared.Record.{Record}
 use Rattle.cell_reader.specs.declared.Record.the-variants as R
-use Rattle.cell_reader.specs.Record.{recordAt}
+use Rattle.cell_reader.specs.Record.{onRecord, recordAt}
 use Rattle.cell_reader.specs.Parse.{numberIn, cellAt}
 use Rattle.logic.specs.declared.Slot.{Slot}
 use Rattle.placing.specs.declared.Placing.{Placing}
 use Rattle.placing.specs.declared.Placing.the-variants as P
 use Rattle.items.specs.Step.{Step}
 use Rattle.items.specs.Step as T
-use Rattle.placing.specs.Slots.{heads}
-use Rattle.items.specs.Items.{Reading, stop, push, ascending, listedNumberAt, onSlot, onNewCell, replaces}
+use Rattle.placing.specs.Slots.{atSlot}
+use Rattle.items.specs.Items.{Reading, stop, refuse, push, ascending, listedNumberAt, Test, replaces}
 use Rattle.items.specs.Items.{replacementAt, newCell, pairAt, netPair}
-use Rattle.placing.specs.Cells.{limitOf, onRecord, placedAt, onPlaced, cellsFrom, cellsOf}
+use Rattle.placing.specs.Cells.{limitOf, onPlacing, placedAt, cellsFrom, cellsOf}
 use Rattle.design_list.specs.Read.{read, accepted}
 use Rattle.design_list.specs.Accepted.{IsAccepted}
 use Rattle.design_list.proofs.AcceptedLaws.{accepted-read}
@@ -75,7 +75,7 @@ module _ (w : List ℕ) (total : ℕ) where
 
       go :
           (r : Record) →
-          onRecord r (λ (o : Operation) (width₁ next₁ : ℕ).
+          onRecord r P.Refused (λ (o : Operation) (width₁ next₁ : ℕ).
           cond (leb (slot + max 1 width₁) (limitOf base total slot))
           (P.Placed o width₁ (record { 0 = slot + max 1 width₁ }) next₁)
           (P.Refused (fault 11 at)))
@@ -91,9 +91,9 @@ module _ (w : List ℕ) (total : ℕ) where
   cells-span base (suc turns) slot at end read =
       more (ltb slot total) (λ after next. cells-span base turns after next end) read
     where
-      onward : ℕ → ℕ → Reading Placed
-      onward after next =
-          push (record { slot = slot; cell = cellAt w at }) (cellsFrom w base total turns after next)
+      onward : Operation → ℕ → Slot → ℕ → Reading Placed
+      onward op width after next =
+          push (record { slot = slot; cell = cellAt w at }) (cellsFrom w base total turns (after .0) next)
 
       -- What is known of a reading: its words, if it met no fault.
       Written : Reading Placed → ℕ → Type 0
@@ -101,7 +101,8 @@ module _ (w : List ℕ) (total : ℕ) where
 
       go :
           (p : Placing) → placedAt w base total slot at ≡ p →
-          ((after next : ℕ) → Written (cellsFrom w base total turns after next) next) → Written (onPlaced p onward) at
+          ((after next : ℕ) → Written (cellsFrom w base total turns after next) next) →
+          Written (onPlacing p refuse onward) at
       go (P.Refused f) p rest e = let z : _≡_ {A = ℕ} 0 1 = cc in absurd (omega arith)
       go (P.Placed op width after next) p rest e =
           spans-then (recordOf (cellAt w at)) _ (record-span w total at (placed-record base slot at p))
@@ -109,7 +110,7 @@ module _ (w : List ℕ) (total : ℕ) where
 
       more :
           (b : Bool) → ((after next : ℕ) → Written (cellsFrom w base total turns after next) next) →
-          Written (cond b (onPlaced (placedAt w base total slot at) onward) (stop (S.Clean at))) at
+          Written (cond b (onPlacing (placedAt w base total slot at) refuse onward) (stop (S.Clean at))) at
       more true rest e = go (placedAt w base total slot at) refl rest e
       more false rest e = spans-none (cc)
 
@@ -124,24 +125,24 @@ module _ (w : List ℕ) (total : ℕ) where
       spans-then (words (item at)) _ (one least at above next is) (climb-span R item words one rest)
 
   replacement-span :
-      (head : ℕ → ℕ → Bool) (least at above next : ℕ) → replacementAt w total head least at ≡ T.Read above next →
+      (right : Test) (least at above next : ℕ) → replacementAt w total right least at ≡ T.Read above next →
       Spans w at (replacementWordsOf (newCell w at)) next
   unfolding replacementAt
-  replacement-span head least at above next = slotted (listedNumberAt w at) refl
+  replacement-span right least at above next = slotted (listedNumberAt w at) refl
     where
       Goal : Type 0
       Goal = Spans w at (replacementWordsOf (newCell w at)) next
 
       recorded :
           (slot start : ℕ) → listedNumberAt w at ≡ N.Value slot start → (r : Record) → recordAt w total start ≡ r →
-          onNewCell r (λ (op : Operation) (width after : ℕ).
-          cond (replaces head least slot op width) (T.Read (slot + 1) after) (T.Refused (fault 12 at)))
+          onRecord r T.Refused (λ (op : Operation) (width after : ℕ).
+          cond (right least slot op width) (T.Read (slot + 1) after) (T.Refused (fault 12 at)))
           ≡ T.Read above next → Goal
       recorded slot start v (R.Refused f) r e = let z : _≡_ {A = ℕ} 0 1 = cc in absurd (omega arith)
       recorded slot start v (R.Read op width after) r e =
           let is = listed-number w at v in
           let begins : start ≡ at + 1 = is .after in
-          let last : after ≡ next = passed (replaces head least slot op width) e in
+          let last : after ≡ next = passed (right least slot op width) e in
           let new = rw (begins, last) at (record-span w total start r) in
           spans-then (numberWord (numberIn w at) ∷ []) (recordOf (cellAt w (at + 1)))
           (spans-one (number-word w at (is .kind)) refl) new
@@ -153,9 +154,9 @@ module _ (w : List ℕ) (total : ℕ) where
 
       slotted :
           (v : Number) → listedNumberAt w at ≡ v →
-          onSlot v (λ (slot start : ℕ).
-          onNewCell (recordAt w total start) (λ (op : Operation) (width after : ℕ).
-          cond (replaces head least slot op width) (T.Read (slot + 1) after) (T.Refused (fault 12 at))))
+          onNumber v T.Refused (λ (slot start : ℕ).
+          onRecord (recordAt w total start) T.Refused (λ (op : Operation) (width after : ℕ).
+          cond (right least slot op width) (T.Read (slot + 1) after) (T.Refused (fault 12 at))))
           ≡ T.Read above next → Goal
       slotted (N.Refused f) v e = let z : _≡_ {A = ℕ} 0 1 = cc in absurd (omega arith)
       slotted (N.Value slot start) v e = recorded slot start v (recordAt w total start) refl e
@@ -201,11 +202,11 @@ list-span {w} {d} {replacements} {pairs} is =
     record { reads = header-is w (is .header-read) .words; ends = refl } in
     let cells : Spans w 4 (wordsOfCells d) replacements =
     rw (is .cells-are) (cells-span w (total d) (d .base) (total d) 0 4 replacements (is .cells-read)) in
-    let head = heads (d .cells) (d .base) in
+    let right : Test = replaces (atSlot (d .cells)) (d .base) in
     let reps : Spans w replacements (wordsOfReplacements d) pairs =
     rw (is .reps-are)
-    (ascending-span w (total d) (replacementAt w (total d) head) (newCell w) replacementWordsOf
-    (replacement-span w (total d) head) (is .header .cellreps) 0 replacements pairs (is .reps-read)) in
+    (ascending-span w (total d) (replacementAt w (total d) right) (newCell w) replacementWordsOf
+    (replacement-span w (total d) right) (is .header .cellreps) 0 replacements pairs (is .reps-read)) in
     let nets : Spans w pairs (wordsOfPairs d) (length w) =
     rw (is .pairs-are, ← is .ended)
     (ascending-span w (total d) (pairAt w (total d)) (netPair w) pairWordsOf (pair-span w (total d))

@@ -1,5 +1,6 @@
 -- Document 01, "Operations and bodies": the record of a right cell, of any operation, is read without a fault.
 use mathlib.Core.Path.{_≡_, refl, sym, _∙_}
+use mathlib.Core.Bool.{true, false}
 use mathlib.Core.List.{List, [], _∷_, _++_, map, flatMap}
 use Prim.Native.Nat.{ℕ, suc, _+_, _≤_}
 use native.Mathlib.Omega.{arith}
@@ -158,10 +159,10 @@ module _
         many-nets = counts .nets ∙ sym (length-map (contentsOf c .nets) netWordOf);
         many-constants = counts .constants ∙ sym (length-map (contentsOf c .constants) tritWordOf);
         controls-named =
-            each-words controlWordOf (λ (k : Control). Within total (k .net)) (Named total 1)
+            each-words controlWordOf (λ (k : Control). Within total (k .net)) (Named total true)
             (control-named w total few) (contentsOf c .controls) (each-control (Within total) c (right .within));
         nets-named =
-            each-words netWordOf (Within total) (Named total 0) (net-named w total few) (contentsOf c .nets)
+            each-words netWordOf (Within total) (Named total false) (net-named w total few) (contentsOf c .nets)
             (each-net (Within total) c (right .within));
         constants-fixed =
             each-words tritWordOf (λ _. Unit {0}) Fixed (λ t any. trit-fixed t) (contentsOf c .constants)

@@ -1,7 +1,7 @@
 -- Document 01, "cell replacements (#slot, cell), net replacements (from, to)": those of a right design are read without
 -- fault 12 or 13, and as they are.
 use mathlib.Core.Path.{_≡_, ap₂}
-use mathlib.Core.Bool.{Bool, true}
+use mathlib.Core.Bool.{true}
 use mathlib.Core.List.{List, [], _∷_, _++_, flatMap}
 use Prim.Native.Nat.{ℕ, suc, _+_, _-_, _^_, _≤_, _<_}
 use native.Mathlib.Omega.{arith}
@@ -10,12 +10,11 @@ use lib.ListN.{length, length-append}
 use borrow.Author.Tests.{lt-ltb, le-leb}
 use Rattle.logic.specs.Net.{Net, payloadOfNet}
 use Rattle.cell.specs.Cell.{outputLen}
-use Rattle.cell.specs.Operation.{mayReplace}
 use Rattle.cell.specs.Design.{Placed, NetPair, Design, total}
 use Rattle.fields.specs.declared.Scan.the-variants.{Clean}
 use Rattle.items.specs.Step.{Step}
 use Rattle.items.specs.Step as T
-use Rattle.items.specs.Items.{ascending, listedNumberAt, listedNetAt, replaces, replacementAt, newCell, pairAt, netPair}
+use Rattle.items.specs.Items.{ascending, listedNumberAt, listedNetAt, Test, replacementAt, newCell, pairAt, netPair}
 use Rattle.working_out.specs.Reading.{Each}
 use Rattle.working_out.proofs.ReadingLaws.{each-map}
 use Rattle.working_out.specs.Laid.{Ascending, Within, PairWithin}
@@ -57,20 +56,20 @@ module _
 
 -- ---- Cell replacements.
 -- A replacement whose #slot and new cell are right, as the reader tests them.
-pub record RightReplacement (total : ℕ) (head : ℕ → ℕ → Bool) (p : Placed) : Type 0 where
+pub record RightReplacement (total : ℕ) (test : Test) (p : Placed) : Type 0 where
   pub low : p .slot < 2 ^ 29
   pub right : Right total (p .cell)
-  pub heads : head (p .slot) (outputLen (p .cell)) ≡ true
-  pub may : mayReplace (operationOfCell (p .cell)) ≡ true
+  pub replaced : (least : ℕ) → least ≤ p .slot →
+      test least (p .slot) (operationOfCell (p .cell)) (outputLen (p .cell)) ≡ true
 
 module _ (w : List ℕ) (total : ℕ) (few : total ≤ 4096) (short : length w ≤ 16384) where
   replacement-right :
-      (head : ℕ → ℕ → Bool) (least at : ℕ) (p : Placed) → Stands w (length w) at (replacementWordsOf p) →
-      RightReplacement total head p → least ≤ p .slot →
-      Taken (λ (q : Placed). q .slot) (replacementAt w total head least at) (newCell w at)
+      (test : Test) (least at : ℕ) (p : Placed) → Stands w (length w) at (replacementWordsOf p) →
+      RightReplacement total test p → least ≤ p .slot →
+      Taken (λ (q : Placed). q .slot) (replacementAt w total test least at) (newCell w at)
       (at + length (replacementWordsOf p)) p
-  unfolding replacementAt listedNumberAt replaces
-  replacement-right head least at p s is low =
+  unfolding replacementAt listedNumberAt
+  replacement-right test least at p s is low =
       let start = stands-tail s in
       let small = is .low in
       let place : at + suc (length (recordOf (p .cell))) ≡ at + 1 + length (recordOf (p .cell)) = omega arith in
@@ -80,9 +79,7 @@ module _ (w : List ℕ) (total : ℕ) (few : total ≤ 4096) (short : length w �
               lt-ltb at (length w) (stands-inside s),
               number-right w (2 ^ 29 - 1) (length w) at (p .slot) (stands-inside s) (s .reads .0) small (omega arith),
               record-right w total few short (p .cell) (at + 1) (is .right) start,
-              le-leb least (p .slot) low,
-              is .heads,
-              is .may,
+              is .replaced least low,
               place,
             );
         same = ap₂ placed (number-of-word w at (p .slot) (s .reads .0) (is .low))
@@ -90,14 +87,14 @@ module _ (w : List ℕ) (total : ℕ) (few : total ≤ 4096) (short : length w �
       }
 
   pub replacements-right :
-      (head : ℕ → ℕ → Bool) (ps : List Placed) (least at : ℕ) → Stands w (length w) at (flatMap replacementWordsOf ps) →
-      Each (RightReplacement total head) ps → Each (λ (p : Placed). least ≤ p .slot) ps →
+      (test : Test) (ps : List Placed) (least at : ℕ) → Stands w (length w) at (flatMap replacementWordsOf ps) →
+      Each (RightReplacement total test) ps → Each (λ (p : Placed). least ≤ p .slot) ps →
       Ascending (λ (p : Placed). p .slot) ps →
-      ascending (replacementAt w total head) (newCell w) (length ps) least at
+      ascending (replacementAt w total test) (newCell w) (length ps) least at
       ≡ readTo ps (at + length (flatMap replacementWordsOf ps))
-  replacements-right head =
-      ascending-right w replacementWordsOf (RightReplacement total head) (λ (p : Placed). p .slot)
-      (replacementAt w total head) (newCell w) (replacement-right head)
+  replacements-right test =
+      ascending-right w replacementWordsOf (RightReplacement total test) (λ (p : Placed). p .slot)
+      (replacementAt w total test) (newCell w) (replacement-right test)
 
 -- ---- Net replacements.
 abbrev pair : Net → Net → NetPair

@@ -21,8 +21,9 @@ use Rattle.fields.specs.declared.Number.the-variants as N
 use Rattle.fields.specs.declared.Scan.{Scan}
 use Rattle.fields.specs.declared.Scan.the-variants as S
 use Rattle.fields.specs.declared.Bit.the-variants as B
-use Rattle.fields.specs.Field.{fault, constantDriver, isConstant, numberAt, netAt, bitAt, scanBit, constantAt, scanMany}
-use Rattle.fields.specs.Pattern.{onNumber, alternateAt, patternAt, patternsAt}
+use Rattle.fields.specs.Field.{fault, onNumber, constantDriver, isConstant, numberAt, netAt, bitAt}
+use Rattle.fields.specs.Field.{scanBit, constantAt, scanMany}
+use Rattle.fields.specs.Pattern.{alternateAt, patternAt, patternsAt}
 use Rattle.fields.proofs.AcceptedLaws.{number-read, net-read, many-read, both-read}
 use Rattle.cell_reader.specs.Parse.{numberIn, netIn, controlIn, tritOf, tritIn, netsIn, tritsIn, patternsIn}
 use Rattle.accepted.proofs.Fields.{each-tab}
@@ -148,18 +149,18 @@ module _ (w : List ℕ) (at : ℕ) where
 -- ---- Vectors.
 module _ (w : List ℕ) (total end : ℕ) where
   pub nets-span :
-      (n at next : ℕ) → scanMany (netAt w total 0 end) n at ≡ S.Clean next →
+      (n at next : ℕ) → scanMany (netAt w total false end) n at ≡ S.Clean next →
       Spans w at (map netWordOf (netsIn w n at)) next
   nets-span =
-      spans-many w netWordOf (netIn w) (netAt w total 0 end)
-      (λ at next e. let is = net-read w total 0 end at e in (is .0, net-word w at (is .1 .kind)))
+      spans-many w netWordOf (netIn w) (netAt w total false end)
+      (λ at next e. let is = net-read w total false end at e in (is .0, net-word w at (is .1 .kind)))
 
   pub controls-span :
-      (n at next : ℕ) → scanMany (netAt w total 1 end) n at ≡ S.Clean next →
+      (n at next : ℕ) → scanMany (netAt w total true end) n at ≡ S.Clean next →
       Spans w at (map controlWordOf (tab n (λ i. controlIn w (at + i)))) next
   controls-span =
-      spans-many w controlWordOf (controlIn w) (netAt w total 1 end)
-      (λ at next e. let is = net-read w total 1 end at e in (is .0, control-word w at (is .1 .kind)))
+      spans-many w controlWordOf (controlIn w) (netAt w total true end)
+      (λ at next e. let is = net-read w total true end at e in (is .0, control-word w at (is .1 .kind)))
 
   pub constants-span :
       (n at next : ℕ) → scanMany (constantAt w end) n at ≡ S.Clean next →
@@ -198,7 +199,7 @@ module _ (w : List ℕ) (total end : ℕ) where
 
       go :
           (v : Number) → numberAt w 64 end at ≡ v → {place : ℕ} →
-          onNumber v (scanMany (alternateAt w n end)) ≡ S.Clean place →
+          onNumber v S.Refused (scanMany (alternateAt w n end)) ≡ S.Clean place →
           Spans w place (flatMap patternWordsOf (patternsIn w n k place)) next →
           Spans w at (flatMap patternWordsOf (alternates ∷ patternsIn w n k (at + 1 + numberIn w at * n))) next
       go (N.Refused f) v e rest = let z : _≡_ {A = ℕ} 0 1 = cc in absurd (omega arith)

@@ -11,8 +11,8 @@ use Rattle.fields.specs.declared.Scan.the-variants.{Clean}
 use Rattle.items.specs.declared.Header.{Header}
 use Rattle.items.specs.declared.Opening.the-variants as O
 use Rattle.voids.specs.declared.Item.the-variants as I
-use Rattle.placing.specs.Slots.{heads}
-use Rattle.items.specs.Items.{countsAt, headerAt, cellRepsFrom, netRepsFrom, finishAt}
+use Rattle.placing.specs.Slots.{atSlot}
+use Rattle.items.specs.Items.{countsAt, headerAt, replaces, cellRepsFrom, netRepsFrom, finishAt}
 use Rattle.placing.specs.Cells.{cellsOf}
 use Rattle.voids.specs.Voids.{itemVoidsAt, voidsAt}
 use Rattle.design_list.specs.Read.{Read, accepted, readNetReps, readCellReps, readCells, read}
@@ -70,10 +70,10 @@ module _
       (valid .laid .apart) (cells-are-right d valid) cells-stand
 
   replacements-read :
-      cellRepsFrom w (total d) (heads (d .cells) (d .base)) (length (d .cellReps)) 0 (replacementsAt d)
+      cellRepsFrom w (total d) (replaces (atSlot (d .cells)) (d .base)) (length (d .cellReps)) 0 (replacementsAt d)
       ≡ readTo (d .cellReps) (pairsAt d)
   replacements-read =
-      replacements-right w (total d) (valid .slots) short (heads (d .cells) (d .base)) (d .cellReps) 0
+      replacements-right w (total d) (valid .slots) short (replaces (atSlot (d .cells)) (d .base)) (d .cellReps) 0
       (replacementsAt d) replacements-stand (replacements-are-right d valid)
       (each-all _ (λ p. omega arith) (d .cellReps)) (valid .laid .slots)
 

@@ -1,15 +1,17 @@
 -- What the reader tests holds of a valid design.
+use Prim.Native.Nat.{ℕ, _≤_}
 use mathlib.Core.Path.{_≡_, refl, sym}
 use mathlib.Core.Bool.{true}
 use mathlib.Core.List.{List, [], _∷_}
 use native.Mathlib.Omega.{arith}
-use borrow.Author.Tests.{lt-ltb, eq-eqb}
+use borrow.Author.Tests.{lt-ltb, le-leb, eq-eqb}
 use Rattle.logic.specs.Net.{Net}
 use Rattle.cell.specs.Cell.{Cell, outputLen}
 use Rattle.cell.specs.Cell as C
 use Rattle.cell.specs.Operation.{mayReplace}
 use Rattle.cell.specs.Design.{Placed, NetPair, Design, total}
-use Rattle.placing.specs.Slots.{heads}
+use Rattle.items.specs.Items.{replaces}
+use Rattle.placing.specs.Slots.{atSlot}
 use Rattle.working_out.specs.Reading.{Each, cellOf}
 use Rattle.working_out.specs.Laid.{CellLaid, MayReplace, Replaces, netsOf}
 use Rattle.bound.specs.Bounded.{Bounded}
@@ -57,16 +59,20 @@ beside-clock P (C.assign value enable update offset) all = all
 beside-clock P (C.dff f) all = all .1
 
 module _ (d : Design) (valid : Valid d) where
-  heads-right : (p : Placed) → Replaces d p → heads (d .cells) (d .base) (p .slot) (outputLen (p .cell)) ≡ true
-  unfolding heads
-  heads-right p r =
+  replaces-right :
+      (p : Placed) → Replaces d p → (least : ℕ) → least ≤ p .slot →
+      replaces (atSlot (d .cells)) (d .base) least (p .slot) (operationOfCell (p .cell)) (outputLen (p .cell)) ≡ true
+  unfolding replaces
+  replaces-right p r least above =
       let low = r .base in
       rw (
         lt-ltb (p .slot) (d .base) low,
         ← cell-takes d (p .slot) (valid .laid .run) (omega arith),
         eq-eqb (cellOf d (p .slot) .slot) (p .slot) (r .heads),
         standing-not-void (cellOf d (p .slot) .cell) (r .old),
+        le-leb least (p .slot) above,
         eq-eqb (outputLen (cellOf d (p .slot) .cell)) (outputLen (p .cell)) (sym (r .width)),
+        may-replace (p .cell) (r .new),
       )
 
   cell-right : (p : Placed) → CellLaid d p → Bounded (p .cell) → Right (total d) (p .cell)
@@ -75,12 +81,12 @@ module _ (d : Design) (valid : Valid d) where
   pub cells-are-right : Each (λ (p : Placed). Right (total d) (p .cell)) (d .cells)
   cells-are-right = each-both (d .cells) cell-right (valid .laid .cells) (valid .bounds .cells)
 
-  pub replacements-are-right : Each (RightReplacement (total d) (heads (d .cells) (d .base))) (d .cellReps)
+  pub replacements-are-right : Each (RightReplacement (total d) (replaces (atSlot (d .cells)) (d .base))) (d .cellReps)
   replacements-are-right =
       each-both (d .cellReps) (λ p right r.
       let low = r .base in
       let few = valid .slots in
-      record { low = omega arith; right = right; heads = heads-right p r; may = may-replace (p .cell) (r .new) })
+      record { low = omega arith; right = right; replaced = replaces-right p r })
       (each-both (d .cellReps) cell-right (valid .laid .newCells) (valid .bounds .newCells))
       (valid .laid .replaces)
 

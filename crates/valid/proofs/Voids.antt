@@ -12,7 +12,7 @@ use Rattle.logic.proofs.WordLaws.{kind-of-word, payload-of-word}
 use Rattle.logic.specs.Net.{Net, constant, slot, payloadOfNet}
 use Rattle.logic.proofs.NetLaws.{driver-of-slot, driver-of-constant}
 use Rattle.logic.specs.declared.Trit.{Trit}
-use Rattle.cell.specs.Cell.{Cell, Control, FlipFlop, standing}
+use Rattle.cell.specs.Cell.{Cell, Control, FlipFlop, standing, standsVoid, standsDff}
 use Rattle.cell.specs.Cell as C
 use Rattle.cell.specs.Operation.{standingOf}
 use Rattle.cell.specs.Design.{Placed, NetPair, Design, total}
@@ -38,7 +38,7 @@ use Rattle.valid.proofs.Records.{each-control, each-net, controlWords, 
 abbrev pub voids : Design → ℕ → Bool
 voids d = Slots.isVoid (d .cells) (d .base)
 
-pub standing-not-void : (c : Cell) → isVoid (role c) ≡ false → eqb (standing c) 0 ≡ false
+pub standing-not-void : (c : Cell) → isVoid (role c) ≡ false → standsVoid (standing c) ≡ false
 standing-not-void C.void e = absurd (true≢false e)
 standing-not-void C.note e = refl
 standing-not-void (C.input n) e = refl
@@ -69,7 +69,7 @@ module _ (d : Design) (few : total d ≤ 4096) (run : Run 0 (d .cells) (total d)
       let low : i < total d = r .0 in
       rw (driver-of-slot i (omega arith)) (go (ltb i (d .base)) refl)
     where
-      go : (b : Bool) → ltb i (d .base) ≡ b → cond b (eqb (standing (takes (d .cells) i .cell)) 0) false ≡ false
+      go : (b : Bool) → ltb i (d .base) ≡ b → cond b (standsVoid (standing (takes (d .cells) i .cell))) false ≡ false
       go false b = refl
       go true b =
           rw (← cell-takes d i run (r .0)) (standing-not-void (cellOf d i .cell) (r .1 (ltb-true i (d .base) b)))
@@ -186,7 +186,7 @@ module _ (d : Design) (few : total d ≤ 4096) (run : Run 0 (d .cells) (total d)
 
     body-voids :
         (c : Cell) (end at : ℕ) → Each (Readable d) (netsBesideClock c) → Stands w end (at + 1) (bodyOf c) →
-        scanMany (voidAt w (voids d) (cond (eqb (standingOf (operationOfCell c)) 1) (at + 3) 0)) (length (bodyOf c))
+        scanMany (voidAt w (voids d) (cond (standsDff (standingOf (operationOfCell c))) (at + 3) 0)) (length (bodyOf c))
         (at + 1)
         ≡ Clean (at + 1 + length (bodyOf c))
     body-voids C.void end at r s = plain C.void 0 end (at + 1) r s

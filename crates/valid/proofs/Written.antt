@@ -22,14 +22,14 @@ use Rattle.fields.specs.declared.Scan.{Scan}
 use Rattle.fields.specs.declared.Scan.the-variants as S
 use Rattle.fields.specs.declared.Head.{Head}
 use Rattle.fields.specs.declared.Head.the-variants as H
-use Rattle.fields.specs.Field.{numberAt}
-use Rattle.fields.specs.Head.{headAt}
+use Rattle.fields.specs.Field.{onNumber, onScan, numberAt}
+use Rattle.fields.specs.Head.{onHead, headAt}
 use Rattle.fields.proofs.AcceptedLaws.{number-read, IsHead, head-read}
 use Rattle.cell_reader.specs.declared.Leading.{Leading}
 use Rattle.cell_reader.specs.declared.Leading.the-variants as L
 use Rattle.cell_reader.specs.declared.Record.{Record}
 use Rattle.cell_reader.specs.declared.Record.the-variants as R
-use Rattle.cell_reader.specs.Record.{onValue, thirdAt, secondAt, firstAt, leadingAt, bodyAt, onHead, onLeading, onBody}
+use Rattle.cell_reader.specs.Record.{onLeading, thirdAt, secondAt, firstAt, leadingAt, bodyAt}
 use Rattle.cell_reader.specs.Record.{contentsAt, recordAt}
 use Rattle.cell_reader.specs.Parse.{numberIn, controlIn, netsIn, tritsIn, patternsIn, cellIn, opAt, cellAt}
 use Rattle.cell_reader.specs.Accepted.{IsLeading}
@@ -49,7 +49,8 @@ record Valued (v : Number) (f : ℕ → ℕ → Leading) (n m next : ℕ) : Type
   value : v ≡ N.Value number place
   rest : f number place ≡ L.Read n m next
 
-valued : (v : Number) (f : ℕ → ℕ → Leading) {n m next : ℕ} → onValue v f ≡ L.Read n m next → Valued v f n m next
+valued :
+    (v : Number) (f : ℕ → ℕ → Leading) {n m next : ℕ} → onNumber v L.Refused f ≡ L.Read n m next → Valued v f n m next
 valued (N.Value number place) f e = record { number = number; place = place; value = refl; rest = e }
 valued (N.Refused fault) f e = let z : _≡_ {A = ℕ} 0 1 = cc in absurd (omega arith)
 
@@ -187,7 +188,7 @@ module _ (w : List ℕ) (total : ℕ) where
           (o : Operation) (first end n m start : ℕ) → IsHead w at o first end →
           leadingAt w (numbersOf o) end first ≡ L.Read n m start → (s : Scan) →
           bodyAt w total (fieldsOf o n m) n end start ≡ s →
-          onBody s (λ (after : ℕ). R.Read o (fieldsOf o n m .width) after) ≡ R.Read op width next →
+          onScan s R.Refused (λ (after : ℕ). R.Read o (fieldsOf o n m .width) after) ≡ R.Read op width next →
           Spans w at (recordOf (cellAt w at)) next
       body o first end n m start h l (S.Refused f) s e = let z : _≡_ {A = ℕ} 0 1 = cc in absurd (omega arith)
       body o first end n m start h l (S.Clean after) s e =
@@ -196,8 +197,9 @@ module _ (w : List ℕ) (total : ℕ) where
       lead :
           (o : Operation) (first end : ℕ) → IsHead w at o first end → (l : Leading) →
           leadingAt w (numbersOf o) end first ≡ l →
-          onLeading l (λ (n m start : ℕ).
-          onBody (bodyAt w total (fieldsOf o n m) n end start) (λ (after : ℕ). R.Read o (fieldsOf o n m .width) after))
+          onLeading l R.Refused (λ (n m start : ℕ).
+          onScan (bodyAt w total (fieldsOf o n m) n end start) R.Refused
+          (λ (after : ℕ). R.Read o (fieldsOf o n m .width) after))
           ≡ R.Read op width next → Spans w at (recordOf (cellAt w at)) next
       lead o first end h (L.Refused f) l e = let z : _≡_ {A = ℕ} 0 1 = cc in absurd (omega arith)
       lead o first end h (L.Read n m start) l e =
@@ -205,7 +207,8 @@ module _ (w : List ℕ) (total : ℕ) where
 
       head :
           (h : Head) → headAt w at ≡ h →
-          onHead h (λ (o : Operation) (first end : ℕ). contentsAt w total o end first) ≡ R.Read op width next →
+          onHead h R.Refused (λ (o : Operation) (first end : ℕ). contentsAt w total o end first)
+          ≡ R.Read op width next →
           Spans w at (recordOf (cellAt w at)) next
       head (H.Refused f) h e = let z : _≡_ {A = ℕ} 0 1 = cc in absurd (omega arith)
       head (H.Record o first end) h e =

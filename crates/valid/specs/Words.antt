@@ -55,6 +55,7 @@ contents numbers controls nets constants patterns =
 
 -- "Operations and bodies".
 abbrev pub contentsOf : Cell → Contents
+-- columns: numbers, controls, nets, constants, patterns
 contentsOf C.void = contents [] [] [] [] []
 contentsOf C.note = contents [] [] [] [] []
 -- #n

@@ -9,10 +9,11 @@ use Rattle.logic.specs.Word.{kindOf, payloadOf}
 use Rattle.logic.specs.Net.{driverOf}
 use Rattle.logic.specs.declared.Driver.{Driver}
 use Rattle.logic.specs.declared.Driver.the-variants.{Constant, Output, NoNet}
+use Rattle.cell.specs.Cell.{standsDff}
 use Rattle.cell.specs.Operation.{standingOf}
 use Rattle.fields.specs.declared.Scan.{Scan}
 use Rattle.fields.specs.declared.Scan.the-variants.{Clean, Refused}
-use Rattle.fields.specs.Field.{fault, onClean, scanMany}
+use Rattle.fields.specs.Field.{fault, onScan, scanMany}
 use Rattle.cell_reader.specs.Parse.{numberIn, opAt}
 use Rattle.voids.specs.declared.Item.{Item}
 use Rattle.voids.specs.declared.Item.the-variants.{Cell, Replacement, Pair}
@@ -36,7 +37,7 @@ voidAt w void clock at = cond (offends w void clock at) (Refused (fault 10 at)) 
 
 -- A Dff's clock is its third field; another record has none, and place 0 is in no record.
 unfoldable pub clockAt : List ℕ → ℕ → ℕ
-clockAt w at = cond (eqb (standingOf (opAt w at)) 1) (at + 3) 0
+clockAt w at = cond (standsDff (standingOf (opAt w at))) (at + 3) 0
 
 -- The fields of the record at a place, if there is one.
 unfoldable pub recordVoidsAt : List ℕ → (ℕ → Bool) → ℕ → Scan
@@ -60,6 +61,6 @@ itemVoidsAt w void Pair at = pairVoidsAt w void at
 -- All of them in list order, from the first cell on.
 unfoldable pub voidsAt : List ℕ → (ℕ → Bool) → ℕ → ℕ → ℕ → Scan
 voidsAt w void cells cellReps netReps =
-    onClean (scanMany (itemVoidsAt w void Cell) cells 4) (λ (replacements : ℕ).
-    onClean (scanMany (itemVoidsAt w void Replacement) cellReps replacements) (λ (pairs : ℕ).
+    onScan (scanMany (itemVoidsAt w void Cell) cells 4) Refused (λ (replacements : ℕ).
+    onScan (scanMany (itemVoidsAt w void Replacement) cellReps replacements) Refused (λ (pairs : ℕ).
     scanMany (itemVoidsAt w void Pair) netReps pairs))

@@ -1,5 +1,6 @@
 // Fault 10: a second pass over the list, for words that name a Void of the base.
 use cell::Decoded;
+use cell::Standing;
 use fields::Scan;
 use logic::Driver;
 use logic::Fault;
@@ -81,12 +82,11 @@ fn clock_at(list: &[u32], at: usize) -> usize
 {
     match cell::operation_of(logic::payload(logic::word_at(list, at)) % 32) {
         Decoded::Unknown => 0,
-        Decoded::Known(op) => {
-            if cell::standing_of(op) == 1 {
-                return at + 3;
-            }
-            0
-        }
+        Decoded::Known(op) => match cell::standing_of(op) {
+            Standing::Void => 0,
+            Standing::Dff => at + 3,
+            Standing::Other => 0,
+        },
     }
 }
 

@@ -13,7 +13,7 @@ use Rattle.cell.specs.Design.{Design, Placed, total}
 use Rattle.cell.specs.declared.Operation.{Operation}
 use Rattle.cell_reader.specs.Parse.{numberIn, cellAt, endAt}
 use Rattle.cell_reader.specs.Accepted.{IsRecord}
-use Rattle.placing.specs.Slots.{heads}
+use Rattle.placing.specs.Slots.{atSlot}
 use Rattle.items.specs.Items.{newCell}
 use Rattle.placing.proofs.Laws.{limit-low}
 use Rattle.placing.specs.Cover.{Walk, done, placed}
@@ -36,7 +36,7 @@ use Rattle.walk_cell.proofs.Cells.{next-inside}
 
 -- The cell replacements from a place up to `end`, the slots of their cells from `least` on.
 abbrev pub NewCells : Design → List ℕ → ℕ → ℕ → List Placed → ℕ → Type 0
-NewCells d w = Climb (IsReplacement w (total d) (heads (d .cells) (d .base))) (newCell w)
+NewCells d w = Climb (IsReplacement w (total d) (atSlot (d .cells)) (d .base)) (newCell w)
 
 -- The replacements from a place on are all that are left for the cells from a slot on: each heads one of them.
 pub record Cursor (d : Design) (w : List ℕ) (end : ℕ) (cells : List Placed) (slot rep : ℕ) : Type 0 where
@@ -62,7 +62,8 @@ module _ (d : Design) (w : List ℕ) where
 
   reps-ascend : {least rep end : ℕ} {reps : List Placed} → NewCells d w least rep reps end →
       Ascending (λ (q : Placed). q .slot) reps
-  reps-ascend climb = climb-ascends _ _ (λ (q : Placed). q .slot) (λ least at above next is. (is .low, is .up)) climb .1
+  reps-ascend climb =
+      climb-ascends _ _ (λ (q : Placed). q .slot) (λ least at above next is. (is .replaced .ascends, is .up)) climb .1
 
   module _ (end : ℕ) (a : Cell) (cells : List Placed) (slot : ℕ) where
     abbrev here : Placed

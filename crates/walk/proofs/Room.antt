@@ -13,11 +13,11 @@ use Rattle.cell.specs.Cell.{Cell, outputLen, slotsOf}
 use Rattle.cell.specs.Design.{Design, Placed, NetPair, total}
 use Rattle.fields.specs.declared.Number.{Number}
 use Rattle.fields.specs.declared.Number.the-variants as N
-use Rattle.fields.specs.Field.{numberAt}
+use Rattle.fields.specs.Field.{onNumber, numberAt}
 use Rattle.fields.proofs.AcceptedLaws.{number-read}
 use Rattle.items.specs.declared.Header.{Header}
 use Rattle.items.specs.declared.Opening.the-variants as O
-use Rattle.items.specs.Items.{onHeaderNumber, countsAt, headerAt, netPair, pairAt}
+use Rattle.items.specs.Items.{countsAt, headerAt, netPair, pairAt}
 use Rattle.design_list.specs.Read.{read, accepted}
 use Rattle.design_list.proofs.AcceptedLaws.{accepted-read}
 use Rattle.working_out.specs.Reading.{Pair, equal, ofVoid, ofDffs, ordinary, readsPast, pairOf}
@@ -89,7 +89,7 @@ unfolding headerAt countsAt
 header-pairs w {h} read = base-read (numberAt w 4096 4 0) read
   where
     counts : (base added : ℕ) (n₁ n₂ : Number) → numberAt w 4096 4 3 ≡ n₂ →
-        onHeaderNumber n₁ (λ (cellreps : ℕ). onHeaderNumber n₂ (λ (netreps : ℕ).
+        onNumber n₁ O.Refused (λ (cellreps _ : ℕ). onNumber n₂ O.Refused (λ (netreps _ : ℕ).
         O.Read record { base = base; added = added; cellreps = cellreps; netreps = netreps })) ≡ O.Read h →
         h .netreps ≤ 4096
     counts base added (N.Refused f) n₂ n e = let z : _≡_ {A = ℕ} 0 1 = cc in absurd (omega arith)
@@ -98,15 +98,15 @@ header-pairs w {h} read = base-read (numberAt w 4096 4 0) read
         let same : record { base = base; added = added; cellreps = a; netreps = k } ≡ h = cc in
         rw (← same) (number-read w 4096 4 3 n .bounded)
 
-    added-read : (base : ℕ) (n : Number) → onHeaderNumber n (λ (added : ℕ). countsAt w base added) ≡ O.Read h →
+    added-read : (base : ℕ) (n : Number) → onNumber n O.Refused (λ (added _ : ℕ). countsAt w base added) ≡ O.Read h →
         h .netreps ≤ 4096
     added-read base (N.Refused f) e = let z : _≡_ {A = ℕ} 0 1 = cc in absurd (omega arith)
     added-read base (N.Value added next) e = counts base added (numberAt w 4096 4 2) (numberAt w 4096 4 3) refl e
 
     base-read : (n : Number) →
-        onHeaderNumber n
-        (λ (base : ℕ). onHeaderNumber (numberAt w (4096 - base) 4 1) (λ (added : ℕ). countsAt w base added)) ≡ O.Read h
-        → h .netreps ≤ 4096
+        onNumber n O.Refused (λ (base _ : ℕ).
+        onNumber (numberAt w (4096 - base) 4 1) O.Refused (λ (added _ : ℕ). countsAt w base added)) ≡ O.Read h →
+        h .netreps ≤ 4096
     base-read (N.Refused f) e = let z : _≡_ {A = ℕ} 0 1 = cc in absurd (omega arith)
     base-read (N.Value base next) e = added-read base (numberAt w (4096 - base) 4 1) e
 

@@ -12,12 +12,14 @@ returns c =
     let at-is-known = c .before in
     let at-payload = at-is-known .before in
     let at-if2 = at-payload .before in
-    let at-kind = at-if2 .before in
+    let at-most-kind = at-if2 .before in
+    let at-kind = at-most-kind .before in
     let at-word-at = at-kind .before in
     rw (
       lt-ltb _ _ (at-word-at .before .if1 .taken),
       ← at-word-at .word-at .ensures,
       ← at-kind .kind .ensures,
+      ← at-most-kind .most-kind .ensures,
       le-leb _ _ (at-if2 .if2 .taken),
       ← at-payload .payload .ensures,
       ← at-is-known .is-known .ensures,
@@ -30,12 +32,14 @@ returns-2 c =
     let at-is-known = c .before in
     let at-payload = at-is-known .before in
     let at-if2 = at-payload .before in
-    let at-kind = at-if2 .before in
+    let at-most-kind = at-if2 .before in
+    let at-kind = at-most-kind .before in
     let at-word-at = at-kind .before in
     rw (
       lt-ltb _ _ (at-word-at .before .if1 .taken),
       ← at-word-at .word-at .ensures,
       ← at-kind .kind .ensures,
+      ← at-most-kind .most-kind .ensures,
       le-leb _ _ (at-if2 .if2 .taken),
       ← at-payload .payload .ensures,
       ← at-is-known .is-known .ensures,
@@ -45,12 +49,14 @@ returns-2 c =
 returns-3 : tie.Need-returns-3
 unfolding netAt
 returns-3 c =
-    let at-kind = c .before in
+    let at-most-kind = c .before in
+    let at-kind = at-most-kind .before in
     let at-word-at = at-kind .before in
     rw (
       lt-ltb _ _ (at-word-at .before .if1 .taken),
       ← at-word-at .word-at .ensures,
       ← at-kind .kind .ensures,
+      ← at-most-kind .most-kind .ensures,
       lt-leb _ _ (c .if2 .left),
     )
 
@@ -62,5 +68,5 @@ pub net-at-spec : {M : Type 1} → statement M
 net-at-spec =
     tie.close
     (tie.spec
-    (λ c κs. search needs) (λ c κs. search needs) (λ c κs. search needs) (λ c κs. search needs) (λ c. search needs)
-    returns returns-2 returns-3 returns-4)
+    (λ c κs. search needs) (λ c κs. search needs) (λ c κs. search needs) (λ c κs. search needs) (λ c κs. search needs)
+    (λ c. search needs) returns returns-2 returns-3 returns-4)

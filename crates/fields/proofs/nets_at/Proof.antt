@@ -9,11 +9,11 @@ use Rattle.fields.proofs.nets_at.Statement.{statement}
 use Rattle.fields.proofs.nets_at.Tie as tie
 
 abbrev Inv-loop : tie.InvT-loop
-Inv-loop list total most end n start at₀ left₀ at left = netsAt list total most end n start
-    ≡ netsAt list total most end left at
+Inv-loop list total mayInvert end n start at₀ left₀ at left = netsAt list total mayInvert end n start
+    ≡ netsAt list total mayInvert end left at
 
 abbrev μ-loop : tie.MeasureT-loop
-μ-loop list total most end n start at₀ left₀ at left = left
+μ-loop list total mayInvert end n start at₀ left₀ at left = left
 
 loop-holds : tie.Need-loop-holds Inv-loop μ-loop
 loop-holds c = refl

@@ -3,8 +3,8 @@
 use borrow.Author.Needs.{needs}
 use mathlib.Core.Path.{_≡_, refl, sym, _∙_}
 use native.Mathlib.Omega.{arith}
-use Rattle.items.specs.Items.{cellRepsFrom}
-use Rattle.items.specs.Marks.{headsIn}
+use Rattle.items.specs.Items.{replaces, cellRepsFrom}
+use Rattle.items.specs.Marks.{atSlotIn}
 use Rattle.items.proofs.StepLaws.{cell-read, cell-refused}
 use Rattle.items.proofs.Laws.{ascending-none, ascending-turn, ascending-fault}
 use Rattle.items.proofs.cell_reps_at.Statement.{statement}
@@ -12,8 +12,8 @@ use Rattle.items.proofs.cell_reps_at.Tie as tie
 
 abbrev Inv-loop : tie.InvT-loop
 Inv-loop list table base total k start at₀ left₀ least₀ at left least =
-    cellRepsFrom list total (headsIn table base) k 0 start .scan
-    ≡ cellRepsFrom list total (headsIn table base) left (least .0) at .scan
+    cellRepsFrom list total (replaces (atSlotIn table) base) k 0 start .scan
+    ≡ cellRepsFrom list total (replaces (atSlotIn table) base) left (least .0) at .scan
 
 abbrev μ-loop : tie.MeasureT-loop
 μ-loop list table base total k start at₀ left₀ least₀ at left least = left

@@ -4,7 +4,6 @@ use borrow.Author.Needs.{needs}
 use Prim.Native.Nat.{_-_}
 use mathlib.Core.Path.{sym, _∙_}
 use native.Mathlib.Omega.{arith}
-use Rattle.cell_reader.proofs.AcceptedLaws.{record-standing}
 use Rattle.placing.proofs.Laws.{Going, going-start, going-turn, going-fault, going-done, placed-read}
 use Rattle.placing.proofs.cells_within.Statement.{statement}
 use Rattle.placing.proofs.cells_within.Tie as tie
@@ -39,7 +38,6 @@ mark-word-requires c κs =
     let call = told .before .before in
     let in-loop = call .before in
     let is = placed-read _ _ _ _ _ (sym (call .placed-at .ensures) ∙ told .op .given .1) in (
-      rw (c .standing-of .ensures) (record-standing (is .record-is)),
       is .record-is .low-width,
       omega (arith, in-loop .before .before .loop .inv .low),
     )
