@@ -5,7 +5,7 @@ use native.Mathlib.Omega.{arith}
 use lib.Dec.{eqb}
 use Rattle.cell.specs.Cell.{Cell, standing}
 use Rattle.cell.specs.Cell as C
-use Rattle.working_out.specs.Reading.{Role, void, given, dff, other, role, isVoid, isDff}
+use Rattle.cell.specs.Role.{Role, void, given, dff, other, role, isVoid, isDff}
 use Rattle.slots.specs.Tells.{standingOf}
 
 pub standing-role : (c : Cell) → standing c ≡ standingOf (role c)
