@@ -17,7 +17,8 @@ use Rattle.logic.specs.declared.Trit.the-variants.{Zero, One, Undef}
 use Rattle.cell.specs.Cell.{Cell, outputLen, slotsOf}
 use Rattle.cell.specs.Cell as c
 use Rattle.cell.specs.Design.{Design, Placed, NetPair, total, cellOf}
-use Rattle.cell.specs.Role.{given, role}
+use Rattle.cell.specs.Role.{role}
+use Rattle.cell.specs.Role as roles
 use Rattle.cell.specs.Each.{Each}
 use Rattle.cell.proofs.EachLaws.{each-append}
 use Rattle.right.specs.Laid.{Laid, CellLaid}
@@ -62,7 +63,7 @@ wide-asserted w l = rw (ne-eqb w 0 (λ e. omega arith))
 -- A cell with an output that is claimed is asserted, or an IoBuf.
 data Claimed (a : Cell) : Type 0 where
   isAsserted : reading.asserted a ≡ true → Claimed a
-  isIoBuf : role a ≡ given →
+  isIoBuf : role a ≡ roles.given →
       ((b : NetBits) (rp : ℕ → Bool) (s w : ℕ) → cellBits rp b s w a ≡ valueBits rp b (outputNets s w)) → Claimed a
 
 claimed-kind : (a : Cell) → 0 < outputLen a → isInput a ≡ false → Claimed a
@@ -104,7 +105,7 @@ void-from d p e = go (p .from) refl
     go (slot i) q = (i, q)
 
 -- A slot of an IoBuf reads its current trit.
-given-current : (d : Design) (p : Placed) (j : ℕ) → cellOf d j ≡ p → role (p .cell) ≡ given → readsPast d j
+given-current : (d : Design) (p : Placed) (j : ℕ) → cellOf d j ≡ p → role (p .cell) ≡ roles.given → readsPast d j
     ≡ false
 given-current d p j own e = rw (own, e) (and-false (ltb j (d .base)))
 
@@ -145,7 +146,7 @@ module _ (d : Design) (laid : Laid d) (no-loop : hasLoop d ≡ false) (g : Trits
       (asserted-some (p .cell) h)) (shown h))
 
   iobuf-reads : (p : Placed) → ((j : ℕ) → p .slot ≤ j → j < p .slot + slotsOf (p .cell) → cellOf d j ≡ p) →
-      role (p .cell) ≡ given
+      role (p .cell) ≡ roles.given
       → currBits (readsPast d) solved (outputNets (p .slot) (outputLen (p .cell)))
       ≡ valueBits (readsPast d) solved (outputNets (p .slot) (outputLen (p .cell)))
   unfolding readBits
