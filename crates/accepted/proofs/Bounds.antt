@@ -6,6 +6,7 @@ use native.Mathlib.Omega.{arith}
 use lib.ListN.{length}
 use Rattle.cell.specs.Design.{Placed, NetPair, Design, total}
 use Rattle.cell.specs.declared.Operation.{Operation}
+use Rattle.right.specs.Bounds.{Bounded, Bounds}
 use Rattle.cell_reader.specs.Parse.{cellAt}
 use Rattle.cell_reader.specs.Accepted.{IsRecord}
 use Rattle.placing.specs.Cover.{Walk, done, placed}
@@ -13,7 +14,7 @@ use Rattle.design_list.specs.Read.{read, accepted}
 use Rattle.design_list.proofs.AcceptedLaws.{accepted-read}
 use Rattle.bound.specs.Costs.{sumBy}
 use Rattle.bound.proofs.CostsLaws.{sum-each}
-use Rattle.bound.specs.Bounded.{Bounded, Bounds, recordWords, designWords}
+use Rattle.bound.specs.Words.{recordWords, designWords}
 use Rattle.accepted.proofs.Cells.{cell-read}
 use Rattle.accepted.proofs.Replacements.{climb-each, climb-words}
 use Rattle.accepted.proofs.Laid.{walk-each, stages}

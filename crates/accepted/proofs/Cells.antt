@@ -12,15 +12,16 @@ use Rattle.cell.specs.Cell as C
 use Rattle.cell.specs.Operation.{lead, body, numbersOf, fieldsOf}
 use Rattle.cell.specs.declared.Operation.{Operation}
 use Rattle.cell.specs.declared.Operation.the-variants as O
+use Rattle.cell.specs.Each.{Each}
+use Rattle.cell.proofs.EachLaws.{each-append}
+use Rattle.right.specs.Bounds.{Bounded}
+use Rattle.right.specs.Nets.{netsOf}
+use Rattle.right.specs.Shape.{Shaped, Wide, WideShift}
 use Rattle.cell_reader.specs.Parse.{numberIn, netIn, controlIn, netsIn, tritsIn, patternsIn, cellIn, opAt, cellAt}
 use Rattle.cell_reader.proofs.AcceptedLaws.{length-patterns}
 use Rattle.cell_reader.specs.Accepted.{IsLeading, IsRecord}
-use Rattle.rules.specs.Shape.{Shaped, Wide, WideShift}
-use Rattle.working_out.specs.Reading.{Each}
-use Rattle.working_out.proofs.ReadingLaws.{each-append}
-use Rattle.working_out.specs.Laid.{netsOf}
 use Rattle.bound.specs.Costs.{sumBy}
-use Rattle.bound.specs.Bounded.{Bounded, recordWords, patternWords}
+use Rattle.bound.specs.Words.{recordWords, patternWords}
 use Rattle.accepted.proofs.Fields.{Stands, net, vector, Body, body-of, patterns-shaped}
 
 -- Fault 7: the least n that an operation asks is what its rule needs.

@@ -15,6 +15,8 @@ use Rattle.logic.specs.Table.{tab}
 use Rattle.logic.proofs.TableLaws.{length-tab}
 use Rattle.logic.specs.declared.Trit.{Trit}
 use Rattle.cell.specs.declared.Fields.{Fields}
+use Rattle.cell.specs.Each.{Each}
+use Rattle.right.specs.Nets.{Within}
 use Rattle.fields.specs.declared.Number.{Number}
 use Rattle.fields.specs.declared.Number.the-variants as N
 use Rattle.fields.specs.declared.Scan.the-variants as S
@@ -24,10 +26,8 @@ use Rattle.fields.specs.Pattern.{alternateAt, patternAt, patternsAt}
 use Rattle.fields.proofs.AcceptedLaws.{number-read, IsNet, net-read, constant-read, many-read, both-read}
 use Rattle.cell_reader.specs.Parse.{numberIn, netIn, netsIn, tritsIn, patternsIn}
 use Rattle.cell_reader.specs.Accepted.{IsBody}
-use Rattle.working_out.specs.Reading.{Each}
-use Rattle.working_out.specs.Laid.{Within}
 use Rattle.bound.specs.Costs.{sumBy}
-use Rattle.bound.specs.Bounded.{patternWords}
+use Rattle.bound.specs.Words.{patternWords}
 
 pub each-tab : {A : Type 0} (P : A → Type 0) (n : ℕ) (f : ℕ → A) → ((i : ℕ) → i < n → P (f i)) → Each P (tab n f)
 unfolding tab

@@ -12,9 +12,14 @@ use Rattle.logic.specs.Net.{payloadOfNet}
 use Rattle.cell.specs.Cell.{Cell, outputLen, slotsOf, standing, standsVoid}
 use Rattle.cell.specs.Cell as C
 use Rattle.cell.specs.Operation.{mayReplace}
-use Rattle.cell.specs.Design.{Placed, NetPair, Design, total}
+use Rattle.cell.specs.Design.{Placed, NetPair, Design, total, isIn, cellIn, cellOf}
 use Rattle.cell.specs.declared.Operation.{Operation}
 use Rattle.cell.specs.declared.Operation.the-variants as O
+use Rattle.cell.specs.Role.{role, isVoid}
+use Rattle.cell.specs.Each.{Each}
+use Rattle.cell.proofs.EachLaws.{each-map}
+use Rattle.right.specs.Nets.{netsOf}
+use Rattle.right.specs.Laid.{Run, CellLaid, Apart, MayReplace, Replaces, PairWithin, Laid}
 use Rattle.cell_reader.specs.Parse as Parse
 use Rattle.cell_reader.specs.Parse.{numberIn, opAt, cellAt}
 use Rattle.cell_reader.specs.Accepted.{IsRecord}
@@ -29,9 +34,6 @@ use Rattle.placing.proofs.CoverLaws.{walk-cells}
 use Rattle.design_list.specs.Read.{read, accepted}
 use Rattle.design_list.specs.Accepted.{IsAccepted}
 use Rattle.design_list.proofs.AcceptedLaws.{accepted-read}
-use Rattle.working_out.specs.Reading.{Each, isIn, cellIn, cellOf, role, isVoid}
-use Rattle.working_out.proofs.ReadingLaws.{each-map}
-use Rattle.working_out.specs.Laid.{Run, netsOf, CellLaid, Apart, MayReplace, Replaces, PairWithin, Laid}
 use Rattle.accepted.proofs.Fields.{known-within}
 use Rattle.accepted.proofs.Cells.{cell-read}
 use Rattle.accepted.proofs.Replacements.{Climb, climb-read, climb-each, climb-ascends, IsReplacement}

@@ -3,4 +3,4 @@ pub mod Cells
 pub mod Fields
 pub mod Laid
 pub mod Replacements
-pub mod VoidsLaws
+pub mod Voids

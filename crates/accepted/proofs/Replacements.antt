@@ -10,6 +10,9 @@ use borrow.Author.Tests.{leb-true}
 use Rattle.logic.specs.Net.{payloadOfNet}
 use Rattle.logic.proofs.NetLaws.{payload-of-net}
 use Rattle.cell.specs.declared.Operation.{Operation}
+use Rattle.cell.specs.Each.{Each}
+use Rattle.cell.proofs.EachLaws.{each-map}
+use Rattle.right.specs.Laid.{Ascending}
 use Rattle.fields.specs.declared.Number.{Number}
 use Rattle.fields.specs.declared.Number.the-variants as N
 use Rattle.fields.specs.declared.Scan.{Scan}
@@ -28,9 +31,6 @@ use Rattle.items.specs.Step as T
 use Rattle.items.specs.Items.{refuse, push, ascending, listedNumberAt, listedNetAt, AtSlot, replaces}
 use Rattle.items.specs.Items.{replacementAt, pairAt}
 use Rattle.items.proofs.Laws.{IsReplaced, replaces-read}
-use Rattle.working_out.specs.Reading.{Each}
-use Rattle.working_out.proofs.ReadingLaws.{each-map}
-use Rattle.working_out.specs.Laid.{Ascending}
 use Rattle.bound.specs.Costs.{sumBy}
 
 -- The items from a place on, up to the place `end`. R holds of what each is asked, its place, what it asks of the next,

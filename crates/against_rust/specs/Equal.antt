@@ -5,6 +5,7 @@ use mathlib.Core.List.{map}
 use lib.Ieee as digits
 use Rattle.logic.specs.Table as table
 use Rattle.bitvec.specs.Bits as bits
+use Rattle.cell.specs.Design as design
 use Rattle.fields.specs.Field as field
 use Rattle.fields.specs.Head as head
 use Rattle.fields.specs.Pattern as pattern
@@ -44,7 +45,7 @@ unfolding digits.span digits.climb digits.size table.tab bits.bv2nat bits.nat2bv
     builder.tvEquals builder.tvLess builder.tvMul builder.tvShift builder.firstMatch builder.net builder.controlNet
     builder.prepareAt builder.shifted builder.compared builder.product builder.sum builder.matchOf builder.matchCell
     builder.enabled builder.resetTo builder.loaded builder.cleared builder.dffCell builder.adcCell builder.cell
-    emit.emit _>>=_ reading.cellIn reading.replacementIn reading.nodeOf order.claim order.newCell order.replaceNet
+    emit.emit _>>=_ design.cellIn reading.replacementIn reading.nodeOf order.claim order.newCell order.replaceNet
     order.replaceVoidNet order.joinPasts order.currents order.newCellIn order.eachCell order.eachPair order.work
     order.query order.asked order.verify answer.temporaries answer.verified answer.callWords answer.marks
     answer.callsAfter answer.recordedAfter

@@ -16,7 +16,7 @@ use Rattle.text.proofs.Write.{overwrite-none, overwrite-more}
 use Rattle.text.specs.Names.{spelling, askedFrom}
 use Rattle.tokens.specs.Token.{Token}
 use Rattle.reply.specs.Reply.{Result, Reader, got, refused, return, onGot, pairs, pairSpelled}
-use Rattle.reply.specs.Step.{trit, entryOf}
+use Rattle.reply.specs.Step.{slotPair, trit, entryOf}
 use Rattle.answer.specs.Reply.{shownFirst, table}
 use Rattle.answer.specs.Entries.{entries, written, forget}
 
@@ -113,7 +113,7 @@ both (got x t) ry numbers bits tabled same = second (ry t)
 
 pub entries-table : (slot : ℕ) (marks : List ℕ) (tokens : List Token)
     → entries slot marks tokens ≡ onGot (pairs (askedFrom slot marks) tokens) (λ bits. return (table marks bits))
-unfolding entries entryOf trit pairs askedFrom table
+unfolding entries entryOf trit slotPair pairs askedFrom table
 entries-table slot [] tokens = refl
 entries-table slot (mark ∷ marks) tokens = go (eqb mark 1) refl (eqb mark 2) refl (entries-table (suc slot) marks)
   where

@@ -10,8 +10,9 @@ use Rattle.logic.specs.Net.{Net, slot}
 use Rattle.logic.specs.declared.Trit.{Trit}
 use Rattle.cell.specs.Cell.{Cell, outputLen}
 use Rattle.cell.specs.Cell as c
-use Rattle.working_out.specs.Reading.{Each}
-use Rattle.working_out.specs.Laid.{Shaped}
+use Rattle.cell.specs.Each.{Each}
+use Rattle.right.specs.Bounds.{Bounded}
+use Rattle.right.specs.Shape.{Shaped}
 use Rattle.smt.specs.Prog.{curr}
 use Rattle.smt.specs.Builder.{cell, currNet, currValue, outputNets, overwritten}
 use Rattle.bound.proofs.CostsLaws.{CostsOnly, costs-ret, costs-more}
@@ -19,7 +20,7 @@ use Rattle.bound.specs.Costs.{sumBy}
 use Rattle.bound.proofs.Builder.{tvNot-costs, tvAnd-costs, tvMux-costs, netOf-costs, net-costs, valueOf-costs}
 use Rattle.bound.proofs.Cells.{then, matchCost, value-costs, controlNet-costs, tvBinary-costs, shifted-costs}
 use Rattle.bound.proofs.Cells.{matchCell-costs, dffCell-costs, adcCell-costs}
-use Rattle.bound.specs.Bounded.{Bounded, recordWords, patternWords}
+use Rattle.bound.specs.Words.{recordWords, patternWords}
 
 -- 64 alternates of no constants are the dearest that a word can ask for.
 patterns-cost : (patterns : List (List (List Trit))) →

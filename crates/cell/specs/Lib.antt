@@ -1,3 +1,5 @@
 pub mod Cell
 pub mod Design
+pub mod Role
+pub mod Each
 pub mod Operation

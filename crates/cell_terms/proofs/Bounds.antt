@@ -3,8 +3,8 @@ use mathlib.Core.List.{List}
 use Prim.Native.Nat.{ℕ, _+_, _≤_}
 use lib.ListN.{length}
 use Rattle.logic.proofs.TableLaws.{length-tab}
-use Rattle.rules.specs.Shape.{Shaped}
 use Rattle.cell.specs.declared.Operation.the-variants as O
+use Rattle.right.specs.Shape.{Shaped}
 use Rattle.cell_reader.specs.Parse.{numberIn, netsIn, cellIn}
 
 module _ (w : List ℕ) where

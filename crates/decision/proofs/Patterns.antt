@@ -10,9 +10,9 @@ use lib.Seq.{drop-drop}
 use Rattle.logic.proofs.TableLaws.{length-tab}
 use Rattle.logic.specs.declared.Trit.{Trit}
 use Rattle.cell.specs.declared.Operation.the-variants as O
+use Rattle.cell.specs.Each.{Each}
+use Rattle.right.specs.Bounds.{Bounded}
 use Rattle.cell_reader.specs.Parse.{numberIn, netIn, tritsIn, patternsIn, cellIn}
-use Rattle.rules.specs.Width.{Each}
-use Rattle.bound.specs.Bounded.{Bounded}
 use Rattle.alternates.specs.Parts.{alternatesIn}
 
 -- ---- the bounds of a Match

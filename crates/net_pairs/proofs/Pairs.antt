@@ -7,12 +7,12 @@ use native.Mathlib.Omega.{arith}
 use lib.ListN.{length}
 use Rattle.logic.specs.Net.{netOf}
 use Rattle.cell.specs.Design.{Design, NetPair, total}
+use Rattle.right.specs.Nets.{Within}
 use Rattle.cell_reader.specs.Parse.{numberIn, netIn}
 use Rattle.items.specs.Items.{netPair}
 use Rattle.design_list.specs.Read.{read, accepted}
 use Rattle.design_list.proofs.AcceptedLaws.{accepted-read}
 use Rattle.working_out.specs.Reading.{readsPast, pairOf}
-use Rattle.working_out.specs.Laid.{Within}
 use Rattle.accepted.proofs.Fields.{known-within}
 use Rattle.accepted.proofs.Replacements.{Climb, IsPair}
 use Rattle.accepted.proofs.Replacements as R

@@ -7,9 +7,10 @@ use native.Mathlib.Omega.{arith}
 use Rattle.logic.specs.Net.{Net}
 use Rattle.cell.specs.Cell.{Cell}
 use Rattle.cell.specs.Design.{Design, total}
-use Rattle.working_out.specs.Reading.{Each, readsPast}
-use Rattle.working_out.proofs.ReadingLaws.{each-map}
-use Rattle.working_out.specs.Laid.{Ascending}
+use Rattle.cell.specs.Each.{Each}
+use Rattle.cell.proofs.EachLaws.{each-map}
+use Rattle.right.specs.Laid.{Ascending}
+use Rattle.working_out.specs.Reading.{readsPast}
 use Rattle.smt.specs.Prog.{Prog, _>>=_, TritVec}
 use Rattle.smt.specs.Builder.{tvRefines, net, cell}
 use Rattle.smt.specs.Emit.{St, emit}

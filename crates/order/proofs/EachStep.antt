@@ -7,8 +7,9 @@ use lib.Dec.{eqb}
 use Rattle.logic.specs.Net.{Net}
 use Rattle.cell.specs.Cell.{Cell, outputLen}
 use Rattle.cell.specs.Design.{Design, Placed, NetPair}
-use Rattle.working_out.specs.Reading.{Each, readsPast, Pair, equal, ofVoid, ofDffs, ordinary, pairOf}
-use Rattle.working_out.proofs.ReadingLaws.{each-append}
+use Rattle.cell.specs.Each.{Each}
+use Rattle.cell.proofs.EachLaws.{each-append}
+use Rattle.working_out.specs.Reading.{readsPast, Pair, equal, ofVoid, ofDffs, ordinary, pairOf}
 use Rattle.smt.specs.Builder.{currValue, outputNets}
 use Rattle.order.specs.Verify.{Step, declared, asserted, obliged, isInput, claim, addCell, newCell, replaceNet}
 use Rattle.order.specs.Verify.{replaceVoidNet, joinPasts, currents, newCellIn, withNew, cellSteps, pairSteps}

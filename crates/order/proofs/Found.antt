@@ -8,9 +8,9 @@ use native.Mathlib.Omega.{arith}
 use lib.Dec.{eqb}
 use borrow.Author.Tests.{eqb-true}
 use Rattle.cell.specs.Cell.{Cell, outputLen}
-use Rattle.cell.specs.Design.{Design, Placed, total}
-use Rattle.working_out.specs.Reading.{Each, cellIn, cellOf}
-use Rattle.working_out.specs.Laid.{Laid, CellLaid, MayReplace, Replaces}
+use Rattle.cell.specs.Design.{Design, Placed, total, cellIn, cellOf}
+use Rattle.cell.specs.Each.{Each}
+use Rattle.right.specs.Laid.{Laid, CellLaid, MayReplace, Replaces}
 use Rattle.working_out.proofs.LayoutLaws.{at-each, located}
 use Rattle.smt.specs.CellBits.{NotInput}
 use Rattle.order.specs.Verify.{newCellIn}

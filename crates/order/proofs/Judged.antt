@@ -7,11 +7,12 @@ use Prim.Native.Nat.{ℕ, _<_}
 use lib.Dec.{eqb}
 use borrow.Author.Tests.{eqb-false}
 use Rattle.cell.specs.Cell.{Cell, outputLen}
-use Rattle.cell.specs.Design.{Design, Placed, NetPair}
-use Rattle.rules.specs.Shape.{Shaped}
+use Rattle.cell.specs.Design.{Design, Placed, NetPair, cellOf}
+use Rattle.cell.specs.Each.{Each}
+use Rattle.right.specs.Shape.{Shaped}
+use Rattle.right.specs.Laid.{Laid}
 use Rattle.rules.specs.CellRule.{Trits}
-use Rattle.working_out.specs.Reading.{Each, cellOf, readsPast, Pair, equal, ofVoid, ofDffs, ordinary, pairOf}
-use Rattle.working_out.specs.Laid.{Laid}
+use Rattle.working_out.specs.Reading.{readsPast, Pair, equal, ofVoid, ofDffs, ordinary, pairOf}
 use Rattle.working_out.specs.Obligations.{Obligation, current, asRead, cellObligations, netObligations, ofPair}
 use Rattle.working_out.specs.Obligations.{obligations, broken}
 use Rattle.working_out.specs.Obligations as o

@@ -3,9 +3,9 @@ use mathlib.Core.Path.{_≡_}
 use mathlib.Core.Bool.{Bool, true}
 use mathlib.Core.List.{List, [], _∷_, map}
 use Prim.Native.Nat.{ℕ}
+use Rattle.cell.specs.Each.{Each}
 use Rattle.engine.specs.Call.{Call}
 use Rattle.engine.specs.Meaning.{Value, asBool, Assignment, Holds}
-use Rattle.working_out.specs.Reading.{Each}
 use Rattle.smt.specs.Emit.{St}
 use Rattle.smt.specs.Formula.{NetBits, netBits}
 use Rattle.smt.specs.Wp.{Known}

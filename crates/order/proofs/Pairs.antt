@@ -15,8 +15,9 @@ use Rattle.logic.specs.declared.Trit.the-variants.{Zero, One, Undef}
 use Rattle.cell.specs.Cell.{Cell, Control, FlipFlop, Binary, Shift}
 use Rattle.cell.specs.Cell as cells
 use Rattle.cell.specs.Design.{Design, total}
+use Rattle.cell.specs.Each.{Each}
 use Rattle.engine.specs.Call.{BinaryOp, Term}
-use Rattle.working_out.specs.Reading.{Each, readsPast}
+use Rattle.working_out.specs.Reading.{readsPast}
 use Rattle.smt.specs.Prog.{Prog, ret, _>>=_, Age, curr, past, Half, isUndef, isOne, TritVec, BitVec, vector}
 use Rattle.smt.specs.Builder.{bvConcatOn, bvConcat, bvIsZero, bvToBool, boolToBv, tvLit, tvBind, bvBind, tvConcatOn}
 use Rattle.smt.specs.Builder.{tvConcat, tvExtract, tvIs0, tvIs1, tvEq, tvRefines, tvNot, tvAnd, tvOr, tvXor, tvMux}

@@ -10,10 +10,10 @@ use native.Mathlib.Decide.{ℕ-discrete}
 use lib.Dec.{eqb, leb, ltb}
 use borrow.Author.Tests.{eq-eqb, ne-eqb, le-leb, lt-ltb, ltb-false}
 use Rattle.cell.specs.Cell.{Cell, outputLen, slotsOf}
-use Rattle.cell.specs.Design.{Design, Placed, total}
-use Rattle.working_out.specs.Reading.{Each, isIn, cellIn}
-use Rattle.working_out.proofs.ReadingLaws.{each-map}
-use Rattle.working_out.specs.Laid.{Run, Ascending, Laid}
+use Rattle.cell.specs.Design.{Design, Placed, total, isIn, cellIn}
+use Rattle.cell.specs.Each.{Each}
+use Rattle.cell.proofs.EachLaws.{each-map}
+use Rattle.right.specs.Laid.{Run, Ascending, Laid}
 use Rattle.order.specs.Verify.{newCellIn}
 use Rattle.order.proofs.Found.{placed}
 

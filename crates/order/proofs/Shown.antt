@@ -17,11 +17,12 @@ use Rattle.bitvec.specs.Bits.{Bits}
 use Rattle.engine.specs.Meaning.{all}
 use Rattle.cell.specs.Cell.{Cell, outputLen}
 use Rattle.cell.specs.Design.{Design, Placed, NetPair}
-use Rattle.rules.specs.Shape.{Shaped}
+use Rattle.cell.specs.Each.{Each}
+use Rattle.right.specs.Shape.{Shaped}
+use Rattle.right.specs.Laid.{CellLaid}
 use Rattle.rules.specs.Trits.{refines}
 use Rattle.rules.specs.CellRule.{Trits, ofNet, outputs}
-use Rattle.working_out.specs.Reading.{Each, readsPast, asserted, ofVoid, pairOf}
-use Rattle.working_out.specs.Laid.{CellLaid}
+use Rattle.working_out.specs.Reading.{readsPast, asserted, ofVoid, pairOf}
 use Rattle.working_out.specs.Loop.{bufOf}
 use Rattle.working_out.specs.Equations.{CellShown, VoidShown}
 use Rattle.working_out.specs.WorkingOut.{tritRule, Solves}

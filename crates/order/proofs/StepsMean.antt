@@ -10,12 +10,13 @@ use borrow.Author.Tests.{eqb-false}
 use Rattle.logic.proofs.TableLaws.{length-tab}
 use Rattle.logic.specs.Net.{Net, slot}
 use Rattle.cell.specs.Cell.{Cell, outputLen}
-use Rattle.cell.specs.Design.{Design, Placed, NetPair}
-use Rattle.rules.specs.Shape.{Shaped}
+use Rattle.cell.specs.Design.{Design, Placed, NetPair, cellOf}
+use Rattle.cell.specs.Each.{Each}
+use Rattle.cell.proofs.EachLaws.{each-append}
+use Rattle.right.specs.Shape.{Shaped}
+use Rattle.right.specs.Laid.{Laid, CellLaid}
 use Rattle.engine.specs.Meaning.{Value, bool, asBool, all, Assignment}
-use Rattle.working_out.specs.Laid.{Laid, CellLaid}
-use Rattle.working_out.specs.Reading.{Each, cellOf, readsPast, Pair, equal, ofVoid, ofDffs, ordinary, pairOf}
-use Rattle.working_out.proofs.ReadingLaws.{each-append}
+use Rattle.working_out.specs.Reading.{readsPast, Pair, equal, ofVoid, ofDffs, ordinary, pairOf}
 use Rattle.smt.specs.Prog.{_>>=_, curr, past}
 use Rattle.smt.specs.Builder.{currNet, pastNet, currValue, outputNets, net, cell}
 use Rattle.smt.specs.Formula.{netBits}

@@ -4,9 +4,9 @@ use mathlib.Core.Path.{_≡_, refl, ap, ap₂}
 use mathlib.Core.Bool.{Bool, true}
 use mathlib.Core.List.{List, [], _∷_, _++_, append-assoc}
 use Prim.Native.Nat.{ℕ}
+use Rattle.cell.specs.Each.{Each}
 use Rattle.engine.specs.Call.{Call, assert}
 use Rattle.engine.specs.Meaning.{Value, bool, asBool, Assignment, Holds}
-use Rattle.working_out.specs.Reading.{Each}
 use Rattle.smt.specs.Prog.{Prog}
 use Rattle.smt.specs.Emit.{St, emit}
 use Rattle.smt.specs.Formula.{NetBits, netBits}

@@ -37,11 +37,15 @@ abbrev pub entryResult : List ℕ → Entry → Result ℕ
 entryResult text (entry.Read number at) = got number (tokensFrom text at)
 entryResult text (entry.Refused e) = refused e
 
--- The trit of a slot from its two pairs.
+-- The pair of a slot's name: a letter, the slot in decimal, and a suffix.
+unfoldable pub slotPair : ℕ → ℕ → ℕ → Reader Bool
+slotPair letter slot suffix = pairSpelled (spelling letter slot suffix)
+
+-- The trit of a slot from its two pairs, x and y.
 unfoldable pub trit : ℕ → ℕ → Reader ℕ
 trit letter slot = do
-  x ← pairSpelled (spelling letter slot 120)
-  y ← pairSpelled (spelling letter slot 121)
+  x ← slotPair letter slot 120
+  y ← slotPair letter slot 121
   return (readbackNumber (Shown (shows x y)))
 
 -- A slot's entry of the table, by its mark.

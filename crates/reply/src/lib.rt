@@ -8,11 +8,11 @@ ghost use Prim.Native.Nat.{_≤_};
 ghost use lib.ListN.{length};
 ghost use lib.Seq.{slice};
 ghost use Rattle.engine.specs.Call.{Name};
-ghost use Rattle.text.specs.Names.{spelling};
 ghost use Rattle.tokens.specs.Token.{tokensOf};
 ghost use Rattle.tokens.specs.Place.{tokensFrom};
 ghost use Rattle.reply.specs.Reply.{same, expectSpelled, expectName, value, pairSpelled, ended, reply};
-ghost use Rattle.reply.specs.Step.{endResult, stepResult, bitResult, entryResult, trit, entryOf, replyAfter};
+ghost use Rattle.reply.specs.Step.{endResult, stepResult, bitResult, entryResult, slotPair, trit, entryOf};
+ghost use Rattle.reply.specs.Step.{replyAfter};
 
 // The place after a token that was expected.
 pub enum Step {
@@ -160,7 +160,7 @@ fn pair_at(text: &[u8], at: usize, name: &[u8]) -> Bit
 
 // Reads the pair of a slot's name.
 fn slot_pair_at(text: &[u8], at: usize, letter: u8, slot: usize, suffix: u8) -> Bit
-    ensures { λ r. ⌜ pairSpelled (spelling letter slot suffix) (tokensFrom (now (text .entry)) at)
+    ensures { λ r. ⌜ slotPair letter slot suffix (tokensFrom (now (text .entry)) at)
         ≡ bitResult (now (text .entry)) r ⌝ }
 {
     let mut name = [0u8; 24];

@@ -1,8 +1,9 @@
 -- What is known of the design of an accepted list: its layout, its bounds, and its size.
 use Prim.Native.Nat.{_≤_}
 use Rattle.cell.specs.Design.{Design, total}
-use Rattle.working_out.specs.Laid.{Laid}
-use Rattle.bound.specs.Bounded.{Bounds, designWords}
+use Rattle.right.specs.Bounds.{Bounds}
+use Rattle.right.specs.Laid.{Laid}
+use Rattle.bound.specs.Words.{designWords}
 
 pub record Accepted (d : Design) : Type 0 where
   pub laid : Laid d

@@ -12,8 +12,8 @@ use Rattle.bitvec.specs.Bits.{Bits}
 use Rattle.engine.specs.Call.{BinaryOp}
 use Rattle.cell.specs.Cell.{Cell, Control, FlipFlop, Shift}
 use Rattle.cell.specs.Cell as c
+use Rattle.cell.specs.Each.{Each}
 use Rattle.rules.specs.Reads.{currentNet, currentNets, clockNow, compared, comparedByAny, comparedNets, currentReads}
-use Rattle.working_out.specs.Reading.{Each}
 use Rattle.smt.specs.Prog.{Age, curr, past, Half, isUndef, isOne}
 use Rattle.smt.specs.Builder.{outputNets, zext, extended, shiftWidth, overwritten, hasClear}
 use Rattle.smt.specs.Formula.{TritBits, tb, NetBits, bitOf, readBits, litBits}

@@ -11,14 +11,16 @@ use Rattle.logic.specs.Word.{termWord}
 use Rattle.logic.specs.Net.{Net}
 use Rattle.cell.specs.Cell.{Cell, outputLen}
 use Rattle.cell.specs.Cell as c
-use Rattle.cell.specs.Design.{Design, Placed, NetPair, total}
-use Rattle.rules.specs.Shape.{Shaped}
+use Rattle.cell.specs.Design.{Design, Placed, NetPair, total, cellOf}
+use Rattle.cell.specs.Each.{Each}
+use Rattle.right.specs.Bounds.{Bounded, Bounds}
+use Rattle.right.specs.Shape.{Shaped}
+use Rattle.right.specs.Laid.{Laid, CellLaid}
 use Rattle.engine.specs.Call.{Call}
 use Rattle.engine.specs.Call as call
 use Rattle.engine.specs.Meaning.{terms}
 use Rattle.engine.specs.Encode.{encode}
-use Rattle.working_out.specs.Reading.{Each, cellOf, readsPast, Pair, equal, ofVoid, ofDffs, ordinary, pairOf}
-use Rattle.working_out.specs.Laid.{Laid, CellLaid}
+use Rattle.working_out.specs.Reading.{readsPast, Pair, equal, ofVoid, ofDffs, ordinary, pairOf}
 use Rattle.smt.specs.Prog.{Prog, curr, past}
 use Rattle.smt.specs.Builder.{cell, currValue, outputNets}
 use Rattle.smt.specs.Emit.{St, emit}
@@ -27,7 +29,7 @@ use Rattle.bound.specs.Costs.{sumBy}
 use Rattle.bound.proofs.Builder.{tvEq-costs, tvRefines-costs, netOf-costs, net-costs}
 use Rattle.bound.proofs.Cells.{then}
 use Rattle.bound.proofs.CellCosts.{out-costs, cell-costs}
-use Rattle.bound.specs.Bounded.{Bounded, Bounds, recordWords, designWords}
+use Rattle.bound.specs.Words.{recordWords, designWords}
 use Rattle.order.specs.Verify.{Step, declared, asserted, obliged, isInput, claim, addCell, newCell, replaceNet}
 use Rattle.order.specs.Verify.{replaceVoidNet, joinPasts, currents, newCellIn, withNew, cellSteps, pairSteps, eachCell}
 use Rattle.order.specs.Verify.{eachPair, steps, work, start, verify}

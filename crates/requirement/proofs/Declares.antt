@@ -15,13 +15,13 @@ use lib.ListN.{getD, set}
 use Rattle.logic.specs.Table.{tab}
 use Rattle.logic.specs.Net.{Net, slot}
 use Rattle.cell.specs.Cell.{Cell, outputLen, slotsOf}
-use Rattle.cell.specs.Design.{Design, Placed, NetPair, total}
+use Rattle.cell.specs.Design.{Design, Placed, NetPair, total, isIn, cellIn, cellOf}
+use Rattle.cell.specs.Role.{role, isVoid}
+use Rattle.right.specs.Laid.{Run, Laid}
 use Rattle.engine.specs.Call.{Name, Call}
 use Rattle.engine.specs.Call as c
-use Rattle.working_out.specs.Reading.{isIn, cellIn, cellOf, role, isVoid, readsPast, sameNet, replacementIn, source}
-use Rattle.working_out.specs.Reading.{pairOf}
+use Rattle.working_out.specs.Reading.{readsPast, sameNet, replacementIn, source, pairOf}
 use Rattle.working_out.specs.Reading as reading
-use Rattle.working_out.specs.Laid.{Run, Laid}
 use Rattle.working_out.proofs.Replaced.{same-slot, pair-void}
 use Rattle.working_out.proofs.Nodes.{Kind, ofCell, ofReplaced, kind}
 use Rattle.smt.specs.Prog.{Prog, ret, op, declare, bind, bind2, _>>=_, Age, curr, past, Half, isUndef, isOne, TritVec}

@@ -7,12 +7,14 @@ use Prim.Native.Nat.{ℕ, zero, suc, _*_, _<_}
 use native.Mathlib.Omega.{arith}
 use lib.ListN.{getD, replicate}
 use Rattle.cell.specs.Design.{Design, total}
+use Rattle.cell.specs.Each.{Each}
+use Rattle.right.specs.Bounds.{Bounds}
+use Rattle.right.specs.Laid.{Laid}
 use Rattle.rules.specs.CellRule.{Trits}
 use Rattle.engine.specs.Call.{Call}
 use Rattle.engine.specs.Meaning.{Value, bool, Assignment, valueAt, Fits, Earlier, Sat, All, terms}
 use Rattle.engine.proofs.Laws.{All-map, holds-sat}
-use Rattle.working_out.specs.Reading.{Each, Alike}
-use Rattle.working_out.specs.Laid.{Laid}
+use Rattle.working_out.specs.Reading.{Alike}
 use Rattle.working_out.specs.Loop.{hasLoop}
 use Rattle.smt.specs.Prog.{Age, curr, past}
 use Rattle.smt.specs.Emit.{place}
@@ -26,7 +28,6 @@ use Rattle.order.proofs.MeantLaws.{stepsOf, SaidOf}
 use Rattle.order.specs.Meant.{meantSteps}
 use Rattle.order.proofs.StepsMean.{steps-mean}
 use Rattle.requirement.proofs.WorkMeets.{execWork, WorkMet, work-meets}
-use Rattle.bound.specs.Bounded.{Bounds}
 use Rattle.requirement.proofs.StepsSafe.{steps-safe}
 use Rattle.requirement.proofs.Solved.{solved, solved-now, solved-was, solved-said}
 use Rattle.requirement.proofs.Prefix.{asserted-on, fits-append}

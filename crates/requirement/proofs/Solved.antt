@@ -16,13 +16,15 @@ use Rattle.logic.specs.declared.Trit.{Trit}
 use Rattle.logic.specs.declared.Trit.the-variants.{Zero, One, Undef}
 use Rattle.cell.specs.Cell.{Cell, outputLen, slotsOf}
 use Rattle.cell.specs.Cell as c
-use Rattle.cell.specs.Design.{Design, Placed, NetPair, total}
+use Rattle.cell.specs.Design.{Design, Placed, NetPair, total, cellOf}
+use Rattle.cell.specs.Role.{role}
+use Rattle.cell.specs.Role as roles
+use Rattle.cell.specs.Each.{Each}
+use Rattle.cell.proofs.EachLaws.{each-append}
+use Rattle.right.specs.Laid.{Laid, CellLaid}
 use Rattle.rules.specs.CellRule.{Trits, ofNet}
-use Rattle.working_out.specs.Reading.{Each, cellOf, sameNet, role, readsPast, source, Pair, equal, ofVoid, ofDffs}
-use Rattle.working_out.specs.Reading.{ordinary, pairOf, Alike}
-use Rattle.working_out.proofs.ReadingLaws.{each-append}
+use Rattle.working_out.specs.Reading.{sameNet, readsPast, source, Pair, equal, ofVoid, ofDffs, ordinary, pairOf, Alike}
 use Rattle.working_out.specs.Reading as reading
-use Rattle.working_out.specs.Laid.{Laid, CellLaid}
 use Rattle.working_out.proofs.LayoutLaws.{at-each, located}
 use Rattle.working_out.specs.Loop.{hasLoop}
 use Rattle.working_out.specs.Equations.{CellShown, VoidShown, Solution, workedOutBy}
@@ -61,7 +63,7 @@ wide-asserted w l = rw (ne-eqb w 0 (λ e. omega arith))
 -- A cell with an output that is claimed is asserted, or an IoBuf.
 data Claimed (a : Cell) : Type 0 where
   isAsserted : reading.asserted a ≡ true → Claimed a
-  isIoBuf : role a ≡ reading.given →
+  isIoBuf : role a ≡ roles.given →
       ((b : NetBits) (rp : ℕ → Bool) (s w : ℕ) → cellBits rp b s w a ≡ valueBits rp b (outputNets s w)) → Claimed a
 
 claimed-kind : (a : Cell) → 0 < outputLen a → isInput a ≡ false → Claimed a
@@ -103,7 +105,7 @@ void-from d p e = go (p .from) refl
     go (slot i) q = (i, q)
 
 -- A slot of an IoBuf reads its current trit.
-given-current : (d : Design) (p : Placed) (j : ℕ) → cellOf d j ≡ p → role (p .cell) ≡ reading.given → readsPast d j
+given-current : (d : Design) (p : Placed) (j : ℕ) → cellOf d j ≡ p → role (p .cell) ≡ roles.given → readsPast d j
     ≡ false
 given-current d p j own e = rw (own, e) (and-false (ltb j (d .base)))
 
@@ -144,7 +146,7 @@ module _ (d : Design) (laid : Laid d) (no-loop : hasLoop d ≡ false) (g : Trits
       (asserted-some (p .cell) h)) (shown h))
 
   iobuf-reads : (p : Placed) → ((j : ℕ) → p .slot ≤ j → j < p .slot + slotsOf (p .cell) → cellOf d j ≡ p) →
-      role (p .cell) ≡ reading.given
+      role (p .cell) ≡ roles.given
       → currBits (readsPast d) solved (outputNets (p .slot) (outputLen (p .cell)))
       ≡ valueBits (readsPast d) solved (outputNets (p .slot) (outputLen (p .cell)))
   unfolding readBits

@@ -12,15 +12,17 @@ use Rattle.logic.proofs.TableLaws.{length-tab}
 use Rattle.logic.specs.Net.{Net, constant, slot}
 use Rattle.cell.specs.Cell.{Cell, outputLen, slotsOf}
 use Rattle.cell.specs.Cell as c
-use Rattle.cell.specs.Design.{Design, Placed, NetPair, total}
-use Rattle.rules.specs.Shape.{Shaped}
+use Rattle.cell.specs.Design.{Design, Placed, NetPair, total, cellOf}
+use Rattle.cell.specs.Each.{Each}
+use Rattle.cell.proofs.EachLaws.{each-map, each-append}
+use Rattle.right.specs.Bounds.{Bounded, Bounds}
+use Rattle.right.specs.Nets as layout
+use Rattle.right.specs.Nets.{netsOf}
+use Rattle.right.specs.Shape.{Shaped}
+use Rattle.right.specs.Laid.{Laid, CellLaid, PairWithin}
 use Rattle.engine.specs.Sorts.{Sort}
-use Rattle.working_out.specs.Reading.{Each, cellOf, readsPast, Pair, equal, ofVoid, ofDffs, ordinary, pairOf}
-use Rattle.working_out.proofs.ReadingLaws.{each-map, each-append}
-use Rattle.working_out.specs.Laid as layout
-use Rattle.working_out.specs.Laid.{Laid, CellLaid, PairWithin, netsOf}
+use Rattle.working_out.specs.Reading.{readsPast, Pair, equal, ofVoid, ofDffs, ordinary, pairOf}
 use Rattle.working_out.proofs.LayoutLaws.{at-each, located}
-use Rattle.bound.specs.Bounded.{Bounded, Bounds}
 use Rattle.smt.specs.Prog.{curr, past}
 use Rattle.smt.specs.Builder.{currNet, pastNet, currValue, outputNets, net, cell}
 use Rattle.smt.specs.CellBits.{NotInput}

@@ -11,14 +11,16 @@ use Rattle.logic.specs.declared.Trit.{Trit}
 use Rattle.logic.specs.Table.{zipWith}
 use Rattle.logic.specs.Net.{Net}
 use Rattle.cell.specs.Design.{Design, NetPair, total}
+use Rattle.cell.specs.Each.{Each}
+use Rattle.right.specs.Bounds.{Bounds}
+use Rattle.right.specs.Laid.{Laid, Ascending}
 use Rattle.rules.specs.CellRule.{Trits, ofNet}
 use Rattle.rules.specs.Refine.{Refines}
 use Rattle.engine.specs.Call.{Name, Call}
 use Rattle.engine.specs.Call as c
 use Rattle.engine.specs.Meaning.{Value, asBool, Assignment, valueAt, run, Fits, Asserted, Earlier, Sat, terms, All}
 use Rattle.engine.proofs.Laws.{All-map, sat-holds}
-use Rattle.working_out.specs.Reading.{Each, readsPast, source, ofDffs, pairOf, Joined, Alike}
-use Rattle.working_out.specs.Laid.{Laid, Ascending}
+use Rattle.working_out.specs.Reading.{readsPast, source, ofDffs, pairOf, Joined, Alike}
 use Rattle.working_out.specs.Loop.{Loop, hasLoop}
 use Rattle.working_out.proofs.Solutions.{loop-decided}
 use Rattle.working_out.specs.Equations.{Solution}
@@ -40,7 +42,6 @@ use Rattle.order.specs.Meant.{Meant, meantCells, meantPair, meantPairs, meantSt
 use Rattle.order.proofs.MeantLaws.{stepsOf, SaidOf, ask, asks, truths, Worked}
 use Rattle.order.proofs.StepsMean.{steps-are, steps-mean}
 use Rattle.order.proofs.WorkSound.{work-sound}
-use Rattle.bound.specs.Bounded.{Bounds}
 use Rattle.order.proofs.Shown.{left, right, tests-solve}
 use Rattle.order.proofs.Judged.{steps-judged}
 use Rattle.order.proofs.Numbered.{work-next}

@@ -9,6 +9,7 @@ use lib.Dec.{eqb}
 use lib.ListN.{length, getD, length-append, length-replicate, List·getD-eq-default}
 use Rattle.cell.specs.Cell.{outputLen}
 use Rattle.cell.specs.Design.{Design, Placed, NetPair, total}
+use Rattle.cell.specs.Each.{Each}
 use Rattle.engine.specs.Call.{Call}
 use Rattle.engine.specs.Call as c
 use Rattle.engine.specs.Meaning.{Value, bool, terms, All}
@@ -18,11 +19,11 @@ use Rattle.engine.specs.Encode.{recordOf, encode, decode}
 use Rattle.engine.specs.WellFormed.{outcome, wellFormed}
 use Rattle.engine.proofs.Written.{decode-encode}
 use Rattle.engine.proofs.Accepted.{encode-formed}
-use Rattle.working_out.specs.Reading.{Each, Pair, equal, ofVoid, ofDffs, ordinary, pairOf}
+use Rattle.working_out.specs.Reading.{Pair, equal, ofVoid, ofDffs, ordinary, pairOf}
 use Rattle.working_out.specs.Obligations as obligation
 use Rattle.working_out.specs.Obligations.{obligations, cellObligations, netObligations, ofPair}
 use Rattle.bound.specs.Costs.{sumBy}
-use Rattle.bound.specs.Bounded.{recordWords, designWords}
+use Rattle.bound.specs.Words.{recordWords, designWords}
 use Rattle.smt.specs.Prog.{Prog, ret, op, declare, bind, bind2}
 use Rattle.smt.specs.Emit.{St, Out, emit, place, netName, at, learn, reread, after, known}
 use Rattle.smt.specs.Formula.{NetBits}

@@ -5,10 +5,10 @@ use mathlib.Core.Bool.{Bool, false}
 use mathlib.Core.List.{List, [], _∷_, _++_, append-assoc}
 use Prim.Native.Nat.{ℕ, _≤_}
 use native.Mathlib.Omega.{arith}
+use Rattle.cell.specs.Each.{Each}
 use Rattle.engine.specs.Call.{Call}
 use Rattle.engine.specs.Meaning.{Value, bool, Assignment, Holds, All}
 use Rattle.engine.specs.Sorts.{Sort}
-use Rattle.working_out.specs.Reading.{Each}
 use Rattle.smt.specs.Prog.{Prog}
 use Rattle.smt.specs.Emit.{St, emit}
 use Rattle.smt.specs.Formula.{NetBits, netBits}

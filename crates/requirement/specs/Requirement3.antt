@@ -8,13 +8,13 @@ use lib.ListN.{length, getD}
 use Rattle.logic.specs.Trit.{shows}
 use Rattle.logic.specs.declared.Trit.{Trit}
 use Rattle.cell.specs.Design.{Design, total}
+use Rattle.right.specs.Laid.{Ascending}
 use Rattle.rules.specs.CellRule.{Trits}
 use Rattle.rules.specs.Refine.{Refines}
 use Rattle.engine.specs.Call.{Name, Call}
 use Rattle.engine.specs.Call as c
 use Rattle.engine.specs.Meaning.{asBool, Assignment, Fits, Asserted, run, valueAt, terms, Earlier}
 use Rattle.working_out.specs.Reading.{source, Alike}
-use Rattle.working_out.specs.Laid.{Ascending}
 use Rattle.working_out.specs.WorkingOut.{workedOut, whole}
 use Rattle.working_out.specs.Obligations.{obligations, broken}
 use Rattle.smt.specs.Prog.{Age, curr, past, Half, isUndef, isOne}

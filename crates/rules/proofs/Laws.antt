@@ -10,11 +10,11 @@ use Rattle.logic.specs.Net.{Net, constant, slot}
 use Rattle.logic.specs.declared.Trit.{Trit}
 use Rattle.logic.specs.declared.Trit.the-variants.{Zero, One, Undef}
 use Rattle.cell.specs.Cell.{Control, FlipFlop}
+use Rattle.cell.specs.Each.{Each}
 use Rattle.rules.specs.Trits as t
 use Rattle.rules.specs.Rules as r
 use Rattle.rules.specs.CellRule.{Trits, ofNet, control, inactive, hasClear, edge}
 use Rattle.rules.proofs.WidthLaws as w
-use Rattle.rules.specs.Width.{Each}
 use Rattle.rules.proofs.WidthLaws.{Width, InputsWidth}
 
 -- 1 takes the first side, 0 the second.

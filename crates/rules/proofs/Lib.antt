@@ -1,4 +1,5 @@
 pub mod Cases
+pub mod CellRuleLaws
 pub mod ExamplesLaws
 pub mod Laws
 pub mod LocalLaws
@@ -6,5 +7,4 @@ pub mod Monotone
 pub mod Number
 pub mod RefineLaws
 pub mod Ripple
-pub mod ShapeLaws
 pub mod WidthLaws

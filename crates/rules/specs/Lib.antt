@@ -3,7 +3,5 @@ pub mod Rules
 pub mod CellRule
 pub mod Reads
 pub mod Examples
-pub mod Width
 pub mod Refine
 pub mod Local
-pub mod Shape

@@ -12,15 +12,16 @@ use lib.Seq.{sets, sets-eq, take-at}
 use lib.Dec.{ltb, eqb}
 use borrow.Author.Tests.{ltb-true, ltb-false, lt-ltb, le-ltb, ne-eqb}
 use Rattle.cell.specs.Cell.{outputLen, slotsOf, standing}
-use Rattle.cell.specs.Design.{Design, Placed, total}
+use Rattle.cell.specs.Design.{Design, Placed, total, cellOf}
+use Rattle.cell.specs.Role.{role, isDff}
+use Rattle.right.specs.Laid.{Apart, Laid}
 use Rattle.placing.specs.Slots.{covering, standingNumber, markOf, marks}
 use Rattle.placing.specs.Cover.{Walk}
 use Rattle.placing.proofs.CoverLaws.{walk-total, table-at, takes-all, Narrow, walk-narrow}
 use Rattle.design_list.specs.Read.{read, accepted}
 use Rattle.design_list.specs.Table.{tableAfter}
 use Rattle.design_list.proofs.AcceptedLaws.{accepted-read}
-use Rattle.working_out.specs.Reading.{role, isDff, cellOf, readsPast}
-use Rattle.working_out.specs.Laid.{Apart, Laid}
+use Rattle.working_out.specs.Reading.{readsPast}
 use Rattle.working_out.proofs.LayoutLaws.{Located, at, each-at, at-each}
 use Rattle.accepted.proofs.Laid.{stages, accepted-laid, cell-takes}
 use Rattle.nets.specs.Reads.{pastIn}

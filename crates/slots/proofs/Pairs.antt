@@ -13,8 +13,8 @@ use Rattle.logic.specs.Trit.{tritNumber}
 use Rattle.logic.specs.declared.Trit.{Trit}
 use Rattle.logic.specs.declared.Trit.the-variants.{Zero, One, Undef}
 use Rattle.cell.specs.Design.{Design, total}
+use Rattle.right.specs.Nets.{Within}
 use Rattle.working_out.specs.Reading.{sameNet, netRole, pairOf}
-use Rattle.working_out.specs.Laid.{Within}
 use Rattle.slots.specs.Tells.{standingOf, Tells}
 use Rattle.slots.specs.Pairs.{pairKind, standingAt, pairIn, IsKind}
 use Rattle.slots.specs.declared.Pair.{Pair}

@@ -6,7 +6,7 @@ use lib.Dec.{eqb}
 use Rattle.cell.specs.Cell.{Cell, standing}
 use Rattle.placing.specs.Slots.{standingNumber}
 use Rattle.cell.specs.Cell as C
-use Rattle.working_out.specs.Reading.{Role, void, given, dff, other, role, isVoid, isDff}
+use Rattle.cell.specs.Role.{Role, void, given, dff, other, role, isVoid, isDff}
 use Rattle.slots.specs.Tells.{standingOf}
 
 pub standing-role : (c : Cell) → standingNumber (standing c) ≡ standingOf (role c)

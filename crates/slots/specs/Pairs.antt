@@ -8,9 +8,9 @@ use Rattle.logic.specs.Net.{netOf, driverOf}
 use Rattle.logic.specs.declared.Driver.{Driver}
 use Rattle.logic.specs.declared.Driver.the-variants.{Constant, Output, NoNet}
 use Rattle.cell.specs.Design.{Design, total}
+use Rattle.right.specs.Nets.{Within}
 use Rattle.working_out.specs.Reading.{equal, ofVoid, ofDffs, ordinary, pairOf}
 use Rattle.working_out.specs.Reading as m
-use Rattle.working_out.specs.Laid.{Within}
 use Rattle.slots.specs.Tells.{standingIn, Tells}
 use Rattle.slots.specs.declared.Pair.{Pair}
 use Rattle.slots.specs.declared.Pair.the-variants.{Equal, OfVoid, OfDffs, Ordinary}

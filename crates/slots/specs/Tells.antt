@@ -5,8 +5,10 @@ use mathlib.Core.List.{List}
 use Prim.Native.Nat.{ℕ, _<_, _/_, _%_}
 use lib.ListN.{getD}
 use Rattle.cell.specs.Cell.{outputLen}
-use Rattle.cell.specs.Design.{Design, Placed, total}
-use Rattle.working_out.specs.Reading.{Each, Role, void, given, dff, other, role, cellOf, readsPast}
+use Rattle.cell.specs.Design.{Design, Placed, total, cellOf}
+use Rattle.cell.specs.Role.{Role, void, given, dff, other, role}
+use Rattle.cell.specs.Each.{Each}
+use Rattle.working_out.specs.Reading.{readsPast}
 use Rattle.nets.specs.Reads.{pastIn}
 
 -- The output width of a slot's cell, by the slot's word: what stands there + 4 × (0 base, 1 added) + 8 × output width +

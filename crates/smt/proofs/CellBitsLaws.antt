@@ -15,13 +15,13 @@ use Rattle.engine.specs.Call.{BinaryOp}
 use Rattle.engine.specs.Meaning.{Value, Assignment}
 use Rattle.cell.specs.Cell.{Cell, Control, FlipFlop, Shift, Binary, binaryWidth, outputLen}
 use Rattle.cell.specs.Cell as cells
+use Rattle.right.specs.Shape.{Shaped, Wide}
 use Rattle.smt.specs.Prog.{_>>=_, curr, past, isUndef, isOne, TritVec}
 use Rattle.smt.specs.Builder.{tvLit, tvBind, tvExtract, tvNot, tvOr, tvXor, tvMux, tvConcat, collect, valueOf}
 use Rattle.smt.specs.Builder.{currNet, pastNet, invertNet, clockNet, tvShift, outputNets, oneHot, overwritten}
 use Rattle.smt.specs.Builder.{hasClear, shiftWidth, zext, extended, firstMatch, net, controlNet, prepareAt}
 use Rattle.smt.specs.Builder.{prepareShift, shifted, compared, product, sum, matchOf, matchCell, enabled, resetTo}
 use Rattle.smt.specs.Builder.{loaded, cleared, dffCell, adcCell, cell}
-use Rattle.rules.specs.Shape.{Shaped, Wide}
 use Rattle.smt.specs.Wp.{wp}
 use Rattle.smt.proofs.WpLaws.{wp-seq}
 use Rattle.smt.specs.Formula.{TritBits, NetBits, netBits, bitOf, readBits, litBits, muxBits}

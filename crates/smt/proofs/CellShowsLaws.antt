@@ -24,12 +24,12 @@ use Rattle.engine.specs.Call.{Call}
 use Rattle.engine.specs.Meaning.{Value, asBits, Assignment, Holds, denoteOp}
 use Rattle.cell.specs.Cell.{Cell, Control, FlipFlop, Shift, Binary, outputLen}
 use Rattle.cell.specs.Cell as cells
+use Rattle.right.specs.Shape.{Shaped}
 use Rattle.rules.specs.Trits as t
 use Rattle.rules.specs.Trits.{anyX, number}
 use Rattle.rules.specs.Rules as r
 use Rattle.rules.specs.CellRule.{Trits, ofNet, asRead, control, inactive, outputs, read, edge, flipFlopInputs, cellRule}
 use Rattle.rules.specs.CellRule as rule
-use Rattle.rules.specs.Shape.{Shaped}
 use Rattle.smt.specs.Prog.{Age, curr, past, isUndef, isOne, TritVec}
 use Rattle.smt.specs.Emit.{St, emit}
 use Rattle.smt.specs.Builder.{outputNets, oneHot, overwritten, hasClear, isAlwaysInactive, shiftWidth, ilog2}

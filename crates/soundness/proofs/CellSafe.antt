@@ -19,10 +19,10 @@ use Rattle.engine.specs.Call as c
 use Rattle.engine.specs.Sorts.{Sort}
 use Rattle.cell.specs.Cell.{Cell, Control, FlipFlop, Shift, binaryWidth, outputLen}
 use Rattle.cell.specs.Cell as cells
-use Rattle.rules.specs.Width.{Each}
-use Rattle.rules.specs.Shape.{Shaped}
-use Rattle.working_out.specs.Laid.{netsOf}
-use Rattle.bound.specs.Bounded.{Bounded}
+use Rattle.cell.specs.Each.{Each}
+use Rattle.right.specs.Bounds.{Bounded}
+use Rattle.right.specs.Nets.{netsOf}
+use Rattle.right.specs.Shape.{Shaped}
 use Rattle.smt.specs.Prog.{_>>=_, curr, past, TritVec}
 use Rattle.smt.specs.Builder.{tvLit, tvBind, tvExtract, tvNot, tvOr, tvXor, tvMux, tvConcat, collect, valueOf, currNet}
 use Rattle.smt.specs.Builder.{pastNet, invertNet, clockNet, tvShift, outputNets, oneHot, overwritten, hasClear}

@@ -12,10 +12,10 @@ use Rattle.logic.specs.Trit.{xOf, yOf}
 use Rattle.logic.specs.declared.Trit.{Trit}
 use Rattle.cell.specs.Cell.{Control, Binary, binaryWidth}
 use Rattle.cell.specs.Cell as cells
+use Rattle.cell.specs.Each.{Each}
 use Rattle.engine.specs.Call.{Term, BinaryOp, Compare}
 use Rattle.engine.specs.Call as c
 use Rattle.engine.specs.Meaning.{All}
-use Rattle.rules.specs.Width.{Each}
 use Rattle.engine.specs.Sorts.{Sort, binarySort, countLimit}
 use Rattle.smt.specs.Prog.{Prog, ret, op, declare, bind, bind2, _>>=_, Age, BitVec, bv, TritVec, tv, resultWidth}
 use Rattle.smt.specs.Builder.{bvConcatOn, bvConcat, bvIsZero, bvToBool, boolToBv, tvLit, tvConst, tvBind, tvConcatOn}

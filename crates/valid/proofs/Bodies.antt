@@ -17,6 +17,7 @@ use Rattle.cell.specs.declared.Operation.{Operation}
 use Rattle.cell.specs.declared.Decoded.the-variants.{Known}
 use Rattle.cell.specs.declared.Numbers.{Numbers}
 use Rattle.cell.specs.declared.Fields.{Fields}
+use Rattle.cell.specs.Each.{Each}
 use Rattle.fields.specs.declared.Scan.the-variants.{Clean}
 use Rattle.fields.specs.declared.Head.the-variants as H
 use Rattle.fields.specs.Field.{fault, netAt, constantAt, endsAt}
@@ -26,7 +27,6 @@ use Rattle.fields.specs.Head as Head
 use Rattle.cell_reader.specs.declared.Leading.the-variants as L
 use Rattle.cell_reader.specs.Record.{thirdAt, secondAt, firstAt, leadingAt, tailAt, bodyAt}
 use Rattle.cell_reader.specs.Parse.{numberIn, opAt}
-use Rattle.working_out.specs.Reading.{Each}
 use Rattle.valid.proofs.Stands.{wordAt, Stands, stands-first, stands-rest, stands-tail, stands-inside}
 use Rattle.valid.proofs.Stands.{scan-words}
 use Rattle.valid.proofs.Fields.{number-right, Named, Fixed, net-right, constant-right}

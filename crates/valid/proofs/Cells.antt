@@ -9,8 +9,9 @@ use Rattle.logic.specs.Net.{Net}
 use Rattle.logic.specs.Table.{tab}
 use Rattle.cell.specs.Cell.{Cell, Control, Unary, Binary, Shift}
 use Rattle.cell.specs.Cell as C
+use Rattle.right.specs.Nets.{Within}
+use Rattle.right.specs.Shape.{Shaped}
 use Rattle.cell_reader.specs.Parse.{numberIn, netIn, controlIn, tritIn, netsIn, patternsIn, cellIn, cellAt}
-use Rattle.working_out.specs.Laid.{Shaped, Within}
 use Rattle.valid.specs.Words.{netWordOf, controlWordOf, tritWordOf, operationOfCell, contentsOf, bodyOf, recordOf}
 use Rattle.valid.proofs.Stands.{Reads, reads-first, reads-rest, reads-tab, reads-map, Stands, stands-first}
 use Rattle.valid.proofs.Stands.{stands-rest, stands-tail}

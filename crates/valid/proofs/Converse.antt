@@ -6,6 +6,7 @@ use native.Mathlib.Omega.{arith}
 use lib.ListN.{length}
 use Rattle.logic.specs.Word.{numberWord}
 use Rattle.cell.specs.Design.{Design, total}
+use Rattle.right.specs.Valid.{Valid}
 use Rattle.fields.specs.declared.Number.{Number}
 use Rattle.fields.specs.declared.Number.the-variants as N
 use Rattle.fields.specs.declared.Scan.the-variants.{Clean}
@@ -24,10 +25,9 @@ use Rattle.design_list.proofs.AcceptedLaws.{accepted-read}
 use Rattle.accepted.proofs.Replacements.{climb-read}
 use Rattle.accepted.proofs.Laid.{accepted-laid}
 use Rattle.accepted.proofs.Bounds.{accepted-bounds}
-use Rattle.accepted.proofs.VoidsLaws.{accepted-voids}
+use Rattle.accepted.proofs.Voids.{accepted-voids}
 use Rattle.valid.proofs.Stands.{Reads, wordAt}
 use Rattle.valid.proofs.Spans.{number-word}
-use Rattle.valid.specs.Valid.{Valid}
 
 -- A number of the header was read, and what follows it.
 record Onward (v : Number) (f : ℕ → ℕ → Opening) (h : Header) : Type 0 where

@@ -6,11 +6,10 @@ use native.Mathlib.Omega.{arith}
 use Rattle.logic.specs.Word.{netWord, headWord, numberWord}
 use Rattle.logic.specs.Net.{slot}
 use Rattle.cell.specs.Cell.{input, unary, not}
-use Rattle.cell.specs.Design.{Design}
+use Rattle.cell.specs.Design.{Design, cellIn}
+use Rattle.right.specs.Valid.{Valid}
 use Rattle.design_list.specs.Read.{read, accepted}
-use Rattle.working_out.specs.Reading.{cellIn}
 use Rattle.valid.specs.Words.{netWordOf, recordOf, wordsOf}
-use Rattle.valid.specs.Valid.{Valid}
 use Rattle.valid.proofs.TheoremLaws.{valid-read}
 
 abbrev pub example : Design

@@ -15,12 +15,12 @@ use Rattle.logic.proofs.NetLaws.{net-of-payload, constant-of-payload, driver-of
 use Rattle.logic.specs.declared.Trit.{Trit}
 use Rattle.logic.specs.declared.Trit.the-variants.{Zero, One, Undef}
 use Rattle.cell.specs.Cell.{Control}
+use Rattle.cell.specs.Each.{Each}
+use Rattle.right.specs.Nets.{Within}
 use Rattle.fields.specs.declared.Number.the-variants as N
 use Rattle.fields.specs.declared.Scan.the-variants.{Clean}
 use Rattle.fields.specs.Field.{isConstant, isKnown, mostKind, numberAt, netAt, bitAt, constantAt, scanMany}
 use Rattle.cell_reader.specs.Parse.{numberIn, netIn, controlIn, tritIn, tritsIn}
-use Rattle.working_out.specs.Reading.{Each}
-use Rattle.working_out.specs.Laid.{Within}
 use Rattle.valid.specs.Words.{netWordOf, controlWordOf, tritWordOf}
 use Rattle.valid.proofs.Stands.{reads-tab, wordAt, reads-map, Stands, scan-words, each-words}
 

@@ -7,10 +7,10 @@ use lib.ListN.{length, length-append, length-map}
 use Rattle.logic.specs.Table.{tab}
 use Rattle.logic.proofs.TableLaws.{tab-ext}
 use Rattle.logic.specs.declared.Trit.{Trit}
+use Rattle.cell.specs.Each.{Each}
 use Rattle.fields.specs.declared.Scan.the-variants.{Clean}
 use Rattle.fields.specs.Pattern.{alternateAt, patternAt, patternsAt}
 use Rattle.cell_reader.specs.Parse.{tritsIn, patternsIn}
-use Rattle.working_out.specs.Reading.{Each}
 use Rattle.valid.specs.Words.{tritWordOf, patternWordsOf}
 use Rattle.valid.proofs.Stands.{Stands, stands-first, stands-rest, stands-tail, stands-inside, scan-items}
 use Rattle.valid.proofs.Fields.{number-of-word, number-right, constants-right, constants-read}

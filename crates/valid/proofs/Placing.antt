@@ -11,11 +11,11 @@ use lib.Dec.{ltb}
 use borrow.Author.Tests.{ltb-true, lt-ltb, le-ltb, le-leb}
 use Rattle.cell.specs.Cell.{Cell, slotsOf}
 use Rattle.cell.specs.Design.{Placed}
+use Rattle.cell.specs.Each.{Each}
+use Rattle.right.specs.Laid.{Run}
 use Rattle.fields.specs.declared.Scan.the-variants.{Clean}
 use Rattle.items.specs.Items.{Reading}
 use Rattle.placing.specs.Cells.{limitOf, placedAt, cellsFrom}
-use Rattle.working_out.specs.Reading.{Each}
-use Rattle.working_out.specs.Laid.{Run}
 use Rattle.valid.specs.Words.{recordOf, cellWordsOf}
 use Rattle.valid.proofs.Stands.{Stands, stands-first, stands-rest}
 use Rattle.valid.proofs.Records.{Right, record-right}

@@ -12,11 +12,12 @@ use Rattle.cell.specs.Cell.{Cell, Control, outputLen}
 use Rattle.cell.specs.Cell as C
 use Rattle.cell.specs.Operation.{numbersOf, fieldsOf}
 use Rattle.cell.specs.declared.Fields.{Fields}
+use Rattle.cell.specs.Each.{Each}
+use Rattle.right.specs.Bounds.{Bounded}
+use Rattle.right.specs.Nets.{Within, netsOf}
+use Rattle.right.specs.Shape.{Shaped}
 use Rattle.cell_reader.specs.declared.Record.the-variants as R
 use Rattle.cell_reader.specs.Record.{contentsAt, recordAt}
-use Rattle.working_out.specs.Reading.{Each}
-use Rattle.working_out.specs.Laid.{Shaped, Within, netsOf}
-use Rattle.bound.specs.Bounded.{Bounded}
 use Rattle.accepted.proofs.Cells.{wide-binary, wide-shift}
 use Rattle.valid.specs.Words.{netWordOf, controlWordOf, tritWordOf, patternWordsOf, operationOfCell, contentsOf}
 use Rattle.valid.specs.Words.{bodyOf, recordOf}

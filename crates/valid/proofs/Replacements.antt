@@ -11,13 +11,14 @@ use borrow.Author.Tests.{lt-ltb, le-leb}
 use Rattle.logic.specs.Net.{Net, payloadOfNet}
 use Rattle.cell.specs.Cell.{outputLen}
 use Rattle.cell.specs.Design.{Placed, NetPair, Design, total}
+use Rattle.cell.specs.Each.{Each}
+use Rattle.cell.proofs.EachLaws.{each-map}
+use Rattle.right.specs.Nets.{Within}
+use Rattle.right.specs.Laid.{Ascending, PairWithin}
 use Rattle.fields.specs.declared.Scan.the-variants.{Clean}
 use Rattle.items.specs.Step.{Step}
 use Rattle.items.specs.Step as T
 use Rattle.items.specs.Items.{ascending, listedNumberAt, listedNetAt, Test, replacementAt, newCell, pairAt, netPair}
-use Rattle.working_out.specs.Reading.{Each}
-use Rattle.working_out.proofs.ReadingLaws.{each-map}
-use Rattle.working_out.specs.Laid.{Ascending, Within, PairWithin}
 use Rattle.valid.specs.Words.{netWordOf, operationOfCell, recordOf, replacementWordsOf, pairWordsOf}
 use Rattle.valid.proofs.Stands.{wordAt, Stands, stands-first, stands-rest, stands-tail, stands-inside}
 use Rattle.valid.proofs.Fields.{number-of-word, number-right, payload-of-net-word, net-right, net-named}

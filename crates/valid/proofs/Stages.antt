@@ -7,6 +7,9 @@ use native.Mathlib.Omega.{arith}
 use lib.ListN.{length, length-append}
 use borrow.Author.Tests.{le-ltb, eq-eqb}
 use Rattle.cell.specs.Design.{Placed, NetPair, Design, total}
+use Rattle.cell.specs.Each.{Each}
+use Rattle.right.specs.Voids.{netsBesideClock}
+use Rattle.right.specs.Valid.{Valid}
 use Rattle.fields.specs.declared.Scan.the-variants.{Clean}
 use Rattle.items.specs.declared.Header.{Header}
 use Rattle.items.specs.declared.Opening.the-variants as O
@@ -16,8 +19,6 @@ use Rattle.items.specs.Items.{countsAt, headerAt, replaces, cellRepsFrom, netRe
 use Rattle.placing.specs.Cells.{cellsOf}
 use Rattle.voids.specs.Voids.{itemVoidsAt, voidsAt}
 use Rattle.design_list.specs.Read.{Read, accepted, readNetReps, readCellReps, readCells, read}
-use Rattle.working_out.specs.Reading.{Each}
-use Rattle.accepted.specs.Voids.{netsBesideClock}
 use Rattle.valid.specs.Words.{cellWordsOf, replacementWordsOf, pairWordsOf, wordsOfCells, wordsOfReplacements}
 use Rattle.valid.specs.Words.{wordsOfPairs, wordsOf, replacementsAt, pairsAt}
 use Rattle.valid.proofs.Stands.{Stands, stands-first, stands-rest, stands-tail, scan-items}
@@ -25,7 +26,6 @@ use Rattle.valid.proofs.Fields.{number-right, each-all}
 use Rattle.valid.proofs.Placing.{readTo, cells-right}
 use Rattle.valid.proofs.Replacements.{replacements-right, pairs-right}
 use Rattle.valid.proofs.Voids.{voids, Readable, record-voids, replacement-voids, pair-voids}
-use Rattle.valid.specs.Valid.{Valid}
 use Rattle.valid.proofs.Tested.{cells-are-right, replacements-are-right, cells-readable, replacements-readable}
 use Rattle.valid.proofs.Tested.{pairs-readable}
 

@@ -7,11 +7,11 @@ use native.Mathlib.Nat.{add-zero, zero-add}
 use lib.ListN.{length, getD, length-append}
 use Rattle.logic.specs.Table.{tab}
 use Rattle.logic.proofs.TableLaws.{tab-ext}
+use Rattle.cell.specs.Each.{Each}
+use Rattle.cell.proofs.EachLaws.{each-append}
 use Rattle.fields.specs.declared.Scan.{Scan}
 use Rattle.fields.specs.declared.Scan.the-variants.{Clean}
 use Rattle.fields.specs.Field.{scanMany}
-use Rattle.working_out.specs.Reading.{Each}
-use Rattle.working_out.proofs.ReadingLaws.{each-append}
 
 -- What is read at each place from a place on.
 module _ {A : Type 0} (item : ℕ → A) where

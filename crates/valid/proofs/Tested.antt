@@ -9,18 +9,19 @@ use Rattle.logic.specs.Net.{Net}
 use Rattle.cell.specs.Cell.{Cell, outputLen}
 use Rattle.cell.specs.Cell as C
 use Rattle.cell.specs.Operation.{mayReplace}
-use Rattle.cell.specs.Design.{Placed, NetPair, Design, total}
+use Rattle.cell.specs.Design.{Placed, NetPair, Design, total, cellOf}
+use Rattle.cell.specs.Each.{Each}
+use Rattle.right.specs.Bounds.{Bounded}
+use Rattle.right.specs.Nets.{netsOf}
+use Rattle.right.specs.Voids.{netsBesideClock, NoVoid}
+use Rattle.right.specs.Laid.{CellLaid, MayReplace, Replaces}
+use Rattle.right.specs.Valid.{Valid}
 use Rattle.items.specs.Items.{replaces}
 use Rattle.placing.specs.Slots.{atSlot}
-use Rattle.working_out.specs.Reading.{Each, cellOf}
-use Rattle.working_out.specs.Laid.{CellLaid, MayReplace, Replaces, netsOf}
-use Rattle.bound.specs.Bounded.{Bounded}
 use Rattle.accepted.proofs.Laid.{cell-takes}
-use Rattle.accepted.specs.Voids.{netsBesideClock, NoVoid}
 use Rattle.valid.specs.Words.{operationOfCell}
 use Rattle.valid.proofs.Records.{Right}
 use Rattle.valid.proofs.Replacements.{RightReplacement}
-use Rattle.valid.specs.Valid.{Valid}
 use Rattle.valid.proofs.Voids.{standing-not-void, Readable}
 
 each-both :

@@ -4,11 +4,11 @@ use mathlib.Core.List.{List}
 use Prim.Native.Nat.{ℕ, _≤_}
 use lib.ListN.{length}
 use Rattle.cell.specs.Design.{Design}
+use Rattle.right.specs.Valid.{Valid}
 use Rattle.design_list.specs.Read.{read, accepted}
 use Rattle.design_list.proofs.AcceptedLaws.{accepted-read}
 use Rattle.valid.specs.Words.{wordsOf, replacementsAt, pairsAt}
 use Rattle.valid.proofs.Stands.{stands-whole}
-use Rattle.valid.specs.Valid.{Valid}
 use Rattle.valid.proofs.Stages.{stands-read}
 use Rattle.valid.proofs.Converse.{accepted-valid}
 use Rattle.valid.proofs.Lists.{accepted-same}

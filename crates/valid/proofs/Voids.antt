@@ -15,17 +15,19 @@ use Rattle.logic.specs.declared.Trit.{Trit}
 use Rattle.cell.specs.Cell.{Cell, Control, FlipFlop, standing, standsVoid, standsDff}
 use Rattle.cell.specs.Cell as C
 use Rattle.cell.specs.Operation.{standingOf}
-use Rattle.cell.specs.Design.{Placed, NetPair, Design, total}
+use Rattle.cell.specs.Design.{Placed, NetPair, Design, total, cellOf}
+use Rattle.cell.specs.Role.{role, isVoid}
+use Rattle.cell.specs.Each.{Each}
+use Rattle.cell.proofs.EachLaws.{each-append}
+use Rattle.right.specs.Nets.{Within, netsOf}
+use Rattle.right.specs.Voids.{netsBesideClock, NoVoid}
+use Rattle.right.specs.Laid.{Run}
 use Rattle.fields.specs.declared.Scan.the-variants.{Clean}
 use Rattle.fields.specs.Field.{scanMany}
 use Rattle.placing.specs.Slots as Slots
 use Rattle.placing.specs.Slots.{takes}
 use Rattle.voids.specs.Voids.{namesVoid, offends, voidAt, clockAt, recordVoidsAt, replacementVoidsAt, pairVoidsAt}
-use Rattle.working_out.specs.Reading.{Each, cellOf, role, isVoid}
-use Rattle.working_out.proofs.ReadingLaws.{each-append}
-use Rattle.working_out.specs.Laid.{Run, Within, netsOf}
 use Rattle.accepted.proofs.Laid.{cell-takes}
-use Rattle.accepted.specs.Voids.{netsBesideClock, NoVoid}
 use Rattle.valid.specs.Words.{netWordOf, controlWordOf, tritWordOf, patternWordsOf, operationOfCell, contentsOf}
 use Rattle.valid.specs.Words.{bodyOf, recordOf, replacementWordsOf, pairWordsOf}
 use Rattle.valid.proofs.Stands.{wordAt, Stands, stands-tail, stands-inside, scan-words, each-words, each-items}

@@ -11,6 +11,9 @@ use borrow.Author.Tests.{eq-eqb, ne-eqb, lt-ltb, le-ltb}
 use Rattle.cell.specs.Cell.{Cell, outputLen, slotsOf}
 use Rattle.cell.specs.Design.{Design, Placed, total}
 use Rattle.cell.specs.declared.Operation.{Operation}
+use Rattle.cell.specs.Each.{Each}
+use Rattle.cell.proofs.EachLaws.{each-map}
+use Rattle.right.specs.Laid.{Ascending}
 use Rattle.cell_reader.specs.Parse.{numberIn, cellAt, endAt}
 use Rattle.cell_reader.specs.Accepted.{IsRecord}
 use Rattle.placing.specs.Slots.{atSlot}
@@ -19,9 +22,6 @@ use Rattle.placing.proofs.Laws.{limit-low}
 use Rattle.placing.specs.Cover.{Walk, done, placed}
 use Rattle.design_list.specs.Read.{read, accepted}
 use Rattle.design_list.proofs.AcceptedLaws.{accepted-read}
-use Rattle.working_out.specs.Reading.{Each}
-use Rattle.working_out.proofs.ReadingLaws.{each-map}
-use Rattle.working_out.specs.Laid.{Ascending}
 use Rattle.accepted.proofs.Cells.{cell-read}
 use Rattle.accepted.proofs.Replacements.{Climb, climb-ascends, IsReplacement}
 use Rattle.accepted.proofs.Replacements as R

@@ -11,6 +11,7 @@ use lib.ListN.{length, take}
 use lib.Seq.{sets-eq, take-at}
 use Rattle.cell.specs.Cell.{Cell, outputLen, slotsOf}
 use Rattle.cell.specs.Design.{Design, Placed, NetPair, total}
+use Rattle.right.specs.Laid.{Run}
 use Rattle.fields.specs.declared.Number.{Number}
 use Rattle.fields.specs.declared.Number.the-variants as N
 use Rattle.fields.specs.Field.{onNumber, numberAt}
@@ -21,7 +22,6 @@ use Rattle.items.specs.Items.{countsAt, headerAt, netPair, pairAt}
 use Rattle.design_list.specs.Read.{read, accepted}
 use Rattle.design_list.proofs.AcceptedLaws.{accepted-read}
 use Rattle.working_out.specs.Reading.{Pair, equal, ofVoid, ofDffs, ordinary, readsPast, pairOf}
-use Rattle.working_out.specs.Laid.{Run}
 use Rattle.accepted.proofs.Replacements.{climb-read, IsPair, pair-read}
 use Rattle.accepted.proofs.Laid.{accepted-laid}
 use Rattle.order.specs.Verify.{Step, addCell, withNew, cellSteps, pairSteps, eachCell, eachPair, steps, newCellIn}

@@ -7,9 +7,9 @@ use Prim.Native.Nat.{ℕ, _+_, _≤_, _<_}
 use lib.Dec.{eqb, ltb}
 use lib.ListN.{length}
 use Rattle.cell.specs.Cell.{Cell}
+use Rattle.right.specs.Bounds.{Bounded}
+use Rattle.right.specs.Shape.{Shaped}
 use Rattle.cell_reader.specs.Parse.{numberIn, cellAt, endAt}
-use Rattle.rules.specs.Shape.{Shaped}
-use Rattle.bound.specs.Bounded.{Bounded}
 use Rattle.order.specs.Verify.{Step, addCell, withNew}
 
 -- Whether the replacement at a place, up to the place `end` of the first net replacement, is that of a slot.

@@ -6,9 +6,9 @@ use Prim.Native.Nat.{ℕ}
 use lib.ListN.{length, getD}
 use Rattle.cell.specs.Cell.{Cell, outputLen}
 use Rattle.cell.specs.Design.{Design}
+use Rattle.right.specs.Shape.{Shaped}
 use Rattle.rules.specs.Reads.{currentReads}
 use Rattle.working_out.specs.Reading.{readsPast, asserted}
-use Rattle.working_out.specs.Laid.{Shaped}
 use Rattle.working_out.specs.Equations.{Rule}
 
 module _ {A : Type 0} (rule : Rule A) (d : Design) where

@@ -11,14 +11,15 @@ use Rattle.logic.specs.declared.Trit.{Trit}
 use Rattle.cell.specs.Cell.{Cell, outputLen}
 use Rattle.cell.specs.Cell as c
 use Rattle.cell.specs.Design.{Design, Placed, NetPair}
+use Rattle.cell.specs.Each.{Each}
+use Rattle.cell.proofs.EachLaws.{each-append}
+use Rattle.right.specs.Laid.{Laid, CellLaid, Replaces, MayReplace}
 use Rattle.rules.specs.Trits.{refines}
 use Rattle.rules.specs.Refine.{Refine, empty, both}
 use Rattle.rules.specs.CellRule.{Trits, outputs}
-use Rattle.rules.proofs.ShapeLaws.{cellRule-length}
+use Rattle.rules.proofs.CellRuleLaws.{cellRule-length}
 use Rattle.working_out.proofs.OrderLaws.{true-of, not-false}
-use Rattle.working_out.specs.Reading.{Each, readsPast, Pair, equal, ofVoid, ofDffs, ordinary, pairOf}
-use Rattle.working_out.proofs.ReadingLaws.{each-append}
-use Rattle.working_out.specs.Laid.{Laid, CellLaid, Replaces, MayReplace}
+use Rattle.working_out.specs.Reading.{readsPast, Pair, equal, ofVoid, ofDffs, ordinary, pairOf}
 use Rattle.working_out.specs.Obligations.{Obligation, cell, cellObligations, ofPair, netObligations, obligations}
 use Rattle.working_out.specs.Obligations.{fromOf, toOf, allRefine, broken}
 

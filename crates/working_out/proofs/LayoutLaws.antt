@@ -11,12 +11,13 @@ use lib.Dec.{ltb, leb, le→leb, ltb→lt, lt→ltb}
 use Rattle.logic.specs.Net.{Net}
 use Rattle.cell.specs.Cell.{Cell, outputLen, slotsOf}
 use Rattle.cell.specs.Cell as c
-use Rattle.cell.specs.Design.{Design, Placed, total}
+use Rattle.cell.specs.Design.{Design, Placed, total, isIn, cellIn, cellOf}
+use Rattle.cell.specs.Role.{Role, void, given, dff, other, role, isVoid}
+use Rattle.cell.specs.Each.{Each}
+use Rattle.right.specs.Laid.{Run, Laid}
 use Rattle.working_out.proofs.OrderLaws.{none≢some, some-inj, true-of}
 use Rattle.working_out.proofs.SystemLaws.{Owned}
-use Rattle.working_out.specs.Reading.{Each, isIn, cellIn, cellOf, Role, void, given, dff, other, role, isVoid}
 use Rattle.working_out.specs.Reading.{replacement, sourceBy, source, nodeOf}
-use Rattle.working_out.specs.Laid.{Run, Laid}
 
 in-true : (p : Placed) (i : ℕ) → p .slot ≤ i → i < p .slot + slotsOf (p .cell) → isIn p i ≡ true
 in-true p i l h =

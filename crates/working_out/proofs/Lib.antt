@@ -4,7 +4,6 @@ pub mod Judged
 pub mod LayoutLaws
 pub mod Nodes
 pub mod OrderLaws
-pub mod ReadingLaws
 pub mod Replaced
 pub mod Solutions
 pub mod SystemLaws

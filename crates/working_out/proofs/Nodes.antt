@@ -8,11 +8,12 @@ use native.Mathlib.Omega.{arith}
 use lib.Dec.{eqb}
 use Rattle.logic.specs.Net.{Net}
 use Rattle.cell.specs.Cell.{outputLen, slotsOf}
-use Rattle.cell.specs.Design.{Design, Placed, total}
+use Rattle.cell.specs.Design.{Design, Placed, total, cellOf}
+use Rattle.cell.specs.Role.{Role, void, given, dff, other, role, isVoid}
+use Rattle.right.specs.Shape.{Shaped}
+use Rattle.right.specs.Laid.{Laid, CellLaid}
 use Rattle.working_out.proofs.OrderLaws.{eqb-false}
-use Rattle.working_out.specs.Reading.{cellOf, Role, void, given, dff, other, role, isVoid, replacement, sourceBy}
-use Rattle.working_out.specs.Reading.{source, assertedBy, asserted, nodeOf}
-use Rattle.working_out.specs.Laid.{Laid, CellLaid, Shaped}
+use Rattle.working_out.specs.Reading.{replacement, sourceBy, source, assertedBy, asserted, nodeOf}
 use Rattle.working_out.proofs.LayoutLaws.{Located, belongs, belongs-low, at, void-one, node-first}
 use Rattle.working_out.proofs.LayoutLaws.{source-some, source-same, each-at}
 use Rattle.working_out.specs.Loop.{bufOf, ruleCell, nodeCell}

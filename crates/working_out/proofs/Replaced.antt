@@ -9,10 +9,11 @@ use native.Mathlib.Omega.{arith}
 use lib.Dec.{eqb→eq}
 use Rattle.working_out.proofs.OrderLaws.{eqb-same}
 use Rattle.logic.specs.Net.{Net, constant, slot, payloadOfNet}
-use Rattle.cell.specs.Design.{Design, NetPair}
-use Rattle.working_out.specs.Reading.{Each, cellOf, role, isVoid, isDff, sameNet, replacementIn, equal}
-use Rattle.working_out.specs.Reading.{ofVoid, ofDffs, ordinary, netRole, pairOf}
-use Rattle.working_out.specs.Laid.{Ascending}
+use Rattle.cell.specs.Design.{Design, NetPair, cellOf}
+use Rattle.cell.specs.Role.{role, isVoid, isDff}
+use Rattle.cell.specs.Each.{Each}
+use Rattle.right.specs.Laid.{Ascending}
+use Rattle.working_out.specs.Reading.{sameNet, replacementIn, equal, ofVoid, ofDffs, ordinary, netRole, pairOf}
 
 pub same-slot : (n : Net) (i : ℕ) → sameNet n (slot i) ≡ true → n ≡ slot i
 same-slot (constant t) i e = absurd (false≢true e)

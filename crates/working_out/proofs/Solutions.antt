@@ -14,24 +14,23 @@ use Rattle.logic.specs.Net.{slot}
 use Rattle.logic.specs.Table.{tab}
 use Rattle.logic.proofs.TableLaws.{tab-ext, as-tab, map-tab}
 use Rattle.cell.specs.Cell.{outputLen}
-use Rattle.cell.specs.Design.{Design, total}
+use Rattle.cell.specs.Design.{Design, total, cellOf}
+use Rattle.cell.specs.Each.{Each}
+use Rattle.right.specs.Laid.{Laid}
 use Rattle.rules.specs.CellRule.{outputs}
 use Rattle.working_out.proofs.GraphLaws as g
 use Rattle.working_out.proofs.SystemLaws as s
 use Rattle.working_out.proofs.SystemLaws.{Keeps, Solves}
 use Rattle.working_out.specs.System.{start}
-use Rattle.working_out.specs.Reading.{Each, cellOf, source, nodeOf}
-use Rattle.working_out.specs.Laid.{Laid}
+use Rattle.working_out.specs.Reading.{source, nodeOf}
 use Rattle.working_out.proofs.LayoutLaws.{belongs, belongs-low, at, owned, node-first, source-none}
 use Rattle.working_out.proofs.LayoutLaws.{none-source, each-at, at-each}
 use Rattle.working_out.proofs.Replaced.{OfSlot, slot-of-pairs, pairs-of-slot}
 use Rattle.working_out.proofs.Nodes.{Kind, ofCell, ofReplaced, kind, node-void, node-asserted}
-use Rattle.working_out.proofs.Nodes.{node-shaped, same-node, inside, outputs-belong, cell-node}
-use Rattle.working_out.proofs.Nodes.{void-is-node}
+use Rattle.working_out.proofs.Nodes.{node-shaped, same-node, inside, outputs-belong, cell-node, void-is-node}
 use Rattle.working_out.specs.Loop.{bufOf, nodeCell, current, reads, Loop, order, hasLoop}
 use Rattle.working_out.specs.Equations.{Rule, CellShown, Solution, slotRule, workedOutBy}
-use Rattle.working_out.proofs.EquationsLaws.{Wide, CellKeeps}
-use Rattle.working_out.proofs.EquationsLaws.{CellLocal}
+use Rattle.working_out.proofs.EquationsLaws.{Wide, CellKeeps, CellLocal}
 
 at-tab : {A : Type 0} (blank : A) (n : ℕ) (f : ℕ → A) (o : ℕ) → o < n → getD (tab n f) o blank ≡ f o
 unfolding tab

@@ -11,14 +11,15 @@ use Rattle.logic.specs.declared.Trit.the-variants.{Undef}
 use Rattle.cell.specs.Cell.{Cell, outputLen}
 use Rattle.cell.specs.Cell as c
 use Rattle.cell.specs.Design.{Design, NetPair}
+use Rattle.cell.specs.Each.{Each}
+use Rattle.cell.proofs.EachLaws.{each-map}
+use Rattle.right.specs.Laid.{Laid}
 use Rattle.rules.specs.CellRule.{Trits, outputs, read}
 use Rattle.rules.specs.Refine.{Refines}
 use Rattle.rules.proofs.RefineLaws.{refine-at}
-use Rattle.rules.proofs.ShapeLaws.{cellRule-length}
+use Rattle.rules.proofs.CellRuleLaws.{cellRule-length}
 use Rattle.rules.proofs.LocalLaws.{cellRule-monotone, cellRule-local}
-use Rattle.working_out.specs.Reading.{Each, readsPast, source, asserted, ofVoid, pairOf}
-use Rattle.working_out.proofs.ReadingLaws.{each-map}
-use Rattle.working_out.specs.Laid.{Laid}
+use Rattle.working_out.specs.Reading.{readsPast, source, asserted, ofVoid, pairOf}
 use Rattle.working_out.specs.Loop.{hasLoop}
 use Rattle.working_out.proofs.EquationsLaws.{Wide, CellKeeps, CellLocal}
 use Rattle.working_out.proofs.Solutions.{related-by, worked-out-by, only-by}

@@ -7,10 +7,11 @@ use Prim.Native.Nat.{ℕ, _-_}
 use lib.ListN.{getD}
 use Rattle.logic.specs.Net.{slot}
 use Rattle.cell.specs.Cell.{Cell, outputLen}
-use Rattle.cell.specs.Design.{Design, Placed, NetPair}
+use Rattle.cell.specs.Design.{Design, Placed, NetPair, cellOf}
+use Rattle.cell.specs.Each.{Each}
 use Rattle.rules.specs.CellRule.{outputs}
 use Rattle.working_out.specs.System.{workOut}
-use Rattle.working_out.specs.Reading.{Each, cellOf, source, asserted, nodeOf, ofVoid, pairOf}
+use Rattle.working_out.specs.Reading.{source, asserted, nodeOf, ofVoid, pairOf}
 use Rattle.working_out.specs.Loop.{bufOf, nodeCell, order}
 
 abbrev pub Rule : Type 0 → Type 0

@@ -3,7 +3,6 @@ pub mod Loop
 pub mod Equations
 pub mod WorkingOut
 pub mod Obligations
-pub mod Laid
 pub mod Order
 pub mod Graph
 pub mod System

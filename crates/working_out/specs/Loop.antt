@@ -7,13 +7,14 @@ use Prim.Native.Nat.{ℕ}
 use Rattle.logic.specs.Net.{Net}
 use Rattle.cell.specs.Cell.{Cell}
 use Rattle.cell.specs.Cell as c
-use Rattle.cell.specs.Design.{Design, total}
+use Rattle.cell.specs.Design.{Design, total, cellOf}
+use Rattle.cell.specs.Role.{role, isVoid}
 use Rattle.rules.specs.Reads.{currentReads}
 use Rattle.working_out.specs.Graph as g
 use Rattle.working_out.specs.Graph.{undone}
 use Rattle.working_out.specs.Order.{isSome}
 use Rattle.working_out.specs.System as s
-use Rattle.working_out.specs.Reading.{role, isVoid, cellOf, readsPast, replacement, nodeOf}
+use Rattle.working_out.specs.Reading.{readsPast, replacement, nodeOf}
 
 -- The cell by whose rule a node gets its trits: an asserted cell itself; for a replaced Void, which gets its
 -- replacement's `to` as read, a Buf of `to`.

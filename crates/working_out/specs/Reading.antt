@@ -4,57 +4,15 @@ use mathlib.Core.Path.{_≡_}
 use mathlib.Core.Bool.{Bool, true, false, not, cond, _&&_}
 use mathlib.Core.Option.{Option, none, some}
 use mathlib.Core.List.{List, [], _∷_}
-use Prim.Native.Nat.{ℕ, _+_}
-use lib.Dec.{eqb, ltb, leb}
+use Prim.Native.Nat.{ℕ}
+use lib.Dec.{eqb, ltb}
 use Rattle.logic.specs.Trit.{tritNumber}
 use Rattle.logic.specs.Net.{Net, constant, slot}
-use Rattle.cell.specs.Cell.{Cell, outputLen, slotsOf}
-use Rattle.cell.specs.Cell as c
-use Rattle.cell.specs.Design.{Design, Placed, NetPair}
+use Rattle.cell.specs.Cell.{Cell, outputLen}
+use Rattle.cell.specs.Design.{Design, NetPair, cellOf}
+use Rattle.cell.specs.Role.{Role, void, given, dff, other, role, isVoid, isDff}
+use Rattle.cell.specs.Each.{Each}
 use Rattle.rules.specs.CellRule.{Trits, ofNet}
-pub use Rattle.rules.specs.Width.{Each}
-
--- ---- The cell that a slot belongs to; a slot past the last cell counts as a Note's.
-abbrev pub isIn : Placed → ℕ → Bool
-isIn p i = leb (p .slot) i && ltb i (p .slot + slotsOf (p .cell))
-
-unfoldable pub cellIn : List Placed → ℕ → Placed
-cellIn [] i = record { slot = i; cell = c.note }
-cellIn (p ∷ cells) i = cond (isIn p i) p (cellIn cells i)
-
-abbrev pub cellOf : Design → ℕ → Placed
-cellOf d = cellIn (d .cells)
-
--- ---- What a cell is to the reading of nets: a Void, given from outside (Input and IoBuf), a Dff, or any other.
-pub data Role : Type 0 where
-  void given dff other : Role
-
-abbrev pub role : Cell → Role
-role c.void = void
-role c.note = other
-role (c.input n) = given
-role (c.ioBuf n) = given
-role (c.unary op a) = other
-role (c.binary op a b) = other
-role (c.mux s a b) = other
-role (c.adc a b carry) = other
-role (c.aig a b) = other
-role (c.shift op value amount stride) = other
-role (c.match value enable patterns) = other
-role (c.assign value enable update offset) = other
-role (c.dff f) = dff
-
-abbrev pub isVoid : Role → Bool
-isVoid void = true
-isVoid given = false
-isVoid dff = false
-isVoid other = false
-
-abbrev pub isDff : Role → Bool
-isDff void = false
-isDff given = false
-isDff dff = true
-isDff other = false
 
 -- ---- A slot of a base Dff, of width 0 too, reads its past trit; every other slot its current one.
 abbrev pub readsPast : Design → ℕ → Bool

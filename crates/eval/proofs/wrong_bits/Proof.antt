@@ -1,7 +1,8 @@
 -- `eval::wrong_bits` meets its contract: each way out has what its tests say. Assumes nothing.
-use mathlib.Core.Path.{sym, ap, _∙_}
+use mathlib.Core.Path.{_≡_, sym, ap, _∙_}
 use borrow.Author.Tests.{lt-ltb, le-ltb}
 use Rattle.call_list.specs.Operations.{isDeclare}
+use Rattle.call_list.specs.Literal.{payloads}
 use borrow.Author.Needs.{needs}
 use Rattle.eval.proofs.wrong_bits.Statement.{statement}
 use Rattle.eval.proofs.wrong_bits.Tie as tie
@@ -31,10 +32,14 @@ returns c =
     let told = asked .before in
     let declares = sym (told .before .is-declare .ensures ∙ ap isDeclare (told .before .before .operation-at .ensures))
     ∙ told .if1 .taken in
+    let opened = told .before .before .before in
+    let start = opened .before .before .args in
+    let width : fit .before .argument-at .result ≡ payloads (start .calls .now) (start .at) 3 =
+    fit .before .argument-at .ensures in
     rw (
       declares,
       lt-ltb _ _ (asked .if2 .taken),
-      ← fit .before .argument-at .ensures,
+      ← width,
       ← fit .fits-width .ensures,
       c .if3 .taken,
     )
@@ -46,10 +51,14 @@ returns-2 c =
     let told = asked .before in
     let declares = sym (told .before .is-declare .ensures ∙ ap isDeclare (told .before .before .operation-at .ensures))
     ∙ told .if1 .taken in
+    let opened = told .before .before .before in
+    let start = opened .before .before .args in
+    let width : fit .before .argument-at .result ≡ payloads (start .calls .now) (start .at) 3 =
+    fit .before .argument-at .ensures in
     rw (
       declares,
       lt-ltb _ _ (asked .if2 .taken),
-      ← fit .before .argument-at .ensures,
+      ← width,
       ← fit .fits-width .ensures,
       c .if3 .left,
     )

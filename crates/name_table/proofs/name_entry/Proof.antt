@@ -2,6 +2,8 @@
 use borrow.Author.Tests.{lt-ltb, le-ltb, le-leb, lt-leb, eq-eqb, ne-eqb}
 use borrow.Author.Needs.{needs}
 use native.Mathlib.Omega.{arith}
+use mathlib.Core.Path.{_≡_}
+use Rattle.name_table.specs.Names.{slotOf}
 use Rattle.name_table.proofs.name_entry.Statement.{statement}
 use Rattle.name_table.proofs.name_entry.Tie as tie
 
@@ -21,17 +23,25 @@ cast-result c =
 
 returns : tie.Need-returns
 returns c =
+    let found = c .before .before in
+    let name = found .before .before .before .args in
+    let slot : found .name-slot .result ≡ slotOf (name .letter) (name .index) (name .suffix) =
+    found .name-slot .ensures in
     rw (
-      lt-ltb _ _ (c .before .before .before .if1 .taken),
-      ← c .before .before .name-slot .ensures,
+      lt-ltb _ _ (found .before .if1 .taken),
+      ← slot,
       lt-ltb _ _ (c .before .if2 .taken),
     )
 
 returns-2 : tie.Need-returns-2
 returns-2 c =
+    let found = c .before in
+    let name = found .before .before .before .args in
+    let slot : found .name-slot .result ≡ slotOf (name .letter) (name .index) (name .suffix) =
+    found .name-slot .ensures in
     rw (
-      lt-ltb _ _ (c .before .before .if1 .taken),
-      ← c .before .name-slot .ensures,
+      lt-ltb _ _ (found .before .if1 .taken),
+      ← slot,
       le-ltb _ _ (c .if2 .left),
     )
 

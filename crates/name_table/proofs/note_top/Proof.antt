@@ -2,6 +2,8 @@
 use borrow.Author.Needs.{needs}
 use borrow.Author.Tests.{lt-ltb, le-ltb}
 use native.Mathlib.Omega.{arith}
+use mathlib.Core.Path.{_≡_}
+use Rattle.call_list.specs.Literal.{payloads}
 use Rattle.name_table.proofs.note_top.Statement.{statement}
 use Rattle.name_table.proofs.note_top.Tie as tie
 
@@ -54,12 +56,16 @@ returns c =
     let first = second .before in
     let told = first .before in
     let declares = told .before in
+    let opened = declares .before .before in
+    let start = opened .before .before .args in
+    let index : second .argument-at2 .result ≡ payloads (start .calls .now) (start .at) 1 =
+    second .argument-at2 .ensures in
     rw (
       ← declares .before .operation-at .ensures,
       ← declares .is-declare .ensures,
       told .if1 .taken,
       ← first .argument-at .ensures,
-      ← second .argument-at2 .ensures,
+      ← index,
       ← third .argument-at3 .ensures,
       ← topped .top-of .ensures,
       lt-ltb _ _ (tested .if2 .taken),
@@ -77,12 +83,16 @@ returns-2 c =
     let first = second .before in
     let told = first .before in
     let declares = told .before in
+    let opened = declares .before .before in
+    let start = opened .before .before .args in
+    let index : second .argument-at2 .result ≡ payloads (start .calls .now) (start .at) 1 =
+    second .argument-at2 .ensures in
     rw (
       ← declares .before .operation-at .ensures,
       ← declares .is-declare .ensures,
       told .if1 .taken,
       ← first .argument-at .ensures,
-      ← second .argument-at2 .ensures,
+      ← index,
       ← third .argument-at3 .ensures,
       ← topped .top-of .ensures,
       le-ltb _ _ (c .if2 .left),

@@ -6,6 +6,7 @@ use mathlib.Core.Path.{sym}
 use lib.Seq.{length-take-le}
 use Rattle.text.proofs.NamesLaws.{spelling-length}
 use Rattle.text.proofs.Write.{start-inside, start-bytes}
+use Rattle.reply.specs.Step.{slotPair}
 use Rattle.reply.proofs.slot_pair_at.Statement.{statement}
 use Rattle.reply.proofs.slot_pair_at.Tie as tie
 
@@ -35,6 +36,7 @@ pair-at-requires : tie.Need-pair-at-requires
 pair-at-requires c κs = search needs
 
 returns : tie.Need-returns
+unfolding slotPair
 returns c =
     let spelled = c .before .before .before in
     let start = spelled .before .before .before in

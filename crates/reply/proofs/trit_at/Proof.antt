@@ -1,6 +1,8 @@
 -- `reply::trit_at` meets its contract: x and then y, and the trit that they show. Assumes nothing.
 use borrow.Author.Needs.{needs}
-use Rattle.reply.specs.Step.{trit}
+use mathlib.Core.Path.{_≡_}
+use Rattle.tokens.specs.Place.{tokensFrom}
+use Rattle.reply.specs.Step.{bitResult, slotPair, trit}
 use Rattle.reply.proofs.trit_at.Statement.{statement}
 use Rattle.reply.proofs.trit_at.Tie as tie
 
@@ -33,8 +35,11 @@ unfolding trit
 returns c =
     let first-read = c .before in
     let first = first-read .before .before in
+    let start = first .before .before .args in
+    let x-asked : slotPair (start .letter) (start .slot) 120 (tokensFrom (start .text .now) (start .at))
+    ≡ bitResult (start .text .now) (first .slot-pair-at .result) = first .slot-pair-at .ensures in
     rw (
-      first .slot-pair-at .ensures,
+      x-asked,
       first-read .e .given .1,
     )
 
@@ -45,8 +50,11 @@ returns-2 c =
     let second = second-read .before .before in
     let first-read = second .before .before in
     let first = first-read .before .before in
+    let start = first .before .before .args in
+    let x-asked : slotPair (start .letter) (start .slot) 120 (tokensFrom (start .text .now) (start .at))
+    ≡ bitResult (start .text .now) (first .slot-pair-at .result) = first .slot-pair-at .ensures in
     rw (
-      first .slot-pair-at .ensures,
+      x-asked,
       first-read .x .given .1,
       second .slot-pair-at2 .ensures,
       second-read .e2 .given .1,
@@ -60,8 +68,11 @@ returns-3 c =
     let second = y-read .before .before in
     let x-read = second .before .before in
     let first = x-read .before .before in
+    let start = first .before .before .args in
+    let x-asked : slotPair (start .letter) (start .slot) 120 (tokensFrom (start .text .now) (start .at))
+    ≡ bitResult (start .text .now) (first .slot-pair-at .result) = first .slot-pair-at .ensures in
     rw (
-      first .slot-pair-at .ensures,
+      x-asked,
       x-read .x .given .1,
       second .slot-pair-at2 .ensures,
       y-read .y .given .1,

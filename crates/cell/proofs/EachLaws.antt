@@ -1,6 +1,6 @@
--- Laws of the definitions of Reading.
+-- Laws of the definitions of Each.
 use mathlib.Core.List.{List, [], _∷_, _++_}
-use Rattle.rules.specs.Width.{Each}
+use Rattle.cell.specs.Each.{Each}
 
 pub each-map : {A : Type 0} {P Q : A → Type 0} (l : List A) → ((x : A) → P x → Q x) → Each P l → Each Q l
 each-map [] f h = tt

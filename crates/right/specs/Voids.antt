@@ -1,5 +1,4 @@
--- Document 01, fault 10: in an accepted list no net word other than a Dff clock or a replacement's from names a Void of
--- the base.
+-- Document 01, fault 10: no net word other than a Dff clock or a replacement's from names a Void of the base.
 use mathlib.Core.Path.{_≡_}
 use mathlib.Core.Bool.{false}
 use mathlib.Core.List.{List, _∷_}
@@ -7,9 +6,10 @@ use Prim.Native.Nat.{_<_}
 use Rattle.logic.specs.Net.{Net, constant, slot}
 use Rattle.cell.specs.Cell.{Cell}
 use Rattle.cell.specs.Cell as C
-use Rattle.cell.specs.Design.{Placed, NetPair, Design}
-use Rattle.working_out.specs.Reading.{Each, cellOf, role, isVoid}
-use Rattle.working_out.specs.Laid.{netsOf}
+use Rattle.cell.specs.Design.{Placed, NetPair, Design, cellOf}
+use Rattle.cell.specs.Role.{role, isVoid}
+use Rattle.cell.specs.Each.{Each}
+use Rattle.right.specs.Nets.{netsOf}
 
 -- The nets that a cell names, but for a Dff's clock.
 abbrev pub netsBesideClock : Cell → List Net

@@ -1,4 +1,4 @@
--- Laws of the definitions of Shape.
+-- Laws of the definitions of CellRule: how many trits the rule of an accepted cell gives.
 use mathlib.Core.Path.{_≡_, refl, _∙_}
 use mathlib.Core.Bool.{Bool}
 use mathlib.Core.List.{List, map}
@@ -8,11 +8,11 @@ use Rattle.logic.specs.Net.{Net}
 use Rattle.logic.specs.declared.Trit.{Trit}
 use Rattle.cell.specs.Cell.{Cell, FlipFlop, outputLen}
 use Rattle.cell.specs.Cell as c
+use Rattle.right.specs.Shape.{Shaped}
 use Rattle.rules.specs.Rules as r
 use Rattle.rules.specs.CellRule.{Trits, read, asRead, flipFlopInputs, cellRule}
 use Rattle.rules.proofs.WidthLaws.{Width, InputsWidth, cond-width, mux-width, clocked-width}
 use Rattle.rules.proofs.WidthLaws.{unary-width, binary-width, adc-width, shift-width, match-width, assign-width}
-use Rattle.rules.specs.Shape.{Shaped}
 
 -- ---- The rule of an accepted cell gives a trit for each of its output slots; an Input has none.
 map-width : {A : Type 0} (f : A → Trit) (a : List A) (n : ℕ) → length a ≡ n → Width n (map f a)

@@ -1,57 +1,33 @@
--- What the list reader guarantees of an accepted list (document 01, "Words" and faults 6, 7, 9, 11, 12, 13): the layout
--- on which reading nets and working out rely.
+-- Document 01, faults 11, 12 and 13: the cells cover the slots, and the replacements are right. With faults 6, 7 and 9
+-- of every cell it is the layout on which reading nets and working out rely.
 use mathlib.Core.Path.{_≡_}
 use mathlib.Core.Bool.{false}
-use mathlib.Core.List.{List, [], _∷_, _++_}
+use mathlib.Core.List.{List, [], _∷_}
 use Prim.Native.Nat.{ℕ, _+_, _≤_, _<_}
-use Rattle.logic.specs.Net.{Net, constant, slot, payloadOfNet}
+use Rattle.logic.specs.Net.{payloadOfNet}
 use Rattle.cell.specs.Cell.{Cell, outputLen, slotsOf}
 use Rattle.cell.specs.Cell as c
-use Rattle.cell.specs.Design.{Design, Placed, NetPair, total}
-pub use Rattle.rules.specs.Shape.{Shaped}
-use Rattle.working_out.specs.Reading.{Each, role, isVoid, cellOf}
+use Rattle.cell.specs.Design.{Design, Placed, NetPair, total, cellOf}
+use Rattle.cell.specs.Role.{role, isVoid}
+use Rattle.cell.specs.Each.{Each}
+use Rattle.right.specs.Nets.{netsOf, Within}
+use Rattle.right.specs.Shape.{Shaped}
 
--- The cells stand in slot order without a gap, from slot s up to slot e.
-abbrev pub Run : ℕ → List Placed → ℕ → Type 0
-Run s [] e = s ≡ e
-Run s (p ∷ cells) e = (p .slot ≡ s) × Run (s + slotsOf (p .cell)) cells e
-
--- Strictly ascending by a number.
-abbrev pub Ascending : {A : Type 0} → (A → ℕ) → List A → Type 0
-Ascending key [] = Unit {0}
-Ascending key (x ∷ l) = Each (λ y. key x < key y) l × Ascending key l
-
--- The nets that a cell names, in the order of its words.
-abbrev pub netsOf : Cell → List Net
-netsOf c.void = []
-netsOf c.note = []
-netsOf (c.input n) = []
-netsOf (c.ioBuf n) = []
-netsOf (c.unary op a) = a
-netsOf (c.binary op a b) = a ++ b
-netsOf (c.mux s a b) = s ∷ (a ++ b)
-netsOf (c.adc a b carry) = a ++ (b ++ (carry ∷ []))
-netsOf (c.aig a b) = a .net ∷ b .net ∷ []
-netsOf (c.shift op value amount stride) = value ++ amount
-netsOf (c.match value enable patterns) = enable ∷ value
-netsOf (c.assign value enable update offset) = enable ∷ (value ++ update)
-netsOf (c.dff f) = f .clock .net ∷ f .clear .net ∷ f .reset .net ∷ f .enable .net ∷ f .dat
-
--- A net word's slot is below base + added.
-abbrev pub Within : ℕ → Net → Type 0
-Within n (constant t) = Unit {0}
-Within n (slot i) = i < n
-
--- A cell of the design, or the new cell of a replacement.
+-- ---- A cell of the design, or the new cell of a replacement (6, 7, 9).
 pub record CellLaid (d : Design) (p : Placed) : Type 0 where
   pub shaped : Shaped (p .cell)
   pub within : Each (Within (total d)) (netsOf (p .cell))
+
+-- ---- Fault 11. The cells stand in slot order without a gap, from slot s up to slot e.
+abbrev pub Run : ℕ → List Placed → ℕ → Type 0
+Run s [] e = s ≡ e
+Run s (p ∷ cells) e = (p .slot ≡ s) × Run (s + slotsOf (p .cell)) cells e
 
 -- No cell crosses the base's end.
 abbrev pub Apart : Design → Placed → Type 0
 Apart d p = p .slot < d .base → p .slot + slotsOf (p .cell) ≤ d .base
 
--- A new cell is no Void, Input or Note.
+-- ---- Fault 12. A new cell is no Void, Input or Note.
 abbrev pub MayReplace : Cell → Type 0
 MayReplace c.void = ⊥
 MayReplace c.note = ⊥
@@ -75,6 +51,12 @@ pub record Replaces (d : Design) (p : Placed) : Type 0 where
   pub width : outputLen (p .cell) ≡ outputLen (cellOf d (p .slot) .cell)
   pub new : MayReplace (p .cell)
 
+-- ---- Faults 12 and 13. Strictly ascending by a number: replaced slots, and froms (0, 1, slots, X).
+abbrev pub Ascending : {A : Type 0} → (A → ℕ) → List A → Type 0
+Ascending key [] = Unit {0}
+Ascending key (x ∷ l) = Each (λ y. key x < key y) l × Ascending key l
+
+-- A net replacement's nets (6).
 pub record PairWithin (d : Design) (p : NetPair) : Type 0 where
   pub from : Within (total d) (p .from)
   pub to : Within (total d) (p .to)

@@ -14,6 +14,12 @@ use Rattle.cell.specs.Operation.{numbersOf, fieldsOf, standingOf}
 use Rattle.cell.specs.Design.{Placed, NetPair, Design, total}
 use Rattle.cell.specs.declared.Operation.{Operation}
 use Rattle.cell.specs.declared.Operation.the-variants as O
+use Rattle.cell.specs.Role.{isVoid}
+use Rattle.cell.specs.Each.{Each}
+use Rattle.cell.proofs.EachLaws.{each-map}
+use Rattle.right.specs.Nets.{netsOf}
+use Rattle.right.specs.Voids.{netsBesideClock, NoVoid, VoidsUnread}
+use Rattle.right.specs.Laid.{Run}
 use Rattle.fields.specs.declared.Scan.{Scan}
 use Rattle.fields.specs.declared.Scan.the-variants as S
 use Rattle.fields.specs.Field.{fault, scanMany}
@@ -30,14 +36,10 @@ use Rattle.placing.specs.Cover as Cover
 use Rattle.placing.specs.Cover.{Walk, placed}
 use Rattle.design_list.specs.Read.{read, accepted}
 use Rattle.design_list.proofs.AcceptedLaws.{accepted-read}
-use Rattle.working_out.specs.Reading.{Each, isVoid}
-use Rattle.working_out.proofs.ReadingLaws.{each-map}
-use Rattle.working_out.specs.Laid.{Run, netsOf}
 use Rattle.accepted.proofs.Fields.{each-tab, Stands, Body, body-of}
 use Rattle.accepted.proofs.Cells.{cell-read}
 use Rattle.accepted.proofs.Replacements.{Climb, done, taken, IsReplacement, IsPair}
 use Rattle.accepted.proofs.Laid.{walk-run, cell-takes, not-void, Stages, stages}
-use Rattle.accepted.specs.Voids.{netsBesideClock, NoVoid, VoidsUnread}
 
 module _ (w : List ℕ) (d : Design) (run : Run 0 (d .cells) (total d)) where
   void : ℕ → Bool

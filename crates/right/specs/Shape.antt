@@ -1,10 +1,10 @@
--- Document 01, "Words" and "Faults": the widths of an accepted cell, and with them the width of what its rule gives.
+-- Document 01, faults 7 and 9, and "Operations and bodies": the widths of a cell's vectors.
 use mathlib.Core.Path.{_≡_}
 use Prim.Native.Nat.{ℕ, _+_, _≤_, _<_}
 use lib.ListN.{length}
 use Rattle.cell.specs.Cell.{Cell, Binary, Shift}
 use Rattle.cell.specs.Cell as c
-use Rattle.rules.specs.Width.{Each}
+use Rattle.cell.specs.Each.{Each}
 
 -- Fault 7: Eq, ULt, SLt and SShr have at least one net.
 abbrev pub Wide : Binary → ℕ → Type 0

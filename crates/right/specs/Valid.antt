@@ -3,9 +3,9 @@
 use Prim.Native.Nat.{_≤_}
 use lib.ListN.{length}
 use Rattle.cell.specs.Design.{Design, total}
-use Rattle.working_out.specs.Laid.{Laid}
-use Rattle.bound.specs.Bounded.{Bounds}
-use Rattle.accepted.specs.Voids.{VoidsUnread}
+use Rattle.right.specs.Laid.{Laid}
+use Rattle.right.specs.Bounds.{Bounds}
+use Rattle.right.specs.Voids.{VoidsUnread}
 
 pub record Valid (d : Design) : Type 0 where
   -- Fault 4: base + added ≤ 4,096, each replacement count ≤ 4,096.

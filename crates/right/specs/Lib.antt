@@ -1,0 +1,6 @@
+pub mod Bounds
+pub mod Nets
+pub mod Shape
+pub mod Voids
+pub mod Laid
+pub mod Valid

@@ -1,0 +1,1 @@
+// Which designs are right: those that no fault of document 01 speaks against.
