@@ -27,7 +27,6 @@ use Rattle.engine.proofs.ReachedLaws.{right-read}
 use Rattle.call_list.specs.Operations.{isDeclare}
 use Rattle.call_list.specs.Literal.{payloads}
 use Rattle.engine.specs.Reached.{Tabled}
-use Rattle.term_table.specs.Tables.{pickList}
 use Rattle.term_table.specs.Near.{sortNear, noteRecent}
 use Rattle.term_table.specs.Sorted.{ReadTo}
 use Rattle.term_table.proofs.SortedLaws.{read-start, read-next, terms-next, tabled-before, sorts-few}
@@ -166,7 +165,7 @@ module _ {cs : List Call} {ρ : Assignment} {slice₀ slice : List ℕ} {terms f
       → Evaluating cs ρ slice₀ slice (drop declared bits) (callOf op m p ∷ todo) terms falses x
       → (isDeclare op ≡ true → first (drop declared bits) < 2 ^ p 3)
       → Evaluating cs ρ slice₀
-      (pickList (makesTerm op)
+      (cond (makesTerm op)
       (set slice terms (valueBy s (numberIn slice) (first (drop declared bits)) (callOf op m p))) slice)
       (drop (declared + bit (isDeclare op)) bits) todo (terms + bit (makesTerm op))
       (falses + falseOf op (numberIn slice (p 0)))

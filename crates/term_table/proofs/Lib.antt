@@ -1,5 +1,5 @@
 pub mod NearLaws
+pub mod NotedLaws
 pub mod OriginsLaws
-pub mod PlacedLaws
 pub mod SortedLaws
 pub mod Sums

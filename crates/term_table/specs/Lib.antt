@@ -1,6 +1,4 @@
 pub mod Origins
-pub mod Tables
 pub mod Near
 pub mod Sorted
-pub mod Placed
 pub mod Noted
