@@ -176,7 +176,11 @@ pub struct Cursor {
 fn count_if(holds: bool, count: usize) -> usize
     ensures { λ r. ⌜ r ≡ counted (count + bit holds) ⌝ }
 {
-    if holds { counting::counted_sum(count, 1) } else { count }
+    if holds {
+        counting::counted_sum(count, 1)
+    } else {
+        count
+    }
 }
 
 // How far a list is read after the record at a cursor's place; the largest numbers stay.

@@ -203,7 +203,8 @@ fn put_argument(
     term: Term,
 ) -> usize
     ensures { λ r. ⌜ Wrote (now (text .entry)) at
-        (ascii " " ++ referenceBy (now (places .entry)) gap (now (calls .entry)) terms (term .0)) (now (text .exit)) r ⌝ }
+        (ascii " " ++ referenceBy (now (places .entry)) gap (now (calls .entry)) terms (term .0))
+        (now (text .exit)) r ⌝ }
 {
     let next = text::put_byte(text, at, b' ');
     put_reference(text, next, calls, places, gap, terms, term)
@@ -267,7 +268,8 @@ pub fn put_conjunction(
     n: u32,
 ) -> usize
     ensures { λ r. ⌜ Wrote (now (text .entry)) at
-        (conjunction (argumentTexts (now (places .entry)) gap (now (calls .entry)) terms head n)) (now (text .exit)) r ⌝ }
+        (conjunction (argumentTexts (now (places .entry)) gap (now (calls .entry)) terms head n))
+        (now (text .exit)) r ⌝ }
 {
     if n == 1 {
         let term = Term(call_list::argument_at(calls, head, 0));

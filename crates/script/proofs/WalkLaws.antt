@@ -97,15 +97,47 @@ defines-term o.unknown e = let z : _≡_ {A = ℕ} 0 1 = cc in absurd (omega ari
 ready : (w : List ℕ) (at : ℕ) (x : Context) → Right w at x → Ready w at
 ready w at x right is-literal = literal-fits w at x right (lit-body (operationAt w at) is-literal)
 
--- The walk has come to a cursor's place, past some records; from there on the list is well formed.
-pub record Walked (w table recent : List ℕ) (y : Context) (records : ℕ) (seen : Cursor) : Type 0 where
-  pub read : ReadTo w (seen .at) (leaves start (firstCalls w records)) table (seen .terms)
-  pub ring : Recent (length table) recent (sortsOf (firstCalls w records))
+-- Records passed, in any list.
+pub record Passed (w : List ℕ) (records : ℕ) (seen : Cursor) : Type 0 where
   pub reached : Reached w records (seen .at) (seen .terms)
   pub few : records ≤ seen .at
   pub few-terms : seen .terms ≤ seen .at
   pub few-names : seen .declared ≤ seen .at
   pub within : records ≤ length w
+
+pub passed-start : (w : List ℕ) → Passed w 0 nothingRead
+passed-start w = record {
+  reached = reached-start w;
+  few = omega arith;
+  few-terms = omega arith;
+  few-names = omega arith;
+  within = omega arith;
+}
+
+module _ {w : List ℕ} {i : ℕ} {seen : Cursor} (here : Passed w i seen) where
+  -- The records so far are the first of the list's.
+  all-calls : decode w ≡ firstCalls w i ++ callsFrom (length w - i) w (seen .at)
+  all-calls =
+      let sum : i + (length w - i) ≡ length w = omega (arith, here .within) in
+      ap (λ (n : ℕ). callsFrom n w 0) (sym sum) ∙ split i (length w - i) w 0 ∙ rw (← here .reached .place)
+
+  pub passed-end : length w ≤ seen .at → firstCalls w i ≡ decode w
+  passed-end past = sym (all-calls ∙ rw (calls-end (length w - i) w (seen .at) past, append-nil))
+
+  pub passed-more : seen .at < length w → Passed w (i + 1) (cursorNext w seen)
+  passed-more inside = record {
+    reached = reached-next (here .reached) inside;
+    few = omega (arith, here .few);
+    few-terms = omega (arith, here .few-terms, bit-low (makesTerm (operationAt w (seen .at))));
+    few-names = omega (arith, here .few-names, bit-low (isDeclare (operationAt w (seen .at))));
+    within = omega (arith, here .few);
+  }
+
+-- The walk has come to a cursor's place, past some records; from there on the list is well formed.
+pub record Walked (w table recent : List ℕ) (y : Context) (records : ℕ) (seen : Cursor) : Type 0 where
+  pub read : ReadTo w (seen .at) (leaves start (firstCalls w records)) table (seen .terms)
+  pub ring : Recent (length table) recent (sortsOf (firstCalls w records))
+  pub past : Passed w records seen
   pub left : readFrom (length w - records) w (seen .at) (leaves start (firstCalls w records)) ≡ wellFormed y
 
 pub walked-start : (w table recent : List ℕ) (y : Context) → outcome w ≡ wellFormed y →
@@ -114,11 +146,7 @@ unfolding callsFrom leaves
 walked-start w table recent y e = record {
   read = read-start w table;
   ring = recent-start (length table) recent;
-  reached = reached-start w;
-  few = omega arith;
-  few-terms = omega arith;
-  few-names = omega arith;
-  within = omega arith;
+  past = passed-start w;
   left = rw (sub-zero (length w)) e;
 }
 
@@ -137,16 +165,6 @@ module _ {gap : ℕ} {w places table recent : List ℕ} {i : ℕ} {seen : Cursor
   abbrev at : ℕ
   at = seen .at
 
-  -- The records so far are the first of the list's.
-  all-calls : decode w ≡ walkedCalls ++ callsFrom (length w - i) w at
-  all-calls =
-      let sum : i + (length w - i) ≡ length w = omega (arith, here .within) in
-      ap (λ (n : ℕ). callsFrom n w 0) (sym sum) ∙ split i (length w - i) w 0
-      ∙ rw (← here .reached .place)
-
-  pub walked-end : length w ≤ at → walkedCalls ≡ decode w
-  walked-end past = sym (all-calls ∙ rw (calls-end (length w - i) w at past, append-nil))
-
   -- How the terms so far are written, by the table of places.
   pub walked-references : referenceBy places gap w (seen .terms) ≡ reference walkedCalls
   walked-references = fun-ext (λ j. go j (ltb j (seen .terms)) refl)
@@ -156,19 +174,19 @@ module _ {gap : ℕ} {w places table recent : List ℕ} {i : ℕ} {seen : Cursor
           ≡ spelledAs j (getD (made walkedCalls) j c.check)
       go j true e =
           let low : j < seen .terms = ltb-true j (seen .terms) e in
-          let few : j < length (made walkedCalls) = omega (arith, here .reached .many) in
+          let few : j < length (made walkedCalls) = omega (arith, here .past .reached .many) in
           let more : j < length (made (decode w)) =
-          (rw (all-calls, made-append, length-append) (omega arith)) in
+          (rw (all-calls (here .past), made-append, length-append) (omega arith)) in
           let inside : j < length (left-by .sorts) = omega (arith, here .read .counts) in
           let kept = sorts-kept (length w - i) w at left-by y (here .left) j inside in
           let place = place-near w places gap (length (y .sorts)) (has .spaced) j (kept .0) in
           let made-by : callAt w (placeOfTerm w j) ≡ getD (made walkedCalls) j c.check =
-          (made-place (length w) w 0 j more ∙ ap (λ (l : List Call). getD (made l) j c.check) all-calls
+          (made-place (length w) w 0 j more ∙ ap (λ (l : List Call). getD (made l) j c.check) (all-calls (here .past))
           ∙ rw made-append (List·getD-append (made walkedCalls) _ c.check j few)) in
           rw e (ap (λ (p : ℕ). spelledAs j (callAt w p)) place ∙ ap (spelledAs j) made-by)
       go j false e =
           let past : length (made walkedCalls) ≤ j =
-          omega (arith, ltb-false j (seen .terms) e, here .reached .many) in
+          omega (arith, ltb-false j (seen .terms) e, here .past .reached .many) in
           rw e (sym (ap (spelledAs j) (made-past walkedCalls j past)))
 
   -- The sorts of the terms so far, by the tables.
@@ -185,7 +203,7 @@ module _ {gap : ℕ} {w places table recent : List ℕ} {i : ℕ} {seen : Cursor
     next : Right w at left-by
         × (readFrom (length w - (i + 1)) w (nextAt bare w at) (after left-by (callAt w at)) ≡ wellFormed y)
     next =
-        let fuel : length w - i ≡ suc (length w - (i + 1)) = omega (arith, here .few) in
+        let fuel : length w - i ≡ suc (length w - (i + 1)) = omega (arith, here .past .few) in
         right-read (length w - (i + 1)) w at left-by y inside (rw fuel at (here .left))
 
     pub walked-ready : Ready w at
@@ -197,7 +215,7 @@ module _ {gap : ℕ} {w places table recent : List ℕ} {i : ℕ} {seen : Cursor
     last-sort makes =
         ap (λ (x : Context). sortAt (x .sorts) (seen .terms))
         (sym (leaves-append start walkedCalls (callAt w at ∷ [])))
-        ∙ ap (λ (n : ℕ). sortAt (sortsOf (walkedCalls ++ (callAt w at ∷ []))) n) (here .reached .many)
+        ∙ ap (λ (n : ℕ). sortAt (sortsOf (walkedCalls ++ (callAt w at ∷ []))) n) (here .past .reached .many)
         ∙ sort-here walkedCalls (callAt w at) []
         (makes-operation (operationAt w at) (countAt w at) (payloads w at) ∙ makes)
 
@@ -215,13 +233,13 @@ module _ {gap : ℕ} {w places table recent : List ℕ} {i : ℕ} {seen : Cursor
     unfolding leaves
     leaves-more =
         ap (λ (n : ℕ). leaves start (firstCalls w n)) (add-one i)
-        ∙ ap (leaves start) (first-more w i at (here .reached .place) inside)
+        ∙ ap (leaves start) (first-more w i at (here .past .reached .place) inside)
         ∙ leaves-append start walkedCalls (callAt w at ∷ [])
 
     -- One record more is one line more.
     pub walked-line : lines [] (firstCalls w (i + 1)) ≡ lines [] walkedCalls ++ line walkedCalls (callAt w at)
     walked-line =
-        rw (add-one i, first-more w i at (here .reached .place) inside)
+        rw (add-one i, first-more w i at (here .past .reached .place) inside)
         (lines-more [] walkedCalls (callAt w at))
 
     -- The sort of the record's term, by the sorts of its arguments.
@@ -243,7 +261,7 @@ module _ {gap : ℕ} {w places table recent : List ℕ} {i : ℕ} {seen : Cursor
     pub walked-writable : Writable gap w places table recent walkedCalls seen
     walked-writable = record {
       counted = stands left-by w at (next .0 .head) .counted;
-      many = here .reached .many;
+      many = here .past .reached .many;
       sort = λ defines. walked-sort (defines-term (operationAt w at) defines);
       references = walked-references;
     }
@@ -260,11 +278,7 @@ module _ {gap : ℕ} {w places table recent : List ℕ} {i : ℕ} {seen : Cursor
               subst (λ (x : Context). Recent (length table)
               (noteRecent walkedSort table recent w at (seen .terms)) (x .sorts)) (sym leaves-more)
               (ring-more (here .read) (next .0) walkedSort says recent (here .ring));
-          reached = reached-next (here .reached) inside;
-          few = omega (arith, here .few);
-          few-terms = omega (arith, here .few-terms, bit-low (makesTerm (operationAt w at)));
-          few-names = omega (arith, here .few-names, bit-low (isDeclare (operationAt w at)));
-          within = omega (arith, here .few);
+          past = passed-more (here .past) inside;
           left =
               ap (λ (x : Context). readFrom (length w - (i + 1)) w (nextAt bare w at) x) leaves-more
               ∙ next .1;

@@ -17,10 +17,11 @@ ghost use Rattle.engine.specs.Encode.{callAt, decode};
 ghost use Rattle.text.specs.Names.{asked};
 ghost use Rattle.engine.specs.Emit.{Wrote, counted};
 ghost use Rattle.call_list.specs.Literal.{LiteralFits, literalNumber, payloads};
+ghost use Rattle.call_list.specs.Made.{made};
 ghost use Rattle.syntax.specs.Text.{literalText};
 ghost use Rattle.script.specs.Text.{line, lines, script};
 ghost use Rattle.script.specs.Record.{bodyAt, sortBy, defineAt, declareAt, assertAt, Ready, Writable};
-ghost use Rattle.script.specs.Walk.{HasTables, HasNames};
+ghost use Rattle.script.specs.Walk.{gapFor, HasTables, HasNames};
 ghost use Rattle.script.specs.Written.{scriptOf, roomFor, marked, written, Scripted};
 
 // What the writer answers: how many bytes it wrote, or a refusal with document 01's number and place.
@@ -129,8 +130,8 @@ fn put_assert(
     text::put_bytes(text, closing, b")\n")
 }
 
-// The sort of the term that the record at a place makes, after so many terms: from the table of the first terms, past it
-// by the record.
+// The sort of the term that the record at a place makes, after so many terms: from the table of the first terms, past
+// it by the record.
 fn sort_here(
     calls: &[u32],
     sorts: &[u8],
@@ -296,6 +297,31 @@ fn write_marked(
     }
 }
 
+// How many terms a call list makes.
+fn terms_in(calls: &[u32]) -> usize
+    ensures { λ r. ⌜ r ≡ length (made (decode (now (calls .entry)))) ⌝ }
+{
+    let mut seen = Cursor {
+        at: 0,
+        terms: 0,
+        declared: 0,
+    };
+    while seen.at < calls.len() {
+        seen = call_list::next(calls, seen);
+    }
+    seen.terms
+}
+
+// How many terms to leave out between two whose places are noted: none where a table has room for the places of all.
+fn gap_for(calls: &[u32], places: usize) -> u32
+    ensures { λ r. ⌜ r ≡ gapFor (now (calls .entry)) places ⌝ }
+{
+    if terms_in(calls) <= places {
+        return 0;
+    }
+    term_table::gap_of(calls, places)
+}
+
 // Writes the script of a call list and its recorded marks into a lent text (faults 19, 2 and 15), with tables for the
 // places of every `gap + 1`th term, the sorts of the first terms and of the latest and the names of low indexes; what
 // they hold afterwards is free.
@@ -338,7 +364,7 @@ pub fn write_script_with(
         (written (now (calls .entry)) (now (recorded .entry)) (length (now (text .entry)))) ⌝ }
 {
     let mut recent = [0u8; 256];
-    let gap = term_table::gap_of(calls, places.len());
+    let gap = gap_for(calls, places.len());
     write_script_by(
         calls,
         recorded,
@@ -359,7 +385,7 @@ pub fn write_script(calls: &[u32], recorded: &[u8], text: &mut [u8]) -> Written
         (written (now (calls .entry)) (now (recorded .entry)) (length (now (text .entry)))) ⌝ }
 {
     let mut places = [0u32; 12288];
-    let gap = term_table::gap_of(calls, 12288);
+    let gap = gap_for(calls, 12288);
     let mut sorts = [0u8; 32768];
     let mut recent = [0u8; 4096];
     let mut names = [0u8; 36864];

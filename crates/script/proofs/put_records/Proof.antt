@@ -15,7 +15,7 @@ use Rattle.engine.proofs.EmitLaws.{wrote-none, wrote-then}
 use Rattle.script.specs.Text.{lines}
 use Rattle.script.specs.Walk.{HasTables}
 use Rattle.script.proofs.WalkLaws.{Walked, walked-start, walked-ready, walked-writable, walked-next}
-use Rattle.script.proofs.WalkLaws.{walked-line, walked-end, lines-start}
+use Rattle.script.proofs.WalkLaws.{passed-end, walked-line, lines-start}
 use Rattle.script.proofs.put_records.Statement.{statement}
 use Rattle.script.proofs.put_records.Tie as tie
 
@@ -65,7 +65,7 @@ loop-less c =
     let within = turn .if1 .taken in
     let next =
     passed-next (start .args .calls .now) (looped .loop .seen) (c .next .ensures) (omega (arith, within, start))
-    (omega (arith, within, inv .4 .few-terms, start)) (omega (arith, within, inv .4 .few-names, start)) in
+    (omega (arith, within, inv .4 .past .few-terms, start)) (omega (arith, within, inv .4 .past .few-names, start)) in
     omega (arith, within, ap (λ (s : Cursor). s .at) next)
 
 loop-again : tie.Need-loop-again Inv-loop μ-loop
@@ -80,7 +80,7 @@ loop-again c =
     let within = turn .if1 .taken in
     let next =
     passed-next (start .args .calls .now) (looped .loop .seen) (c .next .ensures) (omega (arith, within, start))
-    (omega (arith, within, inv .4 .few-terms, start)) (omega (arith, within, inv .4 .few-names, start)) in
+    (omega (arith, within, inv .4 .past .few-terms, start)) (omega (arith, within, inv .4 .past .few-names, start)) in
     let line = written .put-record .ensures _ (walked-writable (inv .0) (inv .4) within) in (
       inv .0,
       written .put-record .kept .0 ∙ inv .1,
@@ -99,7 +99,7 @@ same-length-2 c = c .before .before .loop .inv .2
 returns : tie.Need-returns Inv-loop μ-loop
 returns c =
     let inv = c .before .before .loop .inv in
-    rw (ap (lines []) (walked-end (inv .0) (inv .4) (c .if1 .left))) at (inv .5)
+    rw (ap (lines []) (passed-end (inv .4 .past) (c .if1 .left))) at (inv .5)
 
 pub put-records-spec : {M : Type 1} → statement M
 put-records-spec =

@@ -6,7 +6,9 @@ use Rattle.script.proofs.sort_here.Statement.{statement}
 use Rattle.script.proofs.sort_here.Tie as tie
 
 cast-result : tie.Need-cast-result
-cast-result c = omega (arith, c .shared-slice-known5 .given (c .before .before .before .before .before .before .args .terms))
+cast-result c =
+    let known = c .before .before .before in
+    omega (arith, c .shared-slice-known5 .given (known .before .before .before .args .terms))
 
 returns : tie.Need-returns
 returns c = rw (lt-ltb _ _ (c .before .if1 .taken))

@@ -3,8 +3,8 @@ use borrow.Author.Needs.{needs}
 use Rattle.script.proofs.write_script.Statement.{statement}
 use Rattle.script.proofs.write_script.Tie as tie
 
-gap-of-requires : tie.Need-gap-of-requires
-gap-of-requires c κs = search needs
+gap-for-requires : tie.Need-gap-for-requires
+gap-for-requires c κs = search needs
 
 slice-aggregate-write-script-by : tie.Need-slice-aggregate-write-script-by
 slice-aggregate-write-script-by c = search needs
@@ -33,7 +33,7 @@ pub write-script-spec : {M : Type 1} → statement M
 write-script-spec =
     tie.close
     (tie.spec
-    gap-of-requires
+    gap-for-requires
     slice-aggregate-write-script-by
     slice-aggregate-write-script-by-2
     slice-aggregate-write-script-by-3

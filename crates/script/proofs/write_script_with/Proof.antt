@@ -3,8 +3,8 @@ use borrow.Author.Needs.{needs}
 use Rattle.script.proofs.write_script_with.Statement.{statement}
 use Rattle.script.proofs.write_script_with.Tie as tie
 
-gap-of-requires : tie.Need-gap-of-requires
-gap-of-requires c κs = search needs
+gap-for-requires : tie.Need-gap-for-requires
+gap-for-requires c κs = search needs
 
 slice-aggregate-write-script-by : tie.Need-slice-aggregate-write-script-by
 slice-aggregate-write-script-by c = search needs
@@ -34,7 +34,7 @@ pub write-script-with-spec : {M : Type 1} → statement M
 write-script-with-spec =
     tie.close
     (tie.spec
-    gap-of-requires
+    gap-for-requires
     slice-aggregate-write-script-by
     write-script-by-requires
     same-length
