@@ -95,8 +95,8 @@ uint64_t vm_answer(const uint8_t *text, size_t t, const uint8_t *recorded, size_
 /* The same for long call lists, with tables lent by the caller: the places of the records of terms, their sorts, and the declared names. The answers
    are the same for every length of the tables. Time grows with the calls as long as places and sorts have an entry for each term and names have
    9 bytes for each index of a name; past a table a record is looked for. What the tables hold afterwards is free. The entries without tables
-   have their own, which cover every list of 16,384 words. Past these vm_check and vm_evaluate count on from the nearest of 4,096 places (more in
-   docs/PERFORMANCE.md), and vm_script may take time that grows with the cube of the list: a longer list belongs to the entries here. */
+   have their own, which cover every list of 16,384 words. Past these they count on from the nearest place noted, of 4,096 in vm_check and
+   vm_evaluate and 12,288 in vm_script (more in docs/PERFORMANCE.md). */
 uint64_t vm_check_with(const uint32_t *calls, size_t n, uint64_t *sizes, size_t s, uint8_t *sorts, size_t terms, uint8_t *names, size_t bytes);
 uint64_t vm_evaluate_with(const uint32_t *calls, size_t n, const uint64_t *bits, size_t m, uint64_t *values, size_t v,
                           uint8_t *sorts, size_t terms, uint8_t *names, size_t bytes);

@@ -16,8 +16,8 @@ use Rattle.engine.specs.Encode as o
 use Rattle.engine.proofs.Steps.{calls-end, calls-step}
 use Rattle.text.specs.Bytes.{ascii}
 use Rattle.text.specs.Names.{nameText, namesOfMark, bothNames, askedFrom, asked}
-use Rattle.call_list.specs.Records.{firstCalls, madeAt}
-use Rattle.call_list.proofs.RecordsLaws.{Reached, reached-start, reached-next, first-more, split}
+use Rattle.call_list.specs.Records.{firstCalls}
+use Rattle.call_list.proofs.RecordsLaws.{placeAfter, place-start, place-more, first-more, split}
 use Rattle.call_list.specs.Literal.{payloads}
 use Rattle.pieces.specs.Text.{spaced}
 use Rattle.pieces.specs.Shape.{lineOf}
@@ -78,34 +78,34 @@ any-append p [] b = refl
 any-append p (call ∷ a) b = rw (any-append p a b) (sym (or-assoc (p call) (any p a) (any p b)))
 
 -- Records passed of which none is of a kind.
-pub record NoneOf (p : Call → Bool) (w : List ℕ) (records at terms : ℕ) : Type 0 where
-  pub reached : Reached w records at terms
+pub record NoneOf (p : Call → Bool) (w : List ℕ) (records at : ℕ) : Type 0 where
+  pub reached : at ≡ placeAfter records w 0
   pub few : records ≤ at
   pub within : records ≤ length w
   pub none : any p (firstCalls w records) ≡ false
 
-pub none-start : (p : Call → Bool) (w : List ℕ) → NoneOf p w 0 0 0
+pub none-start : (p : Call → Bool) (w : List ℕ) → NoneOf p w 0 0
 unfolding any callsFrom
-none-start p w = record { reached = reached-start w; few = omega arith; within = omega arith; none = refl }
+none-start p w = record { reached = place-start w; few = omega arith; within = omega arith; none = refl }
 
-module _ {p : Call → Bool} {w : List ℕ} {i at k : ℕ} (here : NoneOf p w i at k) where
+module _ {p : Call → Bool} {w : List ℕ} {i at : ℕ} (here : NoneOf p w i at) where
   all : decode w ≡ firstCalls w i ++ callsFrom (length w - i) w at
   all =
       let sum : length w ≡ i + (length w - i) = omega (arith, here .within) in
-      ap (λ (n : ℕ). callsFrom n w 0) sum ∙ split i (length w - i) w 0 ∙ rw (here .reached .place)
+      ap (λ (n : ℕ). callsFrom n w 0) sum ∙ split i (length w - i) w 0 ∙ rw (here .reached)
 
   pub none-end : length w ≤ at → any p (decode w) ≡ false
   none-end past = rw (all, calls-end (length w - i) w at past, append-nil) (here .none)
 
   module _ (inside : at < length w) where
-    pub none-next : p (callAt w at) ≡ false → NoneOf p w (i + 1) (nextAt bare w at) (k + madeAt w at)
+    pub none-next : p (callAt w at) ≡ false → NoneOf p w (i + 1) (nextAt bare w at)
     unfolding any
     none-next other = record {
-      reached = reached-next (here .reached) inside;
+      reached = place-more w i at (here .reached);
       few = omega (arith, here .few);
       within = omega (arith, here .few);
       none =
-          ap (λ (n : ℕ). any p (firstCalls w n)) (add-one i) ∙ ap (any p) (first-more (here .reached) inside)
+          ap (λ (n : ℕ). any p (firstCalls w n)) (add-one i) ∙ ap (any p) (first-more w i at (here .reached) inside)
           ∙ any-append p (firstCalls w i) (callAt w at ∷ []) ∙ rw (here .none, other);
     }
 

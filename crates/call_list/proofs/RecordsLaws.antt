@@ -9,6 +9,7 @@ use native.Mathlib.Omega.{arith}
 use lib.Dec.{eqb, leb, ltb, eqb·suc-zero}
 use lib.ListN.{length, getD, length-append, List·getD-eq-default}
 use borrow.Author.Tests.{lt-ltb, ltb-false, leb-true, leb-false}
+use Rattle.bitvec.specs.Bits.{bit}
 use Rattle.engine.specs.Call.{Call}
 use Rattle.engine.specs.Call as c
 use Rattle.engine.specs.Encode.{makesTerm, operationAt, countAt, bare, nextAt, callAt, callsFrom}
@@ -17,7 +18,7 @@ use Rattle.engine.specs.Structure.{termPlace}
 use Rattle.engine.specs.Emit.{counted, last}
 use Rattle.call_list.specs.Made.{made, makes}
 use Rattle.call_list.proofs.MadeLaws.{makes-operation, made-append, made-more, made-less}
-use Rattle.call_list.specs.Records.{firstCalls, madeAt}
+use Rattle.call_list.specs.Records.{firstCalls}
 
 -- A count that stops at the largest number stands for a place past every list.
 pub word-counted : (w : List ℕ) (n : ℕ) → length w < 2 ^ 64 → getD w (counted n) 0 ≡ getD w n 0
@@ -64,7 +65,7 @@ split (suc n) m w at = rw suc-add (go (ltb at (length w)) refl (split n m w (nex
               (le-trans past (le-trans (omega arith) (grows n w (nextAt bare w at)))),
         )
 
-made-one : (call : Call) → cond (makes call) 1 0 ≡ length (made (call ∷ []))
+made-one : (call : Call) → bit (makes call) ≡ length (made (call ∷ []))
 unfolding made
 made-one (c.term t) = refl
 made-one (c.declare name w) = refl
@@ -74,12 +75,21 @@ made-one c.check = refl
 pub made-at : (w : List ℕ) (at : ℕ) → makes (callAt w at) ≡ makesTerm (operationAt w at)
 made-at w at = makes-operation (operationAt w at) (countAt w at) _
 
-pub made-low : (w : List ℕ) (at : ℕ) → madeAt w at ≤ 1
-made-low w at = go (makes (callAt w at))
-  where
-    go : (b : Bool) → cond b 1 0 ≤ 1
-    go true = omega arith
-    go false = omega arith
+pub place-start : (w : List ℕ) → 0 ≡ placeAfter 0 w 0
+unfolding placeAfter
+place-start w = refl
+
+-- Reading has come to a place, past some records.
+module _ (w : List ℕ) (records at : ℕ) (here : at ≡ placeAfter records w 0) where
+  pub place-more : nextAt bare w at ≡ placeAfter (records + 1) w 0
+  place-more = rw (add-one records, place-next records w 0, here)
+
+  -- The record at the place comes next.
+  pub first-more : at < length w → firstCalls w (suc records) ≡ firstCalls w records ++ (callAt w at ∷ [])
+  unfolding callsFrom
+  first-more inside =
+      ap (λ (n : ℕ). callsFrom n w 0) (sym (add-one records)) ∙ split records 1 w 0
+      ∙ rw (← here, lt-ltb at (length w) inside)
 
 -- Reading has come to a place, past some records that make some terms.
 pub record Reached (w : List ℕ) (records at terms : ℕ) : Type 0 where
@@ -87,23 +97,23 @@ pub record Reached (w : List ℕ) (records at terms : ℕ) : Type 0 where
   pub many : terms ≡ length (made (firstCalls w records))
 
 pub reached-start : (w : List ℕ) → Reached w 0 0 0
-unfolding placeAfter callsFrom made
-reached-start w = record { place = refl; many = refl }
+unfolding callsFrom made
+reached-start w = record { place = place-start w; many = refl }
 
-module _ {w : List ℕ} {records at terms : ℕ} (here : Reached w records at terms) (inside : at < length w) where
-  -- The record at the place comes next.
-  pub first-more : firstCalls w (suc records) ≡ firstCalls w records ++ (callAt w at ∷ [])
-  unfolding callsFrom
-  first-more =
-      ap (λ (n : ℕ). callsFrom n w 0) (sym (add-one records)) ∙ split records 1 w 0
-      ∙ rw (← here .place, lt-ltb at (length w) inside)
-
-  pub reached-next : Reached w (records + 1) (nextAt bare w at) (terms + madeAt w at)
-  reached-next = record {
-    place = rw (add-one records, place-next records w 0, here .place);
-    many = rw (add-one records, first-more, made-append, length-append, here .many)
-        (ap (λ (n : ℕ). length (made (firstCalls w records)) + n) (made-one (callAt w at)));
-  }
+pub reached-next : {w : List ℕ} {records at terms : ℕ} → Reached w records at terms → at < length w
+    → Reached w (records + 1) (nextAt bare w at) (terms + bit (makesTerm (operationAt w at)))
+reached-next {w} {records} {at} {terms} here inside = record {
+  place = place-more w records at (here .place);
+  many = rw (
+    add-one records,
+    first-more w records at (here .place) inside,
+    made-append,
+    length-append,
+    here .many,
+    ← made-at w at,
+  )
+      (ap (λ (n : ℕ). length (made (firstCalls w records)) + n) (made-one (callAt w at)));
+}
 
 -- The place of a term is that of the call that makes it.
 pub made-place : (n : ℕ) (w : List ℕ) (at k : ℕ) → k < length (made (callsFrom n w at))

@@ -1,15 +1,9 @@
--- Records by their number: where record j begins, and the calls before it.
-use mathlib.Core.Bool.{cond}
+-- Records by their number: the calls of the first of them.
 use mathlib.Core.List.{List}
 use Prim.Native.Nat.{ℕ}
 use Rattle.engine.specs.Call.{Call}
-use Rattle.engine.specs.Encode.{callAt, callsFrom}
-use Rattle.call_list.specs.Made.{makes}
+use Rattle.engine.specs.Encode.{callsFrom}
 
 -- The calls of the first records of a list.
 abbrev pub firstCalls : List ℕ → ℕ → List Call
 firstCalls w records = callsFrom records w 0
-
--- How many terms the record at a place makes.
-abbrev pub madeAt : List ℕ → ℕ → ℕ
-madeAt w at = cond (makes (callAt w at)) 1 0

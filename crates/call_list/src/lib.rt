@@ -12,7 +12,6 @@ ghost use Rattle.engine.specs.Structure.{termPlace, placeOfTerm};
 ghost use Rattle.engine.specs.Emit.{counted};
 ghost use Rattle.call_list.specs.Operations.{opFrom, isDeclare};
 ghost use Rattle.bitvec.specs.Bits.{bit};
-ghost use Rattle.call_list.specs.Records.{madeAt};
 ghost use Rattle.call_list.specs.Cursors.{passed};
 ghost use Rattle.call_list.specs.Literal.{payloads, digitOr, fourDigits};
 
@@ -124,11 +123,7 @@ pub fn is_declare(operation: Operation) -> bool
 pub fn argument_place(at: usize, i: usize) -> usize
     ensures { λ r. ⌜ r ≡ counted (at + offset bare + i) ⌝ }
 {
-    if at < 18446744073709551615 - i {
-        at + 1 + i
-    } else {
-        18446744073709551615
-    }
+    counting::counted_sum(counting::counted_sum(at, 1), i)
 }
 
 // The word of argument i of the record at a place.
@@ -152,18 +147,6 @@ pub fn next_record(calls: &[u32], at: usize) -> usize
     argument_place(at, count_at(calls, at) as usize)
 }
 
-// How many terms there are after the record at a place; the largest number stays.
-pub fn terms_after(calls: &[u32], at: usize, terms: usize) -> usize
-    ensures { λ r. ⌜ r ≡ counted (terms + madeAt (now (calls .entry)) at) ⌝ }
-{
-    if makes_term(operation_at(calls, at)) {
-        if terms < 18446744073709551615 {
-            return terms + 1;
-        }
-    }
-    terms
-}
-
 // How far a list is read: the place, and the terms made and names declared before it.
 pub struct Cursor {
     pub at: usize,
@@ -176,11 +159,10 @@ fn count_if(holds: bool, count: usize) -> usize
     ensures { λ r. ⌜ r ≡ counted (count + bit holds) ⌝ }
 {
     if holds {
-        if count < 18446744073709551615 {
-            return count + 1;
-        }
+        counting::counted_sum(count, 1)
+    } else {
+        count
     }
-    count
 }
 
 // How far a list is read after the record at a cursor's place; the largest numbers stay.

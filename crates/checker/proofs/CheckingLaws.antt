@@ -1,7 +1,7 @@
 -- Laws of the definitions of Checking.
 use Rattle.checker.specs.declared.Wrong.the-variants.{None, At}
 use mathlib.Core.Path.{_≡_, refl, sym, ap, ap₂, _∙_, subst}
-use mathlib.Core.Bool.{Bool, true, false, _&&_}
+use mathlib.Core.Bool.{Bool, true, false, cond, _&&_}
 use mathlib.Core.List.{List}
 use mathlib.Core.Option.{Option, some, none}
 use Prim.Native.Nat.{ℕ, zero, suc, _+_, _-_, _≤_, _<_}
@@ -26,26 +26,16 @@ use Rattle.term_table.specs.Near.{sortNear, noteSort, noteRecent, notePlace}
 use Rattle.term_table.specs.Sorted.{ReadTo}
 use Rattle.term_table.proofs.SortedLaws.{read-start}
 use Rattle.term_table.specs.Noted.{Spaced}
-use Rattle.term_table.proofs.NearLaws.{spaced-start, spaced-more, spaced-whole, Recent, recent-start, ring-more}
+use Rattle.term_table.proofs.NearLaws.{spaced-start, spaced-more, Recent, recent-start, ring-more}
 use Rattle.term_table.proofs.NearLaws.{sorts-more, note-length, near-is}
 use Rattle.name_table.specs.Names.{topOf, noteName, noteTop}
 use Rattle.name_table.specs.Named.{NamesTo, TopsTo}
 use Rattle.name_table.proofs.NamedLaws.{names-none, names-next, tops-none, tops-next}
-use Rattle.term_table.specs.Tables.{pickList}
 use Rattle.call_list.specs.Literal.{payloads}
 use lib.Dec.{ltb}
 use Rattle.checker.specs.Tables.{checkedAs, isCheck, faultBy, wrongAs}
 use Rattle.checker.proofs.TableLaws.{Says, fault-none, fault-some}
-use Rattle.checker.specs.Checking.{TablesBy, CheckedBy, Checked}
-
-pub checked-whole : {w places sorts names : List ℕ} {answer : CallList} → CheckedBy 0 w places sorts names answer
-    → Checked w places sorts names answer
-checked-whole {w} {places} c = record {
-  is = c .is;
-  tabled = λ y e.
-      let t = c .tabled y e in
-      record { read = t .read; placed = spaced-whole w places (length (y .sorts)) (t .spaced); named = t .named };
-}
+use Rattle.checker.specs.Checking.{TablesBy, CheckedBy}
 
 -- Between two records: what the calls so far leave, as the tables and counts have it, and what remains to be read.
 pub record Checking (gap : ℕ) (w places table recent names tops : List ℕ) (s : Cursor) (checked : Bool) : Type 0 where
@@ -99,7 +89,7 @@ check-after x o.assert n p e = sym e
 check-after x o.check n p e = refl
 check-after x o.unknown n p e = refl
 
-top-length : (b : Bool) (tops : List ℕ) (i v : ℕ) → 9 ≤ length tops → 9 ≤ length (pickList b (set tops i v) tops)
+top-length : (b : Bool) (tops : List ℕ) (i v : ℕ) → 9 ≤ length tops → 9 ≤ length (cond b (set tops i v) tops)
 top-length true tops i v h = rw (length-set tops i v) h
 top-length false tops i v h = h
 

@@ -21,7 +21,7 @@ use Rattle.call_list.proofs.OperationsLaws.{declares-of}
 use Rattle.term_table.specs.Sorted.{ReadTo}
 use Rattle.name_table.specs.Named.{NamesTo, TopsTo}
 use Rattle.name_table.proofs.NamedLaws.{known-is}
-use Rattle.checker.specs.Tables.{wordSort, standsBy, wrongBy, againBy, headBy, onWrong, pickPlace, faultBy}
+use Rattle.checker.specs.Tables.{wordSort, standsBy, wrongBy, againBy, headBy, onWrong, faultBy}
 
 -- What the tests of one argument say, taken from the words one by one.
 pub stands-is : (sort : ℕ → Sort) (w : List ℕ) (terms at i : ℕ) {arg : Argument} {first before word sb s : ℕ} {r : Bool}
@@ -123,7 +123,7 @@ module _ {w : List ℕ} {at : ℕ} {x : Context} {table : List ℕ} {terms : ℕ
   fault-none sort says inside open-list e = go (headBy names tops w at) refl (wrongBy sort w terms at) refl e
     where
       go : (h : Bool) → headBy names tops w at ≡ h → (o : Option ℕ) → wrongBy sort w terms at ≡ o
-          → pickPlace h (onWrong o (λ i. at + 1 + i)) (some at) ≡ none → Right w at x
+          → cond h (onWrong o (λ i. at + 1 + i)) (some at) ≡ none → Right w at x
       go true h none q t = record {
         inside = inside;
         head = head-is inside open-list ∙ h;
@@ -138,7 +138,7 @@ module _ {w : List ℕ} {at : ℕ} {x : Context} {table : List ℕ} {terms : ℕ
   fault-some sort says inside open-list p n e = go (headBy names tops w at) refl (wrongBy sort w terms at) refl e
     where
       go : (h : Bool) → headBy names tops w at ≡ h → (o : Option ℕ) → wrongBy sort w terms at ≡ o
-          → pickPlace h (onWrong o (λ i. at + 1 + i)) (some at) ≡ some p → readFrom (suc n) w at x ≡ malformed p
+          → cond h (onWrong o (λ i. at + 1 + i)) (some at) ≡ some p → readFrom (suc n) w at x ≡ malformed p
       go true h none q t = absurd (let z : _≡_ {A = ℕ} 0 1 = cc in omega arith)
       go true h (some i) q t =
           let place : at + 1 + i ≡ p = cc in

@@ -7,18 +7,12 @@ use Rattle.engine.specs.Sorts.{Context}
 use Rattle.engine.specs.WellFormed.{wellFormed, outcome}
 use Rattle.checker.specs.declared.CallList.{CallList}
 use Rattle.term_table.specs.Sorted.{ReadTo}
-use Rattle.term_table.specs.Placed.{Placed}
 use Rattle.term_table.specs.Noted.{Spaced}
 use Rattle.name_table.specs.Named.{NamesTo}
 use Rattle.checker.specs.Tables.{checkedAs}
 
--- The tables of a well-formed list: the places and sorts of its first terms, and its names of low indexes.
-pub record Tables (w places sorts names : List ℕ) (y : Context) : Type 0 where
-  pub read : ReadTo w (length w) y sorts (length (y .sorts))
-  pub placed : Placed w places (length (y .sorts))
-  pub named : NamesTo names (y .names)
-
--- The same with the place of every `gap + 1`th term.
+-- The tables of a well-formed list: the places of every `gap + 1`th term, the sorts of the first, and the names of low
+-- indexes.
 pub record TablesBy (gap : ℕ) (w places sorts names : List ℕ) (y : Context) : Type 0 where
   pub read : ReadTo w (length w) y sorts (length (y .sorts))
   pub spaced : Spaced w places gap (length (y .sorts))
@@ -28,7 +22,3 @@ pub record TablesBy (gap : ℕ) (w places sorts names : List ℕ) (y : Context) 
 pub record CheckedBy (gap : ℕ) (w places sorts names : List ℕ) (answer : CallList) : Type 0 where
   pub is : answer ≡ checkedAs (outcome w)
   pub tabled : (y : Context) → outcome w ≡ wellFormed y → TablesBy gap w places sorts names y
-
-pub record Checked (w places sorts names : List ℕ) (answer : CallList) : Type 0 where
-  pub is : answer ≡ checkedAs (outcome w)
-  pub tabled : (y : Context) → outcome w ≡ wellFormed y → Tables w places sorts names y

@@ -1,5 +1,5 @@
 -- What the checker reads from its tables: the sorts of words, the faults of a record, and how far it has come.
-use mathlib.Core.Bool.{Bool, true, false, not, cond, _&&_}
+use mathlib.Core.Bool.{Bool, false, not, cond, _&&_}
 use mathlib.Core.List.{List}
 use mathlib.Core.Option.{Option, some, none}
 use Prim.Native.Nat.{ℕ, _+_, _-_}
@@ -61,13 +61,9 @@ abbrev pub onWrong : Option ℕ → (ℕ → ℕ) → Option ℕ
 onWrong none f = none
 onWrong (some i) f = some (f i)
 
-abbrev pub pickPlace : Bool → Option ℕ → Option ℕ → Option ℕ
-pickPlace true a b = a
-pickPlace false a b = b
-
 abbrev pub faultBy : (ℕ → Sort) → List ℕ → List ℕ → List ℕ → ℕ → ℕ → Option ℕ
 faultBy sort names tops w terms at =
-    pickPlace (headBy names tops w at) (onWrong (wrongBy sort w terms at) (λ i. at + 1 + i)) (some at)
+    cond (headBy names tops w at) (onWrong (wrongBy sort w terms at) (λ i. at + 1 + i)) (some at)
 
 -- Whether an operation is the check, or none that a list can have.
 abbrev pub isCheck : Op → Bool

@@ -10,7 +10,7 @@ ghost use Rattle.call_list.specs.Operations.{opFrom};
 ghost use Rattle.checker.specs.Tables.{wordSort, standsBy, wrongAs, againBy, headBy, onWrong, faultBy, isCheck};
 ghost use Rattle.checker.specs.Tables.{checkedAs};
 ghost use Rattle.term_table.specs.Near.{sortNear};
-ghost use Rattle.checker.specs.Checking.{Checked, CheckedBy};
+ghost use Rattle.checker.specs.Checking.{CheckedBy};
 ghost use Rattle.bitvec.specs.Bits.{bit};
 
 // What checking a call list answers: how many terms it makes and names it declares, or the first place at fault.
@@ -272,20 +272,12 @@ pub fn check_by(
     check_records(calls, places, gap, sorts, recent, names, &mut tops)
 }
 
-// The same with the places of all first terms.
-pub fn check_with(calls: &[u32], places: &mut [u32], sorts: &mut [u8], names: &mut [u8]) -> CallList
-    ensures { λ r. ⌜ Checked (now (calls .entry)) (now (places .exit)) (now (sorts .exit)) (now (names .exit)) r ⌝ }
-{
-    let mut recent = [0u8; 256];
-    check_by(calls, places, 0, sorts, &mut recent, names)
-}
-
 // Whether a call list is well formed, and where it is not (fault 19).
 pub fn check(calls: &[u32]) -> CallList
     ensures { λ r. ⌜ r ≡ checkedAs (outcome (now (calls .entry))) ⌝ }
 {
     let mut places = [0u32; 4096];
-    let gap = term_table::gap_of(calls, 8191);
+    let gap = term_table::gap_of(calls, 4096);
     let mut sorts = [0u8; 40960];
     let mut recent = [0u8; 4096];
     let mut names = [0u8; 64512];

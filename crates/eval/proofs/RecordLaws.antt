@@ -27,13 +27,11 @@ use Rattle.engine.proofs.ReachedLaws.{right-read}
 use Rattle.call_list.specs.Operations.{isDeclare}
 use Rattle.call_list.specs.Literal.{payloads}
 use Rattle.engine.specs.Reached.{Tabled}
-use Rattle.term_table.specs.Tables.{pickList}
 use Rattle.term_table.specs.Near.{sortNear, noteRecent}
 use Rattle.term_table.specs.Sorted.{ReadTo}
 use Rattle.term_table.proofs.SortedLaws.{read-start, read-next, terms-next, tabled-before, sorts-few}
 use Rattle.term_table.specs.Noted.{Spaced}
 use Rattle.term_table.proofs.NearLaws.{Recent, recent-start, ring-more, near-is}
-use Rattle.checker.specs.Tables.{pickPlace}
 use Rattle.call_list.proofs.CursorsLaws.{nothingRead, cursorNext, bit-low}
 use Rattle.call_list.specs.declared.Cursor.{Cursor}
 use Rattle.term_values.specs.Values.{valueNumber, valueBy}
@@ -60,13 +58,13 @@ rest-drop (x ∷ l) (suc d) = rest-drop l d
 
 declare-fault : (k : ℕ) (n : Name) (w : ℕ) (cs : List Call) (l : List ℕ) (d : ℕ)
     → bitsFault k (c.declare n w ∷ cs) (drop d l)
-    ≡ pickPlace (bitsWrong l d w) (some k) (bitsFault (suc k) cs (drop (suc d) l))
+    ≡ cond (bitsWrong l d w) (some k) (bitsFault (suc k) cs (drop (suc d) l))
 unfolding bitsFault
 declare-fault k n w cs l d = go (ltb d (length l)) refl (ltb (getD l d 0) (2 ^ w)) refl
   where
     go : (a : Bool) → ltb d (length l) ≡ a → (b : Bool) → ltb (getD l d 0) (2 ^ w) ≡ b
         → bitsFault k (c.declare n w ∷ cs) (drop d l)
-        ≡ pickPlace (cond a (not b) true) (some k) (bitsFault (suc k) cs (drop (suc d) l))
+        ≡ cond (cond a (not b) true) (some k) (bitsFault (suc k) cs (drop (suc d) l))
     go true p true q = rw (drop-cons l d 0 (ltb-true d (length l) p), q)
     go true p false q = rw (drop-cons l d 0 (ltb-true d (length l) p), q)
     go false p b q = rw (drop-of-length-le l (ltb-false d (length l) p))
@@ -76,7 +74,7 @@ nameOf p = record { letter = getD o.letters (p 0) c.n; index = p 1; suffix = get
 
 fault-op : (op : Op) (m : ℕ) (p : ℕ → ℕ) (cs : List Call) (l : List ℕ) (k d : ℕ)
     → bitsFault k (callOf op m p ∷ cs) (drop d l)
-    ≡ pickPlace (cond (isDeclare op) (bitsWrong l d (p 3)) false) (some k)
+    ≡ cond (cond (isDeclare op) (bitsWrong l d (p 3)) false) (some k)
     (bitsFault (k + bit (makesTerm op)) cs (drop (d + bit (isDeclare op)) l))
 unfolding bitsFault
 fault-op (o.term op) m p cs l k d = rw (add-one k, add-zero d)
@@ -88,7 +86,7 @@ fault-op o.unknown m p cs l k d = rw (add-zero k, add-zero d)
 module _ (w bits : List ℕ) (at terms declared : ℕ) (inside : at < length w) where
   -- At a record, the fault of the bits is there, or what remains says it.
   fault-step : (n : ℕ) → bitsFault terms (callsFrom (suc n) w at) (drop declared bits)
-      ≡ pickPlace (wrongBits w bits declared at) (some terms)
+      ≡ cond (wrongBits w bits declared at) (some terms)
       (bitsFault (terms + bit (makesTerm (operationAt w at))) (callsFrom n w (nextAt bare w at))
       (drop (declared + bit (isDeclare (operationAt w at))) bits))
   fault-step n =
@@ -98,7 +96,7 @@ module _ (w bits : List ℕ) (at terms declared : ℕ) (inside : at < length w) 
 
   -- The same, where as many records may be read as words are left.
   fault-turn : bitsFault terms (callsFrom (length w - at) w at) (drop declared bits)
-      ≡ pickPlace (wrongBits w bits declared at) (some terms)
+      ≡ cond (wrongBits w bits declared at) (some terms)
       (bitsFault (terms + bit (makesTerm (operationAt w at)))
       (callsFrom (length w - nextAt bare w at) w (nextAt bare w at))
       (drop (declared + bit (isDeclare (operationAt w at))) bits))
@@ -156,7 +154,7 @@ module _ {cs : List Call} {ρ : Assignment} {slice₀ slice : List ℕ} {terms f
       → Evaluating cs ρ slice₀ slice (drop declared bits) (callOf op m p ∷ todo) terms falses x
       → (isDeclare op ≡ true → first (drop declared bits) < 2 ^ p 3)
       → Evaluating cs ρ slice₀
-      (pickList (makesTerm op)
+      (cond (makesTerm op)
       (set slice terms (valueBy s (numberIn slice) literal (first (drop declared bits)) (callOf op m p))) slice)
       (drop (declared + bit (isDeclare op)) bits) todo (terms + bit (makesTerm op))
       (falses + falseOf op (numberIn slice (p 0)))
@@ -172,7 +170,7 @@ module _ {cs : List Call} {ρ : Assignment} {slice₀ slice : List ℕ} {terms f
   evaluating-op o.unknown m p told e low = rw (add-zero declared, add-zero terms, add-zero falses) (evaluating-check e)
 
 -- The bits fit where no fault of them is found.
-no-fault : (b : Bool) (k : ℕ) (later : Option ℕ) → pickPlace b (some k) later ≡ none → (b ≡ false) × (later ≡ none)
+no-fault : (b : Bool) (k : ℕ) (later : Option ℕ) → cond b (some k) later ≡ none → (b ≡ false) × (later ≡ none)
 no-fault true k later e = let z : _≡_ {A = ℕ} 0 1 = cc in absurd (omega arith)
 no-fault false k later e = (refl, e)
 

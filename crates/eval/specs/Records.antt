@@ -9,7 +9,6 @@ use Rattle.engine.specs.Encode.{Op, makesTerm, operationAt}
 use Rattle.engine.specs.Encode as o
 use Rattle.call_list.specs.Operations.{isDeclare}
 use Rattle.call_list.specs.Literal.{payloads}
-use Rattle.term_table.specs.Tables.{pickList}
 use Rattle.term_values.specs.Records.{recordValue}
 
 -- The bits of a declaration are missing or above its width.
@@ -30,4 +29,4 @@ falseOf o.unknown value = 0
 -- The number of its term, if it makes one.
 abbrev pub valuesNext : (ℕ → Sort) → List ℕ → List ℕ → ℕ → ℕ → ℕ → List ℕ
 valuesNext sort slice w terms given at =
-    pickList (makesTerm (operationAt w at)) (set slice terms (recordValue sort slice w terms given at)) slice
+    cond (makesTerm (operationAt w at)) (set slice terms (recordValue sort slice w terms given at)) slice

@@ -27,7 +27,6 @@ use Rattle.engine.specs.Call as c
 use Rattle.call_list.specs.Operations.{isDeclare}
 use Rattle.call_list.proofs.OperationsLaws.{declares-of}
 use Rattle.call_list.specs.Literal.{payloads}
-use Rattle.term_table.specs.Tables.{pickList}
 use Rattle.term_table.specs.Sorted.{ReadTo}
 use Rattle.name_table.specs.Names.{slotOf, nameEntry, topOf, atMost, bySearch, knownBy, noteName, noteTop}
 use Rattle.name_table.specs.Named.{isName, named, NamesTo, TopsTo}
@@ -228,7 +227,7 @@ name-more table names name named-to l i s hl hs reached =
     go false e b f d g = absurd (reached (rw e))
 
 names-more : (table : List ℕ) (x : Context) (call : Call) (p q r : ℕ) → NumbersOf call p q r → NamesTo table (x .names)
-    → NamesTo (pickList (declares call) (set table (slotOf p q r) 1) table) (after x call .names)
+    → NamesTo (cond (declares call) (set table (slotOf p q r) 1) table) (after x call .names)
 names-more table x (c.term t) p q r e named-to = named-to
 names-more table x (c.declare name w) p q r e named-to =
     rw (← e .0, ← e .1, ← e .2) (name-more table (x .names) name named-to)
@@ -246,7 +245,7 @@ names-next table w at x right named-to =
 
 -- The highest indexes with one more name.
 top-more : (tops : List ℕ) (names : List Name) (name : Name) → 9 ≤ length tops → TopsTo tops names
-    → TopsTo (pickList (ltb (topOf tops (letterNumber (name .letter)) (suffixNumber (name .suffix))) (name .index + 1))
+    → TopsTo (cond (ltb (topOf tops (letterNumber (name .letter)) (suffixNumber (name .suffix))) (name .index + 1))
     (set tops (3 * letterNumber (name .letter) + suffixNumber (name .suffix)) (name .index + 1)) tops) (name ∷ names)
 unfolding named
 top-more tops names name nine topped l i s hl hs t =
@@ -288,7 +287,7 @@ top-more tops names name nine topped l i s hl hs t =
     go : (a : Bool) → ltb (topOf tops (letterNumber (name .letter)) (suffixNumber (name .suffix))) (name .index + 1) ≡ a
         → (d : Bool) → isName l i s name ≡ d → (d || named names l i s) ≡ true
         → i < topOf
-        (pickList a (set tops (3 * letterNumber (name .letter) + suffixNumber (name .suffix)) (name .index + 1))
+        (cond a (set tops (3 * letterNumber (name .letter) + suffixNumber (name .suffix)) (name .index + 1))
         tops) l s
     go true e true f t =
         let q = same f in
@@ -305,7 +304,7 @@ top-more tops names name nine topped l i s hl hs t =
 
 tops-more : (tops : List ℕ) (x : Context) (call : Call) (p q r : ℕ) → NumbersOf call p q r → 9 ≤ length tops →
     TopsTo tops (x .names)
-    → TopsTo (pickList (declares call && ltb (topOf tops p r) (q + 1)) (set tops (3 * p + r) (q + 1)) tops)
+    → TopsTo (cond (declares call && ltb (topOf tops p r) (q + 1)) (set tops (3 * p + r) (q + 1)) tops)
     (after x call .names)
 tops-more tops x (c.term t) p q r e nine topped = topped
 tops-more tops x (c.declare name w) p q r e nine topped =

@@ -10,7 +10,6 @@ use Rattle.engine.specs.WellFormed.{isNumber}
 use Rattle.engine.specs.Structure.{declaredBefore}
 use Rattle.call_list.specs.Operations.{isDeclare}
 use Rattle.call_list.specs.Literal.{payloads}
-use Rattle.term_table.specs.Tables.{pickList}
 
 -- The place of a name in the table, by the numbers of its letter, index and suffix.
 abbrev pub slotOf : ℕ → ℕ → ℕ → ℕ
@@ -52,12 +51,12 @@ knownBy names tops w at letter index suffix =
 -- The highest index goes up with a name that a record declares.
 abbrev pub noteTop : List ℕ → List ℕ → ℕ → List ℕ
 noteTop tops w at =
-    pickList (isDeclare (operationAt w at) && ltb (topOf tops (payloads w at 0) (payloads w at 2))
+    cond (isDeclare (operationAt w at) && ltb (topOf tops (payloads w at 0) (payloads w at 2))
     (payloads w at 1 + 1))
     (set tops (3 * payloads w at 0 + payloads w at 2) (payloads w at 1 + 1)) tops
 
 -- The name that a record declares goes into the table.
 abbrev pub noteName : List ℕ → List ℕ → ℕ → List ℕ
 noteName names w at =
-    pickList (isDeclare (operationAt w at)) (set names (slotOf (payloads w at 0) (payloads w at 1) (payloads w at 2)) 1)
+    cond (isDeclare (operationAt w at)) (set names (slotOf (payloads w at 0) (payloads w at 1) (payloads w at 2)) 1)
     names

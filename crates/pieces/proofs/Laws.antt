@@ -14,7 +14,7 @@ use Rattle.text.specs.Bytes.{ascii, decimal}
 use Rattle.text.specs.Names.{letterText, suffixText, nameText}
 use Rattle.call_list.specs.Literal.{payloads}
 use Rattle.call_list.specs.Operations.{isDeclare}
-use Rattle.term_table.specs.Tables.{placeBy}
+use Rattle.term_table.specs.Near.{placeNear}
 use Rattle.syntax.specs.Text.{operationText}
 use Rattle.pieces.specs.Text.{numbered, spelledAs, spaced, applied, conjunction}
 use Rattle.pieces.specs.Shape.{nameOf}
@@ -55,21 +55,21 @@ pub numbered-spelled : (k : ℕ) → (107 ∷ []) ++ decimal k ++ [] ≡ numbere
 numbered-spelled k = append-nil _
 
 -- How a term is written by its record.
-module _ (places w : List ℕ) (terms term : ℕ) where
-  pub reference-past : terms ≤ term → referenceBy places w terms term ≡ numbered term
+module _ (places : List ℕ) (gap : ℕ) (w : List ℕ) (terms term : ℕ) where
+  pub reference-past : terms ≤ term → referenceBy places gap w terms term ≡ numbered term
   reference-past h = rw (le-ltb term terms h)
 
-  module _ (low : term < terms) {at : ℕ} (found : at ≡ placeBy places w term) where
-    by-operation : referenceBy places w terms term
+  module _ (low : term < terms) {at : ℕ} (found : at ≡ placeNear places gap w term) where
+    by-operation : referenceBy places gap w terms term
         ≡ cond (isDeclare (operationAt w at)) (nameText (nameOf (payloads w at))) (numbered term)
     by-operation = rw (lt-ltb term terms low, ← found)
         (spelled-by (operationAt w at) (countAt w at) (payloads w at) term)
 
     pub reference-declared : isDeclare (operationAt w at) ≡ true
-        → referenceBy places w terms term ≡ nameText (nameOf (payloads w at))
+        → referenceBy places gap w terms term ≡ nameText (nameOf (payloads w at))
     reference-declared e = by-operation ∙ rw e
 
-    pub reference-numbered : isDeclare (operationAt w at) ≡ false → referenceBy places w terms term ≡ numbered term
+    pub reference-numbered : isDeclare (operationAt w at) ≡ false → referenceBy places gap w terms term ≡ numbered term
     reference-numbered e = by-operation ∙ rw e
 
 -- Texts after others, and one text.

@@ -154,14 +154,14 @@ pub fn put_numbered(text: &mut [u8], at: usize, term: usize) -> usize
 }
 
 // How a term, of so many so far, is written: a declared one by its name, any other by its number.
-fn reference_of(calls: &[u32], places: &[u32], terms: usize, term: Term) -> Spelling
-    ensures { λ r. ⌜ spelled r ≡ referenceBy (now (places .entry)) (now (calls .entry)) terms (term .0) ⌝ }
+fn reference_of(calls: &[u32], places: &[u32], gap: u32, terms: usize, term: Term) -> Spelling
+    ensures { λ r. ⌜ spelled r ≡ referenceBy (now (places .entry)) gap (now (calls .entry)) terms (term .0) ⌝ }
 {
     let k = term.0 as usize;
     if terms <= k {
         return number_of(k);
     }
-    let head = term_table::term_place(calls, places, term);
+    let head = term_table::near_place(calls, places, gap, term.0);
     if call_list::is_declare(call_list::operation_at(calls, head)) {
         return declared_name(calls, head);
     }
@@ -174,13 +174,14 @@ pub fn put_reference(
     at: usize,
     calls: &[u32],
     places: &[u32],
+    gap: u32,
     terms: usize,
     term: Term,
 ) -> usize
     ensures { λ r. ⌜ Wrote (now (text .entry)) at
-        (referenceBy (now (places .entry)) (now (calls .entry)) terms (term .0)) (now (text .exit)) r ⌝ }
+        (referenceBy (now (places .entry)) gap (now (calls .entry)) terms (term .0)) (now (text .exit)) r ⌝ }
 {
-    put_spelling(text, at, reference_of(calls, places, terms, term))
+    put_spelling(text, at, reference_of(calls, places, gap, terms, term))
 }
 
 // Writes a space and a term.
@@ -189,14 +190,16 @@ fn put_argument(
     at: usize,
     calls: &[u32],
     places: &[u32],
+    gap: u32,
     terms: usize,
     term: Term,
 ) -> usize
     ensures { λ r. ⌜ Wrote (now (text .entry)) at
-        (ascii " " ++ referenceBy (now (places .entry)) (now (calls .entry)) terms (term .0)) (now (text .exit)) r ⌝ }
+        (ascii " " ++ referenceBy (now (places .entry)) gap (now (calls .entry)) terms (term .0))
+        (now (text .exit)) r ⌝ }
 {
     let next = text::put_byte(text, at, b' ');
-    put_reference(text, next, calls, places, terms, term)
+    put_reference(text, next, calls, places, gap, terms, term)
 }
 
 // Writes the first arguments of a record, each after a space.
@@ -205,18 +208,19 @@ fn put_arguments(
     start: usize,
     calls: &[u32],
     places: &[u32],
+    gap: u32,
     terms: usize,
     head: usize,
     n: u32,
 ) -> usize
     ensures { λ r. ⌜ Wrote (now (text .entry)) start
-        (spaced (argumentTexts (now (places .entry)) (now (calls .entry)) terms head n)) (now (text .exit)) r ⌝ }
+        (spaced (argumentTexts (now (places .entry)) gap (now (calls .entry)) terms head n)) (now (text .exit)) r ⌝ }
 {
     let mut at = start;
     let mut i = 0;
     while i < n {
         let term = Term(call_list::argument_at(calls, head, i as usize));
-        at = put_argument(text, at, calls, places, terms, term);
+        at = put_argument(text, at, calls, places, gap, terms, term);
         i += 1;
     }
     at
@@ -228,6 +232,7 @@ pub fn put_application(
     at: usize,
     calls: &[u32],
     places: &[u32],
+    gap: u32,
     terms: usize,
     head: usize,
     operation: Operation,
@@ -235,11 +240,11 @@ pub fn put_application(
 ) -> usize
     ensures { λ r. ⌜ Wrote (now (text .entry)) at
         (applied (operationText (opFrom operation))
-        (argumentTexts (now (places .entry)) (now (calls .entry)) terms head n)) (now (text .exit)) r ⌝ }
+        (argumentTexts (now (places .entry)) gap (now (calls .entry)) terms head n)) (now (text .exit)) r ⌝ }
 {
     let name = text::put_byte(text, at, b'(');
     let arguments = syntax::put_operation(text, name, operation);
-    let closing = put_arguments(text, arguments, calls, places, terms, head, n);
+    let closing = put_arguments(text, arguments, calls, places, gap, terms, head, n);
     text::put_byte(text, closing, b')')
 }
 
@@ -249,22 +254,25 @@ pub fn put_conjunction(
     at: usize,
     calls: &[u32],
     places: &[u32],
+    gap: u32,
     terms: usize,
     head: usize,
     n: u32,
 ) -> usize
     ensures { λ r. ⌜ Wrote (now (text .entry)) at
-        (conjunction (argumentTexts (now (places .entry)) (now (calls .entry)) terms head n)) (now (text .exit)) r ⌝ }
+        (conjunction (argumentTexts (now (places .entry)) gap (now (calls .entry)) terms head n))
+        (now (text .exit)) r ⌝ }
 {
     if n == 1 {
         let term = Term(call_list::argument_at(calls, head, 0));
-        return put_reference(text, at, calls, places, terms, term);
+        return put_reference(text, at, calls, places, gap, terms, term);
     }
     put_application(
         text,
         at,
         calls,
         places,
+        gap,
         terms,
         head,
         Operation::Term(TermOp::And),
@@ -278,17 +286,18 @@ pub fn put_extraction(
     at: usize,
     calls: &[u32],
     places: &[u32],
+    gap: u32,
     terms: usize,
     head: usize,
 ) -> usize
     ensures { λ r. ⌜ Wrote (now (text .entry)) at
-        (extractionText (now (places .entry)) (now (calls .entry)) terms head) (now (text .exit)) r ⌝ }
+        (extractionText (now (places .entry)) gap (now (calls .entry)) terms head) (now (text .exit)) r ⌝ }
 {
     let operation = text::put_byte(text, at, b'(');
     let high = call_list::argument_at(calls, head, 0) as usize;
     let low = call_list::argument_at(calls, head, 1) as usize;
     let argument = syntax::put_extract(text, operation, high, low);
     let term = Term(call_list::argument_at(calls, head, 2));
-    let closing = put_argument(text, argument, calls, places, terms, term);
+    let closing = put_argument(text, argument, calls, places, gap, terms, term);
     text::put_byte(text, closing, b')')
 }

@@ -2,8 +2,9 @@
 use mathlib.Core.Path.{_≡_, ap, _∙_, sym}
 use mathlib.Core.List.{List}
 use Prim.Native.Nat.{ℕ}
-use Rattle.engine.specs.Encode.{Op, operationAt, countAt, bare, argumentAt}
-use Rattle.call_list.specs.Records.{firstCalls}
+use Rattle.engine.specs.Call.{Call}
+use Rattle.engine.specs.Encode.{Op, operationAt, countAt, bare, argumentAt, callAt}
+use Rattle.call_list.specs.declared.Cursor.{Cursor}
 use Rattle.call_list.specs.Literal.{payloads}
 use Rattle.text.specs.Bytes.{ascii}
 use Rattle.pieces.specs.Text.{reference}
@@ -11,9 +12,10 @@ use Rattle.pieces.specs.Shape.{lineOf, bodyOf}
 use Rattle.pieces.specs.declared.Line.{Line}
 use Rattle.pieces.specs.declared.Line.the-variants.{Define, Declare, Assert, Check}
 use Rattle.pieces.specs.declared.Body.{Body}
+use Rattle.script.specs.Text.{line}
 use Rattle.script.specs.Shape.{bodyBy, defineLine, assertLine}
 use Rattle.script.proofs.ShapeLaws.{lineBy, line-by}
-use Rattle.script.specs.Record.{lineKind, bodyKind, sortBy, defineAt, declareAt, assertAt, lineAt, Writable}
+use Rattle.script.specs.Record.{lineKind, bodyKind, sortBy, defineAt, declareAt, assertAt, Writable}
 
 -- The same as the code finds them.
 pub line-kind : (w : List ℕ) (head : ℕ) {op : Op} {found told : Line} → op ≡ operationAt w head → found ≡ lineOf op
@@ -26,35 +28,43 @@ pub body-kind : (w : List ℕ) (head : ℕ) {op : Op} {found told : Body} → op
     → bodyKind w head ≡ told
 body-kind w head is-op is-body is-told = ap bodyOf (sym is-op) ∙ sym is-body ∙ is-told
 
-module _ {w places sorts : List ℕ} {records terms head : ℕ} (can : Writable w places sorts records terms head) where
-  by-kind : lineAt w records head
-      ≡ lineBy (lineKind w head) (firstCalls w records) (operationAt w head) (countAt w head) (payloads w head)
-  by-kind = line-by (operationAt w head) (countAt w head) (payloads w head) (argumentAt bare w head 0)
-      (firstCalls w records) (can .counted)
+module _ {gap : ℕ} {w places sorts recent : List ℕ} {before : List Call} {seen : Cursor}
+    (can : Writable gap w places sorts recent before seen) where
+  by-kind : line before (callAt w (seen .at))
+      ≡ lineBy (lineKind w (seen .at)) before (operationAt w (seen .at)) (countAt w (seen .at)) (payloads w (seen .at))
+  by-kind = line-by (operationAt w (seen .at)) (countAt w (seen .at)) (payloads w (seen .at))
+      (argumentAt bare w (seen .at) 0) before (can .counted)
 
-  pub line-declared : lineKind w head ≡ Declare → lineAt w records head ≡ declareAt w head
+  pub line-declared : lineKind w (seen .at) ≡ Declare → line before (callAt w (seen .at)) ≡ declareAt w (seen .at)
   line-declared e = by-kind ∙ rw e
 
-  pub line-checked : lineKind w head ≡ Check → lineAt w records head ≡ ascii "(check-sat)\n"
+  pub line-checked : lineKind w (seen .at) ≡ Check → line before (callAt w (seen .at)) ≡ ascii "(check-sat)\n"
   line-checked e = by-kind ∙ rw e
 
-  pub line-asserted : lineKind w head ≡ Assert → lineAt w records head ≡ assertAt places w terms head
+  pub line-asserted : lineKind w (seen .at) ≡ Assert
+      → line before (callAt w (seen .at)) ≡ assertAt places gap w (seen .terms) (seen .at)
   line-asserted e =
-      by-kind ∙ asserted ∙ ap (λ (r : ℕ → List ℕ). assertLine (r (payloads w head 0))) (sym (can .references))
+      by-kind ∙ asserted ∙ ap (λ (r : ℕ → List ℕ). assertLine (r (payloads w (seen .at) 0))) (sym (can .references))
     where
-      asserted : lineBy (lineKind w head) (firstCalls w records) (operationAt w head) (countAt w head) (payloads w head)
-          ≡ assertLine (reference (firstCalls w records) (payloads w head 0))
+      asserted :
+          lineBy (lineKind w (seen .at)) before (operationAt w (seen .at)) (countAt w (seen .at))
+          (payloads w (seen .at))
+          ≡ assertLine (reference before (payloads w (seen .at) 0))
       asserted = rw e
 
-  pub line-defined : lineKind w head ≡ Define
-      → lineAt w records head ≡ defineAt places w terms head (sortBy sorts w terms head)
+  pub line-defined : lineKind w (seen .at) ≡ Define
+      → line before (callAt w (seen .at))
+      ≡ defineAt places gap w (seen .terms) (seen .at) (sortBy sorts recent places gap w (seen .terms) (seen .at))
   line-defined e =
       by-kind ∙ defined
-      ∙ ap (λ (r : ℕ → List ℕ). defineLine terms (sortBy sorts w terms head)
-      (bodyBy (bodyKind w head) r (operationAt w head) (countAt w head) (payloads w head))) (sym (can .references))
+      ∙ ap (λ (r : ℕ → List ℕ). defineLine (seen .terms) (sortBy sorts recent places gap w (seen .terms) (seen .at))
+      (bodyBy (bodyKind w (seen .at)) r (operationAt w (seen .at)) (countAt w (seen .at)) (payloads w (seen .at))))
+      (sym (can .references))
     where
-      defined : lineBy (lineKind w head) (firstCalls w records) (operationAt w head) (countAt w head) (payloads w head)
-          ≡ defineLine terms (sortBy sorts w terms head)
-          (bodyBy (bodyKind w head) (reference (firstCalls w records)) (operationAt w head) (countAt w head)
-          (payloads w head))
+      defined :
+          lineBy (lineKind w (seen .at)) before (operationAt w (seen .at)) (countAt w (seen .at))
+          (payloads w (seen .at))
+          ≡ defineLine (seen .terms) (sortBy sorts recent places gap w (seen .terms) (seen .at))
+          (bodyBy (bodyKind w (seen .at)) (reference before) (operationAt w (seen .at)) (countAt w (seen .at))
+          (payloads w (seen .at)))
       defined = rw (e, can .sort e, can .many)

@@ -1,5 +1,5 @@
 -- Laws of the definitions of Walk.
-use mathlib.Core.Path.{_≡_, refl, sym, ap, _∙_, fun-ext}
+use mathlib.Core.Path.{_≡_, refl, sym, ap, _∙_, subst, fun-ext}
 use mathlib.Core.Bool.{Bool, true, false, cond}
 use mathlib.Core.List.{List, [], _∷_, _++_, append-nil}
 use Prim.Native.Nat.{ℕ, suc, _+_, _-_, _<_, _≤_}
@@ -11,7 +11,7 @@ use lib.Dec.{ltb}
 use borrow.Author.Tests.{ltb-true, ltb-false}
 use Rattle.engine.specs.Call.{Call}
 use Rattle.engine.specs.Call as c
-use Rattle.engine.specs.Sorts.{sortAt, Context, start, after, Allowed, leaves}
+use Rattle.engine.specs.Sorts.{Sort, sortAt, Context, start, after, Allowed, leaves}
 use Rattle.engine.specs.Encode.{Op, makesTerm, operationAt, countAt, bare, nextAt, callAt, callsFrom, decode}
 use Rattle.engine.specs.Encode as o
 use Rattle.engine.specs.WellFormed.{wellFormed, readFrom, outcome}
@@ -19,22 +19,22 @@ use Rattle.engine.proofs.Steps.{calls-end}
 use Rattle.engine.proofs.ReadBack.{stands, reads-at}
 use Rattle.engine.specs.Structure.{originOf, sortFrom, placeOfTerm}
 use Rattle.engine.proofs.StructureLaws.{Below}
-use Rattle.engine.specs.Reached.{Right, Tabled}
+use Rattle.engine.specs.Reached.{Right}
 use Rattle.engine.proofs.ReachedLaws.{right-read, said}
-use Rattle.term_table.specs.Tables.{recordSort, placeBy}
+use Rattle.term_table.specs.Near.{placeNear, sortNear, recordBy, noteRecent}
 use Rattle.term_table.specs.Sorted.{ReadTo}
-use Rattle.term_table.proofs.SortedLaws.{read-start, record-sort-said}
-use Rattle.term_table.proofs.SortedLaws.{read-next, terms-next, tabled-before, sorts-kept}
-use Rattle.term_table.specs.Placed.{Placed}
-use Rattle.term_table.proofs.PlacedLaws.{place-is}
+use Rattle.term_table.proofs.SortedLaws.{read-start, read-next, terms-next, tabled-before, sorts-kept, sorts-few}
+use Rattle.term_table.proofs.NearLaws.{place-near, near-is, record-said, Recent, recent-start, ring-more}
 use Rattle.call_list.specs.Made.{made}
 use Rattle.call_list.proofs.MadeLaws.{made-append, made-past, makes-operation}
 use Rattle.call_list.specs.Made.{sortsOf, sortOfCall}
 use Rattle.call_list.proofs.MadeLaws.{sort-here, leaves-append}
 use Rattle.call_list.specs.Records.{firstCalls}
 use Rattle.call_list.proofs.RecordsLaws.{Reached, reached-start, reached-next}
-use Rattle.call_list.proofs.RecordsLaws.{first-more, split, made-at, made-place}
-use Rattle.call_list.specs.Records.{madeAt}
+use Rattle.call_list.proofs.RecordsLaws.{first-more, split, made-place}
+use Rattle.call_list.specs.Operations.{isDeclare}
+use Rattle.call_list.specs.declared.Cursor.{Cursor}
+use Rattle.call_list.proofs.CursorsLaws.{nothingRead, cursorNext, bit-low}
 use Rattle.pieces.specs.Shape.{lineOf, bodyOf}
 use Rattle.pieces.specs.declared.Line.the-variants.{Define}
 use Rattle.pieces.specs.declared.Body.the-variants.{Literal}
@@ -42,8 +42,9 @@ use Rattle.call_list.specs.Literal.{payloads}
 use Rattle.call_list.proofs.LiteralLaws.{literal-fits}
 use Rattle.pieces.specs.Text.{numbered, spelledAs, reference}
 use Rattle.pieces.specs.Arguments.{referenceBy}
-use Rattle.script.specs.Record.{Ready, sortBy, Writable, lineAt}
-use Rattle.script.specs.Text.{lines}
+use Rattle.script.specs.Record.{Ready, sortBy, Writable}
+use Rattle.script.specs.Text.{line, lines}
+use Rattle.script.specs.Walk.{HasTables}
 use Rattle.script.proofs.TextLaws.{lines-more}
 
 -- What an allowed call says of the sort of its term is that sort.
@@ -85,134 +86,192 @@ defines-term o.unknown e = let z : _≡_ {A = ℕ} 0 1 = cc in absurd (omega ari
 ready : (w : List ℕ) (at : ℕ) (x : Context) → Right w at x → Ready w at
 ready w at x right is-literal = literal-fits w at x right (lit-body (operationAt w at) is-literal)
 
--- The walk has come to a place, past some records that make some terms; from there on the list is well formed.
-pub record Walked (w table : List ℕ) (y : Context) (records at terms : ℕ) : Type 0 where
-  pub read : ReadTo w at (leaves start (firstCalls w records)) table terms
-  pub reached : Reached w records at terms
-  pub few : records ≤ at
+-- Records passed, in any list.
+pub record Passed (w : List ℕ) (records : ℕ) (seen : Cursor) : Type 0 where
+  pub reached : Reached w records (seen .at) (seen .terms)
+  pub few : records ≤ seen .at
+  pub few-terms : seen .terms ≤ seen .at
+  pub few-names : seen .declared ≤ seen .at
   pub within : records ≤ length w
-  pub left : readFrom (length w - records) w at (leaves start (firstCalls w records)) ≡ wellFormed y
 
-pub walked-start : (w table : List ℕ) (y : Context) → outcome w ≡ wellFormed y → Walked w table y 0 0 0
-unfolding callsFrom leaves
-walked-start w table y e = record {
-  read = read-start w table;
+pub passed-start : (w : List ℕ) → Passed w 0 nothingRead
+passed-start w = record {
   reached = reached-start w;
   few = omega arith;
+  few-terms = omega arith;
+  few-names = omega arith;
   within = omega arith;
-  left = rw (sub-zero (length w)) e;
 }
 
-module _ {w table : List ℕ} {y : Context} {i at k : ℕ} (here : Walked w table y i at k) where
+module _ {w : List ℕ} {i : ℕ} {seen : Cursor} (here : Passed w i seen) where
   -- The records so far are the first of the list's.
-  all-calls : decode w ≡ firstCalls w i ++ callsFrom (length w - i) w at
+  all-calls : decode w ≡ firstCalls w i ++ callsFrom (length w - i) w (seen .at)
   all-calls =
       let sum : i + (length w - i) ≡ length w = omega (arith, here .within) in
       ap (λ (n : ℕ). callsFrom n w 0) (sym sum) ∙ split i (length w - i) w 0 ∙ rw (← here .reached .place)
 
-  pub walked-end : length w ≤ at → firstCalls w i ≡ decode w
-  walked-end past = sym (all-calls ∙ rw (calls-end (length w - i) w at past, append-nil))
+  pub passed-end : length w ≤ seen .at → firstCalls w i ≡ decode w
+  passed-end past = sym (all-calls ∙ rw (calls-end (length w - i) w (seen .at) past, append-nil))
+
+  pub passed-more : seen .at < length w → Passed w (i + 1) (cursorNext w seen)
+  passed-more inside = record {
+    reached = reached-next (here .reached) inside;
+    few = omega (arith, here .few);
+    few-terms = omega (arith, here .few-terms, bit-low (makesTerm (operationAt w (seen .at))));
+    few-names = omega (arith, here .few-names, bit-low (isDeclare (operationAt w (seen .at))));
+    within = omega (arith, here .few);
+  }
+
+-- The walk has come to a cursor's place, past some records; from there on the list is well formed.
+pub record Walked (w table recent : List ℕ) (y : Context) (records : ℕ) (seen : Cursor) : Type 0 where
+  pub read : ReadTo w (seen .at) (leaves start (firstCalls w records)) table (seen .terms)
+  pub ring : Recent (length table) recent (sortsOf (firstCalls w records))
+  pub past : Passed w records seen
+  pub left : readFrom (length w - records) w (seen .at) (leaves start (firstCalls w records)) ≡ wellFormed y
+
+pub walked-start : (w table recent : List ℕ) (y : Context) → outcome w ≡ wellFormed y →
+    Walked w table recent y 0 nothingRead
+unfolding callsFrom leaves
+walked-start w table recent y e = record {
+  read = read-start w table;
+  ring = recent-start (length table) recent;
+  past = passed-start w;
+  left = rw (sub-zero (length w)) e;
+}
+
+module _ {gap : ℕ} {w places table recent : List ℕ} {i : ℕ} {seen : Cursor} (has : HasTables gap w places table)
+    (here : Walked w table recent (has .leaving) i seen) where
+  -- The calls so far, what they leave and what all leave, and the place come to.
+  abbrev walkedCalls : List Call
+  walkedCalls = firstCalls w i
+
+  abbrev left-by : Context
+  left-by = leaves start walkedCalls
+
+  abbrev y : Context
+  y = has .leaving
+
+  abbrev at : ℕ
+  at = seen .at
 
   -- How the terms so far are written, by the table of places.
-  pub walked-references : (places : List ℕ) → Placed w places (length (y .sorts)) → referenceBy places w k
-      ≡ reference (firstCalls w i)
-  walked-references places placed = fun-ext (λ j. go j (ltb j k) refl)
+  pub walked-references : referenceBy places gap w (seen .terms) ≡ reference walkedCalls
+  walked-references = fun-ext (λ j. go j (ltb j (seen .terms)) refl)
     where
-      go : (j : ℕ) (b : Bool) → ltb j k ≡ b
-          → cond (ltb j k) (spelledAs j (callAt w (placeBy places w j))) (numbered j)
-          ≡ spelledAs j (getD (made (firstCalls w i)) j c.check)
+      go : (j : ℕ) (b : Bool) → ltb j (seen .terms) ≡ b
+          → cond (ltb j (seen .terms)) (spelledAs j (callAt w (placeNear places gap w j))) (numbered j)
+          ≡ spelledAs j (getD (made walkedCalls) j c.check)
       go j true e =
-          let low : j < k = ltb-true j k e in
-          let few : j < length (made (firstCalls w i)) = omega (arith, here .reached .many) in
+          let low : j < seen .terms = ltb-true j (seen .terms) e in
+          let few : j < length (made walkedCalls) = omega (arith, here .past .reached .many) in
           let more : j < length (made (decode w)) =
-          (rw (all-calls, made-append, length-append) (omega arith)) in
-          let inside : j < length (leaves start (firstCalls w i) .sorts) = omega (arith, here .read .counts) in
-          let kept = sorts-kept (length w - i) w at (leaves start (firstCalls w i)) y (here .left) j inside in
-          let place = place-is w places (length (y .sorts)) j placed (kept .0) in
-          let made-by : callAt w (placeOfTerm w j) ≡ getD (made (firstCalls w i)) j c.check =
-          (made-place (length w) w 0 j more ∙ ap (λ (l : List Call). getD (made l) j c.check) all-calls
-          ∙ rw made-append (List·getD-append (made (firstCalls w i)) _ c.check j few)) in
+          (rw (all-calls (here .past), made-append, length-append) (omega arith)) in
+          let inside : j < length (left-by .sorts) = omega (arith, here .read .counts) in
+          let kept = sorts-kept (length w - i) w at left-by y (here .left) j inside in
+          let place = place-near w places gap (length (y .sorts)) (has .spaced) j (kept .0) in
+          let made-by : callAt w (placeOfTerm w j) ≡ getD (made walkedCalls) j c.check =
+          (made-place (length w) w 0 j more ∙ ap (λ (l : List Call). getD (made l) j c.check) (all-calls (here .past))
+          ∙ rw made-append (List·getD-append (made walkedCalls) _ c.check j few)) in
           rw e (ap (λ (p : ℕ). spelledAs j (callAt w p)) place ∙ ap (spelledAs j) made-by)
       go j false e =
-          let past : length (made (firstCalls w i)) ≤ j = omega (arith, ltb-false j k e, here .reached .many) in
-          rw e (sym (ap (spelledAs j) (made-past (firstCalls w i) j past)))
+          let past : length (made walkedCalls) ≤ j =
+          omega (arith, ltb-false j (seen .terms) e, here .past .reached .many) in
+          rw e (sym (ap (spelledAs j) (made-past walkedCalls j past)))
+
+  -- The sorts of the terms so far, by the tables.
+  abbrev walkedSort : ℕ → Sort
+  walkedSort = sortNear table recent places gap w (seen .terms)
+
+  says : (j : ℕ) → j < length (left-by .sorts) → walkedSort j ≡ sortAt (left-by .sorts) j
+  says =
+      near-is (here .read) recent places gap (length (y .sorts)) (here .ring) (has .spaced)
+      (let few = sorts-few (length w - i) w at left-by y (here .left) in
+      let many = here .read .counts in omega arith)
 
   module _ (inside : at < length w) where
-    next : Right w at (leaves start (firstCalls w i))
-        × (readFrom (length w - (i + 1)) w (nextAt bare w at) (after (leaves start (firstCalls w i)) (callAt w at))
-        ≡ wellFormed y)
+    next : Right w at left-by
+        × (readFrom (length w - (i + 1)) w (nextAt bare w at) (after left-by (callAt w at)) ≡ wellFormed y)
     next =
-        let fuel : length w - i ≡ suc (length w - (i + 1)) = omega (arith, here .few) in
-        right-read (length w - (i + 1)) w at (leaves start (firstCalls w i)) y inside (rw fuel at (here .left))
+        let fuel : length w - i ≡ suc (length w - (i + 1)) = omega (arith, here .past .few) in
+        right-read (length w - (i + 1)) w at left-by y inside (rw fuel at (here .left))
 
-    -- The sort of the record's term, by the sorts of its arguments and by its own in the table.
-    record-sort : recordSort table w at ≡ sortOfCall (sortsOf (firstCalls w i)) (callAt w at)
-    record-sort =
-        let x = leaves start (firstCalls w i) in
-        let sort = said-sort x (callAt w at) (reads-at x w at (next .0 .head) (next .0 .arguments) .allowed) in
-        record-sort-said (here .read) (next .0) (sort .1) ∙ sort .0
+    pub walked-ready : Ready w at
+    walked-ready = ready w at left-by (next .0)
 
     last-sort : makesTerm (operationAt w at) ≡ true
-        → sortAt (after (leaves start (firstCalls w i)) (callAt w at) .sorts) k
-        ≡ sortOfCall (sortsOf (firstCalls w i)) (callAt w at)
+        → sortAt (after left-by (callAt w at) .sorts) (seen .terms) ≡ sortOfCall (sortsOf walkedCalls) (callAt w at)
     unfolding leaves
     last-sort makes =
-        ap (λ (x : Context). sortAt (x .sorts) k) (sym (leaves-append start (firstCalls w i) (callAt w at ∷ [])))
-        ∙ ap (λ (n : ℕ). sortAt (sortsOf (firstCalls w i ++ (callAt w at ∷ []))) n) (here .reached .many)
-        ∙ sort-here (firstCalls w i) (callAt w at) []
+        ap (λ (x : Context). sortAt (x .sorts) (seen .terms))
+        (sym (leaves-append start walkedCalls (callAt w at ∷ [])))
+        ∙ ap (λ (n : ℕ). sortAt (sortsOf (walkedCalls ++ (callAt w at ∷ []))) n) (here .past .reached .many)
+        ∙ sort-here walkedCalls (callAt w at) []
         (makes-operation (operationAt w at) (countAt w at) (payloads w at) ∙ makes)
 
-    table-sort : Tabled table (y .sorts) → k < length table → makesTerm (operationAt w at) ≡ true
-        → getD table k 0 ≡ sortOfCall (sortsOf (firstCalls w i)) (callAt w at)
-    table-sort tabled entered makes =
-        let after-here = after (leaves start (firstCalls w i)) (callAt w at) in
-        let one : k + 1 ≡ length (after-here .sorts) = rw makes at (terms-next (here .read) (next .0)) in
-        let kept = sorts-kept (length w - (i + 1)) w (nextAt bare w at) after-here y (next .1) k (omega arith) in
-        tabled k entered (kept .0) ∙ kept .1 ∙ last-sort makes
+    table-sort : seen .terms < length table → makesTerm (operationAt w at) ≡ true
+        → getD table (seen .terms) 0 ≡ sortOfCall (sortsOf walkedCalls) (callAt w at)
+    table-sort entered makes =
+        let after-here = after left-by (callAt w at) in
+        let one : seen .terms + 1 ≡ length (after-here .sorts) = rw makes at (terms-next (here .read) (next .0)) in
+        let kept =
+        sorts-kept (length w - (i + 1)) w (nextAt bare w at) after-here y (next .1) (seen .terms)
+        (omega arith) in
+        has .tabled (seen .terms) entered (kept .0) ∙ kept .1 ∙ last-sort makes
 
-    walked-sort : Tabled table (y .sorts) → makesTerm (operationAt w at) ≡ true
-        → sortBy table w k at ≡ sortOfCall (sortsOf (firstCalls w i)) (callAt w at)
-    walked-sort tabled makes = go (ltb k (length table)) refl
-      where
-        go : (b : Bool) → ltb k (length table) ≡ b
-            → sortBy table w k at ≡ sortOfCall (sortsOf (firstCalls w i)) (callAt w at)
-        go true e = rw e (table-sort tabled (ltb-true k (length table) e) makes)
-        go false e = rw e record-sort
-
-    pub walked-writable : (places : List ℕ) → Placed w places (length (y .sorts)) → Tabled table (y .sorts)
-        → Writable w places table i k at
-    walked-writable places placed tabled = record {
-      ready = ready w at (leaves start (firstCalls w i)) (next .0);
-      counted = stands (leaves start (firstCalls w i)) w at (next .0 .head) .counted;
-      many = here .reached .many;
-      sort = λ defines. walked-sort tabled (defines-term (operationAt w at) defines);
-      references = walked-references places placed;
-    }
-
-    leaves-more : leaves start (firstCalls w (i + 1)) ≡ after (leaves start (firstCalls w i)) (callAt w at)
+    leaves-more : leaves start (firstCalls w (i + 1)) ≡ after left-by (callAt w at)
     unfolding leaves
     leaves-more =
         ap (λ (n : ℕ). leaves start (firstCalls w n)) (add-one i)
-        ∙ ap (leaves start) (first-more (here .reached) inside)
-        ∙ leaves-append start (firstCalls w i) (callAt w at ∷ [])
-
-    pub walked-next : Tabled table (y .sorts) → Walked w table y (i + 1) (nextAt bare w at) (k + madeAt w at)
-    walked-next tabled =
-        let x = leaves start (firstCalls w i) in
-        let before =
-        tabled-before (length w - (i + 1)) table w (nextAt bare w at) (after x (callAt w at)) y (next .1) tabled in
-        record {
-          read = rw (leaves-more, made-at w at)
-              (read-next (here .read) (next .0) table _ before (terms-next (here .read) (next .0)));
-          reached = reached-next (here .reached) inside;
-          few = omega (arith, here .few);
-          within = omega (arith, here .few);
-          left = ap (λ (x : Context). readFrom (length w - (i + 1)) w (nextAt bare w at) x) leaves-more ∙ next .1;
-        }
+        ∙ ap (leaves start) (first-more w i at (here .past .reached .place) inside)
+        ∙ leaves-append start walkedCalls (callAt w at ∷ [])
 
     -- One record more is one line more.
-    pub walked-line : lines [] (firstCalls w (i + 1)) ≡ lines [] (firstCalls w i) ++ lineAt w i at
-    walked-line = rw (add-one i, first-more (here .reached) inside) (lines-more [] (firstCalls w i) (callAt w at))
+    pub walked-line : lines [] (firstCalls w (i + 1)) ≡ lines [] walkedCalls ++ line walkedCalls (callAt w at)
+    walked-line =
+        rw (add-one i, first-more w i at (here .past .reached .place) inside)
+        (lines-more [] walkedCalls (callAt w at))
+
+    -- The sort of the record's term, by the sorts of its arguments.
+    record-sort : recordBy walkedSort w at ≡ sortOfCall (sortsOf walkedCalls) (callAt w at)
+    record-sort =
+        let sort =
+        said-sort left-by (callAt w at) (reads-at left-by w at (next .0 .head) (next .0 .arguments) .allowed) in
+        record-said (here .read) (next .0) walkedSort says (sort .1) ∙ sort .0
+
+    walked-sort : makesTerm (operationAt w at) ≡ true
+        → sortBy table recent places gap w (seen .terms) at ≡ sortOfCall (sortsOf walkedCalls) (callAt w at)
+    walked-sort makes = go (ltb (seen .terms) (length table)) refl
+      where
+        go : (b : Bool) → ltb (seen .terms) (length table) ≡ b
+            → sortBy table recent places gap w (seen .terms) at ≡ sortOfCall (sortsOf walkedCalls) (callAt w at)
+        go true e = rw e (table-sort (ltb-true (seen .terms) (length table) e) makes)
+        go false e = rw e record-sort
+
+    pub walked-writable : Writable gap w places table recent walkedCalls seen
+    walked-writable = record {
+      counted = stands left-by w at (next .0 .head) .counted;
+      many = here .past .reached .many;
+      sort = λ defines. walked-sort (defines-term (operationAt w at) defines);
+      references = walked-references;
+    }
+
+    pub walked-next :
+        Walked w table (noteRecent walkedSort table recent w at (seen .terms)) y (i + 1) (cursorNext w seen)
+    walked-next =
+        let before =
+        tabled-before (length w - (i + 1)) table w (nextAt bare w at) (after left-by (callAt w at)) y
+        (next .1) (has .tabled) in
+        record {
+          read = rw leaves-more (read-next (here .read) (next .0) table _ before (terms-next (here .read) (next .0)));
+          ring =
+              subst (λ (x : Context). Recent (length table)
+              (noteRecent walkedSort table recent w at (seen .terms)) (x .sorts)) (sym leaves-more)
+              (ring-more (here .read) (next .0) walkedSort says recent (here .ring));
+          past = passed-more (here .past) inside;
+          left =
+              ap (λ (x : Context). readFrom (length w - (i + 1)) w (nextAt bare w at) x) leaves-more
+              ∙ next .1;
+        }
 
 pub lines-start : (w : List ℕ) → lines [] (firstCalls w 0) ≡ []
 unfolding lines callsFrom

@@ -18,7 +18,7 @@ use Rattle.script.specs.declared.Written.the-variants.{Bytes}
 use Rattle.asked.specs.Marks.{badMark}
 use Rattle.engine.proofs.ReadBack.{decode-formed}
 use Rattle.name_table.specs.Named.{NamesTo}
-use Rattle.checker.specs.Checking.{Checked}
+use Rattle.checker.specs.Checking.{CheckedBy}
 use Rattle.script.specs.Walk.{HasTables, HasNames}
 use Rattle.script.specs.Written.{scriptOf, refuse, roomFor, marked, written}
 
@@ -62,14 +62,14 @@ checked-malformed (wellFormed y) e = let z : _≡_ {A = ℕ} 0 1 = cc in absurd 
 checked-malformed (malformed at) {place} e = let same : at ≡ place = cc in ap some same
 
 -- The tables that the check leaves.
-pub has-tables : {w places sorts names : List ℕ} {terms declared : ℕ} →
-    Checked w places sorts names (WellFormed terms declared)
-    → HasTables w places sorts × HasNames w names
-has-tables {w} {places} {sorts} {names} k =
+pub has-tables : {gap : ℕ} {w places sorts names : List ℕ} {terms declared : ℕ} →
+    CheckedBy gap w places sorts names (WellFormed terms declared)
+    → HasTables gap w places sorts × HasNames w names
+has-tables {gap} {w} {places} {sorts} {names} k =
     let f = checked-formed (outcome w) (sym (k .is)) in
     let tables = k .tabled (f .0) (f .1) in
     let left = decode-formed w (f .0) (f .1) .left in (
-      record { leaving = f .0; formed = f .1; placed = tables .placed; tabled = tables .read .tabled },
+      record { leaving = f .0; formed = f .1; spaced = tables .spaced; tabled = tables .read .tabled },
       subst (λ (x : Context). NamesTo names (x .names)) (sym left) (tables .named),
     )
 

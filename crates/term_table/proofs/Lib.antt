@@ -1,4 +1,4 @@
 pub mod NearLaws
-pub mod PlacedLaws
+pub mod NotedLaws
 pub mod SortedLaws
 pub mod Sums

@@ -1,4 +1,4 @@
--- Laws of the definitions of NearLaws.
+-- Laws of the definitions of Near.
 use mathlib.Core.Path.{_≡_, refl, sym, ap, ap₂, _∙_, subst}
 use mathlib.Core.Bool.{Bool, true, false, cond, _&&_}
 use mathlib.Core.List.{List, [], _∷_, _++_}
@@ -27,13 +27,11 @@ use Rattle.engine.proofs.ReachedLaws.{low-start}
 use Rattle.engine.specs.Reached.{Right}
 use Rattle.engine.specs.declared.Origin.{Origin}
 use Rattle.engine.specs.declared.Origin.the-variants.{Given, Same, Joined}
-use Rattle.term_table.specs.Tables.{pickList, recordSort}
-use Rattle.term_table.specs.Near.{placeNear, isRecent, originNear, sortVia, sortNear, recordBy, noteSort}
+use Rattle.term_table.specs.Near.{placeOn, placeNear, isRecent, originNear, sortVia, sortNear, recordBy, noteSort}
 use Rattle.term_table.specs.Near.{noteRecent, notePlace}
 use Rattle.term_table.specs.Sorted.{ReadTo}
 use Rattle.term_table.proofs.SortedLaws.{read-next, tabled-more}
-use Rattle.term_table.specs.Placed.{Placed}
-use Rattle.term_table.proofs.PlacedLaws.{next-place}
+use Rattle.term_table.proofs.NotedLaws.{next-place}
 use Rattle.term_table.specs.Noted.{Spaced}
 
 -- ---- sorts by what is known of each term
@@ -179,16 +177,26 @@ place-near w places gap terms spaced k h =
     whole : k / (gap + 1) * (gap + 1) + k % (gap + 1) ≡ k
     whole = div-add-mod' k (gap + 1)
 
+    -- On from the record of the term noted before.
+    on : (b : Bool) → eqb (k % (gap + 1)) 0 ≡ b
+        → cond b (placeOfTerm w (k / (gap + 1) * (gap + 1)))
+        (termPlace (length w) w (placeOfTerm w (k / (gap + 1) * (gap + 1))) (k % (gap + 1)))
+        ≡ placeOfTerm w k
+    on true e =
+        let none = eqb-true (k % (gap + 1)) 0 e in
+        ap (placeOfTerm w) (let z = whole in omega arith)
+    on false e =
+        place-on (length w) (length w) w 0 (k / (gap + 1) * (gap + 1)) (k % (gap + 1)) (omega arith) (omega arith)
+        ∙ ap (termPlace (length w) w 0) whole
+
     go : (a : Bool) → leb (length w) 4294967296 ≡ a → (b : Bool) → ltb (k / (gap + 1)) (length places) ≡ b
-        → cond (a && b) (termPlace (length w) w (getD places (k / (gap + 1)) 0) (k % (gap + 1))) (placeOfTerm w k)
+        → cond (a && b) (placeOn w (getD places (k / (gap + 1)) 0) (k % (gap + 1))) (placeOfTerm w k)
         ≡ placeOfTerm w k
     go true e true f =
-        let noted =
-        spaced (leb-true (length w) 4294967296 e) (k / (gap + 1)) (ltb-true (k / (gap + 1)) (length places) f)
-        (let z = whole in omega arith) in
-        ap (λ (q : ℕ). termPlace (length w) w q (k % (gap + 1))) noted
-        ∙ place-on (length w) (length w) w 0 (k / (gap + 1) * (gap + 1)) (k % (gap + 1)) (omega arith) (omega arith)
-        ∙ ap (termPlace (length w) w 0) whole
+        ap (λ (q : ℕ). placeOn w q (k % (gap + 1)))
+        (spaced (leb-true (length w) 4294967296 e) (k / (gap + 1)) (ltb-true (k / (gap + 1)) (length places) f)
+        (let z = whole in omega arith))
+        ∙ on (eqb (k % (gap + 1)) 0) refl
     go true e false f = refl
     go false e b f = refl
 
@@ -222,7 +230,7 @@ recent-start first recent k past low near = absurd (omega arith)
 
 recent-more : (first : ℕ) (recent : List ℕ) (sorts : List Sort) (s terms : ℕ) → terms ≡ length sorts →
     Recent first recent sorts
-    → Recent first (pickList (leb first terms) (set recent (terms % length recent) s) recent) (sorts ++ (s ∷ []))
+    → Recent first (cond (leb first terms) (set recent (terms % length recent) s) recent) (sorts ++ (s ∷ []))
 recent-more first recent sorts s terms c ring k past low near = go (leb first terms) refl near
   where
     many : length (sorts ++ (s ∷ [])) ≡ suc terms
@@ -243,9 +251,9 @@ recent-more first recent sorts s terms c ring k past low near = go (leb first te
         ∙ sym (List·getD-append sorts (s ∷ []) 65 k (let z = c in omega arith))
 
     go : (b : Bool) → leb first terms ≡ b
-        → length (sorts ++ (s ∷ [])) ≤ k + length (pickList b (set recent (terms % length recent) s) recent)
-        → getD (pickList b (set recent (terms % length recent) s) recent)
-        (k % length (pickList b (set recent (terms % length recent) s) recent)) 0
+        → length (sorts ++ (s ∷ [])) ≤ k + length (cond b (set recent (terms % length recent) s) recent)
+        → getD (cond b (set recent (terms % length recent) s) recent)
+        (k % length (cond b (set recent (terms % length recent) s) recent)) 0
         ≡ sortAt (sorts ++ (s ∷ [])) k
     go true e close =
         let kept = length-set recent (terms % length recent) s in
@@ -261,7 +269,7 @@ module _ {w : List ℕ} {at : ℕ} {x : Context} {table : List ℕ} {terms : ℕ
   next = after x (callAt w at)
 
   module _ (sort : ℕ → Sort) (agrees : (k : ℕ) → k < length (x .sorts) → sort k ≡ sortAt (x .sorts) k) where
-    record-said : Below (length (x .sorts)) (originOf (callAt w at)) → recordBy sort w at
+    pub record-said : Below (length (x .sorts)) (originOf (callAt w at)) → recordBy sort w at
         ≡ sortFrom (sortAt (x .sorts)) (originOf (callAt w at))
     record-said b = sortFrom-ext (length (x .sorts)) sort (sortAt (x .sorts)) (originOf (callAt w at)) b agrees
 
@@ -350,15 +358,9 @@ pub note-length : (sort : ℕ → Sort) (sorts w : List ℕ) (at terms : ℕ) �
     ≡ length sorts
 note-length sort sorts w at terms = go (makesTerm (operationAt w at))
   where
-    go : (b : Bool) → length (pickList b (set sorts terms (recordBy sort w at)) sorts) ≡ length sorts
+    go : (b : Bool) → length (cond b (set sorts terms (recordBy sort w at)) sorts) ≡ length sorts
     go true = length-set sorts terms (recordBy sort w at)
     go false = refl
-
--- A table with the place of every term.
-pub spaced-whole : (w places : List ℕ) (terms : ℕ) → Spaced w places 0 terms → Placed w places terms
-spaced-whole w places terms spaced small k inside low =
-    let same : k * (0 + 1) ≡ k = omega arith in
-    spaced small k inside (omega arith) ∙ ap (placeOfTerm w) same
 
 -- ---- the sorts of the terms read so far
 
@@ -411,45 +413,6 @@ module _ {w : List ℕ} {at : ℕ} {x : Context} {table : List ℕ} {terms : ℕ
   -- What the table, the ring and the records say is the sort of each term read so far.
   pub near-is : (k : ℕ) → k < length (x .sorts) → sortNear table recent places gap w terms k ≡ sortAt (x .sorts) k
   near-is k h = via-is (suc k) k (omega arith) h
-
--- ---- by the table of sorts alone
-
-module _ (sorts w : List ℕ) where
-  abbrev plain : ℕ → Origin
-  plain = originNear sorts (0 ∷ []) (0 ∷ []) 0 w 0
-
-  plain-place : (k : ℕ) → placeNear (0 ∷ []) 0 w k ≡ placeOfTerm w k
-  plain-place k = go (leb (length w) 4294967296) (ltb (k / (0 + 1)) 1) refl
-    where
-      go : (a b : Bool) → ltb (k / (0 + 1)) 1 ≡ b
-          → cond (a && b) (termPlace (length w) w (getD (0 ∷ []) (k / (0 + 1)) 0) (k % (0 + 1))) (placeOfTerm w k)
-          ≡ placeOfTerm w k
-      go true true e =
-          let few = ltb-true (k / (0 + 1)) 1 e in
-          let first : k / (0 + 1) ≡ 0 = omega arith in
-          let rest : k % (0 + 1) ≡ k = omega arith in
-          ap₂ (λ (i j : ℕ). termPlace (length w) w (getD (0 ∷ []) i 0) j) first rest
-      go true false e = refl
-      go false b e = refl
-
-  origin-plain : (k : ℕ) → plain k ≡ originBy sorts w k
-  origin-plain k = rw (le-ltb k 0 (omega arith), plain-place k)
-
-  via-plain : (n k : ℕ) → sortVia n plain k ≡ sortThrough n sorts w k
-  unfolding sortVia sortThrough
-  via-plain zero k = refl
-  via-plain (suc n) k =
-      ap (sortFrom (sortVia n plain)) (origin-plain k)
-      ∙ sortFrom-ext k (sortVia n plain) (sortThrough n sorts w) (originBy sorts w k) (known-below sorts w k)
-      (λ a b. via-plain n a)
-
-  pub near-plain : (at : ℕ) → recordBy (sortNear sorts (0 ∷ []) (0 ∷ []) 0 w 0) w at ≡ recordSort sorts w at
-  near-plain at = go (originOf (callAt w at))
-    where
-      go : (d : Origin) → sortFrom (sortNear sorts (0 ∷ []) (0 ∷ []) 0 w 0) d ≡ sortFrom (sortOfTerm sorts w) d
-      go (Given s) = refl
-      go (Same a) = via-plain (suc (a .0)) (a .0)
-      go (Joined a b) = rw (via-plain (suc (a .0)) (a .0), via-plain (suc (b .0)) (b .0))
 
 -- A sort that is written fits a byte.
 pub record-low : (sorts recent places : List ℕ) (gap : ℕ) (w : List ℕ) (terms at : ℕ)

@@ -13,19 +13,11 @@ use Rattle.engine.specs.Sorts.{Sort, Context, start, after, sortAt}
 use Rattle.engine.specs.WellFormed.{wellFormed, readFrom}
 use lib.Dec.{ltb}
 use borrow.Author.Tests.{ltb-true, ltb-false}
-use Rattle.engine.specs.Structure.{originOf, sortFrom, sortOfTerm}
-use Rattle.engine.proofs.StructureLaws.{Below, sortFrom-ext}
 use Rattle.engine.proofs.ReadBack.{stands}
 use Rattle.engine.proofs.ReachedLaws.{Makes, one, nothing, makes-at, makes-op, passes-snoc, right-read, grows}
-use Rattle.engine.proofs.ReachedLaws.{sort-said}
 use Rattle.engine.specs.Reached.{Right, Tabled}
 use Rattle.engine.specs.Encode.{makesTerm, operationAt, bare, nextAt, callAt}
-use Rattle.term_table.specs.Tables.{recordSort}
 use Rattle.term_table.specs.Sorted.{ReadTo}
-
-module _ {w : List ℕ} {at : ℕ} {x : Context} {table : List ℕ} {terms : ℕ} (r : ReadTo w at x table terms) where
-  pub term-sort-is : (k : ℕ) → k < length (x .sorts) → sortOfTerm table w k ≡ sortAt (x .sorts) k
-  term-sort-is k h = sort-said (r .records) table w at x (r .passes) (r .within) (r .tabled) (suc k) k (omega arith) h
 
 -- Nothing is read at first.
 pub read-start : (w table : List ℕ) → ReadTo w 0 start table 0
@@ -57,13 +49,6 @@ module _ {w : List ℕ} {at : ℕ} {x : Context} {table : List ℕ} {terms : ℕ
     (right : Right w at x) where
   abbrev next : Context
   next = after x (callAt w at)
-
-  -- The sort of a record, from the table, is what its call says of it.
-  pub record-sort-said : Below (length (x .sorts)) (originOf (callAt w at))
-      → recordSort table w at ≡ sortFrom (sortAt (x .sorts)) (originOf (callAt w at))
-  record-sort-said b =
-      sortFrom-ext (length (x .sorts)) (sortOfTerm table w) (sortAt (x .sorts)) (originOf (callAt w at)) b
-      (λ k h. term-sort-is r k h)
 
   -- One record more, with a table that has its term's sort.
   pub read-next : (t : List ℕ) (n : ℕ) → Tabled t (next .sorts) → n ≡ length (next .sorts) →

@@ -6,15 +6,15 @@ use engine::BinaryOp;
 use engine::Origin;
 use logic::Term;
 ghost use mathlib.Core.Path.{_≡_};
+ghost use mathlib.Core.Bool.{cond};
 ghost use Prim.Native.Nat.{suc, _+_, _-_, _/_, _%_, _<_, _^_};
 ghost use lib.ListN.{length, getD, set};
 ghost use lib.Dec.{leb};
 ghost use Rattle.engine.specs.Encode.{callAt};
 ghost use Rattle.engine.specs.Structure.{binaryOrigin, originOf, capped, guarded};
 ghost use Rattle.engine.specs.Emit.{binaryOf};
-ghost use Rattle.term_table.specs.Tables.{pickList, recordSort, placeBy};
 ghost use Rattle.term_table.specs.Near.{placeNear, isRecent, originNear, sortNear, recordBy};
-ghost use Rattle.term_table.specs.Near.{noteSort, noteRecent, notePlace};
+ghost use Rattle.term_table.specs.Near.{noteSort, noteRecent, notePlace, gapOf};
 
 fn extract_width(high: u32, low: u32) -> u32
     requires { ⌜ high < 2 ^ 29 ⌝ }
@@ -116,9 +116,9 @@ fn earlier_origin(k: u32, origin: Origin) -> Origin
     }
 }
 
-// The place of the record that makes a term, counted on from the place that the table of places has before it: of every
-// `gap + 1`th term, in a list of at most 2^32 words.
-fn near_place(calls: &[u32], places: &[u32], gap: u32, k: u32) -> usize
+// The place of the record that makes a term: from the table of places, which has that of every `gap + 1`th term, or
+// counted on from the one before it. A table of words has the places of a list of at most 2^32 words.
+pub fn near_place(calls: &[u32], places: &[u32], gap: u32, k: u32) -> usize
     ensures { λ r. ⌜ r ≡ placeNear (now (places .entry)) gap (now (calls .entry)) k ⌝ }
 {
     let step = gap as usize + 1;
@@ -126,7 +126,11 @@ fn near_place(calls: &[u32], places: &[u32], gap: u32, k: u32) -> usize
     if calls.len() <= 4294967296 {
         if slot < places.len() {
             let from = logic::word_at(places, slot) as usize;
-            return call_list::place_from(calls, from, (k as usize % step) as u32);
+            let left = (k as usize % step) as u32;
+            if left == 0 {
+                return from;
+            }
+            return call_list::place_from(calls, from, left);
         }
         return call_list::place_of_term(calls, Term(k));
     }
@@ -260,15 +264,6 @@ pub fn sort_at(
     }
 }
 
-// The sort of the term that the record at a place makes, by the table of sorts alone.
-pub fn record_sort(calls: &[u32], sorts: &[u8], at: usize) -> u32
-    ensures { λ r. ⌜ r ≡ recordSort (now (sorts .entry)) (now (calls .entry)) at ⌝ }
-{
-    let recent = [0u8; 1];
-    let places = [0u32; 1];
-    sort_at(calls, sorts, &recent, &places, 0, 0, at)
-}
-
 // A number stored at a place of a table; past its end nothing changes.
 fn put_byte(table: &mut [u8], at: usize, value: u32)
     requires { ⌜ value < 256 ⌝ }
@@ -283,7 +278,7 @@ fn put_byte(table: &mut [u8], at: usize, value: u32)
 fn put_recent(sorts: &[u8], recent: &mut [u8], k: usize, value: u32)
     requires { ⌜ value < 256 ⌝ }
     ensures { λ _. ⌜ now (recent .exit)
-        ≡ pickList (leb (length (now (sorts .entry))) k)
+        ≡ cond (leb (length (now (sorts .entry))) k)
         (set (now (recent .entry)) (k % length (now (recent .entry))) value) (now (recent .entry)) ⌝ }
 {
     if sorts.len() <= k {
@@ -345,27 +340,15 @@ pub fn note_sort(
     }
 }
 
-// The place of the record that makes a term: from the table of the first terms' places, past it by the records. A table
-// of words has the places of a list of at most 2^32 words.
-pub fn term_place(calls: &[u32], places: &[u32], term: Term) -> usize
-    ensures { λ r. ⌜ r ≡ placeBy (now (places .entry)) (now (calls .entry)) (term .0) ⌝ }
+// How many terms to leave out between two whose places are noted, with room for so many places. A record that makes a
+// term has at least two words, so that the table reaches to the end of the list.
+pub fn gap_of(calls: &[u32], places: usize) -> u32
+    ensures { λ r. ⌜ r ≡ gapOf (length (now (calls .entry))) places ⌝ }
 {
-    let k = term.0 as usize;
-    if calls.len() <= 4294967296 {
-        if k < places.len() {
-            return logic::word_at(places, k) as usize;
-        }
-        return call_list::place_of_term(calls, term);
+    if places == 0 {
+        return 0;
     }
-    call_list::place_of_term(calls, term)
-}
-
-// How many terms to leave out between two whose places are noted: the list's words by `per + 1`. A record that makes a
-// term has at least two words, so that a table of half as many places reaches to the end of the list.
-pub fn gap_of(calls: &[u32], per: u32) -> u32
-    ensures { λ r. ⌜ r ≡ length (now (calls .entry)) / (per + 1) % 4294967296 ⌝ }
-{
-    (calls.len() / (per as usize + 1) % 4294967296) as u32
+    (calls.len() / places / 2 % 4294967296) as u32
 }
 
 // The place of the record that makes a term goes into the table of places, if it is the term's turn: of every `gap +

@@ -4,7 +4,7 @@ ghost use mathlib.Core.Path.{_≡_};
 ghost use mathlib.Core.List.{_∷_, []};
 ghost use Prim.Native.Nat.{_+_, _-_, _≤_, _<_, _^_};
 ghost use lib.ListN.{length, take, getD, set};
-ghost use Rattle.engine.specs.Emit.{Wrote, overwrite, counted};
+ghost use Rattle.engine.specs.Emit.{Wrote, overwrite};
 ghost use Rattle.text.specs.Bytes.{decimal};
 ghost use Rattle.text.specs.Names.{spelling};
 
@@ -13,17 +13,6 @@ pub fn byte_at(text: &[u8], at: usize) -> u8
     ensures { λ r. ⌜ r ≡ getD (now (text .entry)) at 0 ⌝ }
 {
     if at < text.len() { text[at] } else { 0 }
-}
-
-// The place after so many more bytes; the largest place stays.
-pub fn place_past(at: usize, n: usize) -> usize
-    ensures { λ r. ⌜ r ≡ counted (at + n) ⌝ }
-{
-    if n < 18446744073709551615 - at {
-        at + n
-    } else {
-        18446744073709551615
-    }
 }
 
 // A byte stored at a place of a text; past its end nothing changes.
@@ -40,7 +29,7 @@ pub fn put_byte(text: &mut [u8], at: usize, byte: u8) -> usize
     ensures { λ r. ⌜ Wrote (now (text .entry)) at (byte ∷ []) (now (text .exit)) r ⌝ }
 {
     set_byte(text, at, byte);
-    place_past(at, 1)
+    counting::counted_sum(at, 1)
 }
 
 // Stores the first n of some bytes from a place on.
@@ -60,15 +49,15 @@ pub fn put_bytes(text: &mut [u8], at: usize, bytes: &[u8]) -> usize
     ensures { λ r. ⌜ Wrote (now (text .entry)) at (now (bytes .entry)) (now (text .exit)) r ⌝ }
 {
     if text.len() <= at {
-        return place_past(at, bytes.len());
+        return counting::counted_sum(at, bytes.len());
     }
     let room = text.len() - at;
     if room < bytes.len() {
         copy_bytes(text, at, bytes, room);
-        return place_past(at, bytes.len());
+        return counting::counted_sum(at, bytes.len());
     }
     copy_bytes(text, at, bytes, bytes.len());
-    place_past(at, bytes.len())
+    counting::counted_sum(at, bytes.len())
 }
 
 // How many decimal digits a number has.
@@ -115,9 +104,9 @@ pub fn put_number(text: &mut [u8], at: usize, n: usize) -> usize
     let count = digit_count(n);
     if at < text.len() {
         store_digits(text, at, n, count);
-        return place_past(at, count);
+        return counting::counted_sum(at, count);
     }
-    place_past(at, count)
+    counting::counted_sum(at, count)
 }
 
 // Writes a name from a place on, its letter and suffix as bytes, and gives the next place.

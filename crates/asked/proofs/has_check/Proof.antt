@@ -13,13 +13,13 @@ use Rattle.asked.proofs.has_check.Statement.{statement}
 use Rattle.asked.proofs.has_check.Tie as tie
 
 abbrev Inv-loop : tie.InvT-loop
-Inv-loop calls head₀ head = (records terms : ℕ) × NoneOf checks calls records head terms
+Inv-loop calls head₀ head = (records : ℕ) × NoneOf checks calls records head
 
 abbrev μ-loop : tie.MeasureT-loop
 μ-loop calls head₀ head = length calls - head
 
 loop-holds : tie.Need-loop-holds Inv-loop μ-loop
-loop-holds c = (0, 0, none-start _ _)
+loop-holds c = (0, none-start _ _)
 
 checks-here-requires : tie.Need-checks-here-requires Inv-loop μ-loop
 checks-here-requires c κs = search needs
@@ -29,7 +29,7 @@ returns c =
     let asked = c .before in
     let turn = asked .before in
     let check = sym (asked .checks-here .ensures) ∙ c .if1 .taken in
-    sym (checked-any _ ∙ some-here (turn .before .loop .inv .2) (turn .loop-test .taken) check)
+    sym (checked-any _ ∙ some-here (turn .before .loop .inv .1) (turn .loop-test .taken) check)
 
 next-record-requires : tie.Need-next-record-requires Inv-loop μ-loop
 next-record-requires c κs = search needs
@@ -52,11 +52,11 @@ loop-again c =
     let next : nextAt bare (start .args .calls .now) (looped .loop .head) ≡ c .next-record .result =
     omega (arith, inside, c .next-record .ensures) in
     let none = sym (asked .checks-here .ensures) ∙ other .if1 .left in
-    let step = none-next (looped .loop .inv .2) inside none in
-    (_, _, rw next at step)
+    let step = none-next (looped .loop .inv .1) inside none in
+    (_, rw next at step)
 
 returns-2 : tie.Need-returns-2 Inv-loop μ-loop
-returns-2 c = sym (checked-any _ ∙ none-end (c .before .loop .inv .2) (c .loop-test .left))
+returns-2 c = sym (checked-any _ ∙ none-end (c .before .loop .inv .1) (c .loop-test .left))
 
 pub has-check-spec : {M : Type 1} → statement M
 has-check-spec =

@@ -12,14 +12,14 @@ use Rattle.asked.proofs.is_declared.Statement.{statement}
 use Rattle.asked.proofs.is_declared.Tie as tie
 
 abbrev Inv-loop : tie.InvT-loop
-Inv-loop calls letter index suffix head₀ head = (records terms : ℕ)
-    × NoneOf (declaresName letter index suffix) calls records head terms
+Inv-loop calls letter index suffix head₀ head = (records : ℕ)
+    × NoneOf (declaresName letter index suffix) calls records head
 
 abbrev μ-loop : tie.MeasureT-loop
 μ-loop calls letter index suffix head₀ head = length calls - head
 
 loop-holds : tie.Need-loop-holds Inv-loop μ-loop
-loop-holds c = (0, 0, none-start _ _)
+loop-holds c = (0, none-start _ _)
 
 declares-here-requires : tie.Need-declares-here-requires Inv-loop μ-loop
 declares-here-requires c κs = search needs
@@ -29,7 +29,7 @@ returns c =
     let tested = c .before in
     let turn = tested .before in
     let looped = turn .before in
-    sym (some-here (looped .loop .inv .2) (turn .loop-test .taken)
+    sym (some-here (looped .loop .inv .1) (turn .loop-test .taken)
     (sym (tested .declares-here .ensures) ∙ c .if1 .taken))
 
 next-record-requires : tie.Need-next-record-requires Inv-loop μ-loop
@@ -52,11 +52,11 @@ loop-again c =
     let short = start .good .0 in
     let next : nextAt bare (start .args .calls .now) (looped .loop .head) ≡ c .next-record .result =
     omega (arith, inside, c .next-record .ensures) in
-    let step = none-next (looped .loop .inv .2) inside (sym (tested .declares-here .ensures) ∙ other .if1 .left) in
-    (_, _, rw next at step)
+    let step = none-next (looped .loop .inv .1) inside (sym (tested .declares-here .ensures) ∙ other .if1 .left) in
+    (_, rw next at step)
 
 returns-2 : tie.Need-returns-2 Inv-loop μ-loop
-returns-2 c = sym (none-end (c .before .loop .inv .2) (c .loop-test .left))
+returns-2 c = sym (none-end (c .before .loop .inv .1) (c .loop-test .left))
 
 pub is-declared-spec : {M : Type 1} → statement M
 is-declared-spec =

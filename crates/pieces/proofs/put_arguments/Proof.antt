@@ -14,12 +14,12 @@ use Rattle.pieces.proofs.put_arguments.Statement.{statement}
 use Rattle.pieces.proofs.put_arguments.Tie as tie
 
 abbrev Inv-loop : tie.InvT-loop
-Inv-loop text₀ start calls places terms head n at₀ i₀ text at i =
+Inv-loop text₀ start calls places gap terms head n at₀ i₀ text at i =
     (i ≤ n) × (length text ≡ length text₀)
-    × Wrote text₀ start (spaced (argumentTexts places calls terms head i)) text at
+    × Wrote text₀ start (spaced (argumentTexts places gap calls terms head i)) text at
 
 abbrev μ-loop : tie.MeasureT-loop
-μ-loop text₀ start calls places terms head n at₀ i₀ text at i = n - i
+μ-loop text₀ start calls places gap terms head n at₀ i₀ text at i = n - i
 
 loop-holds : tie.Need-loop-holds Inv-loop μ-loop
 loop-holds c = (omega arith, refl, rw spaced-none (wrote-none _ _ (omega arith)))

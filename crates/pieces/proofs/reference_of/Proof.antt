@@ -11,8 +11,8 @@ returns c =
     let past = c .before in
     let start = past .before .before .before .before in
     c .number-of .ensures
-    ∙ sym (reference-past (start .args .places .now) (start .args .calls .now) (start .args .terms)
-    (start .args .term .0) (past .if1 .taken))
+    ∙ sym (reference-past (start .args .places .now) (start .args .gap) (start .args .calls .now)
+    (start .args .terms) (start .args .term .0) (past .if1 .taken))
 
 returns-2 : tie.Need-returns-2
 returns-2 c =
@@ -24,9 +24,9 @@ returns-2 c =
     let start = low .before .before .before .before in
     let told = sym (asked .is-declare .ensures ∙ ap isDeclare (known .operation-at .ensures)) ∙ tested .if2 .taken in
     c .declared-name .ensures
-    ∙ sym (reference-declared (start .args .places .now) (start .args .calls .now) (start .args .terms)
-    (start .args .term .0) (low .if1 .left)
-    (found .term-place .ensures) told)
+    ∙ sym (reference-declared (start .args .places .now) (start .args .gap) (start .args .calls .now)
+    (start .args .terms) (start .args .term .0) (low .if1 .left)
+    (found .near-place .ensures) told)
 
 returns-3 : tie.Need-returns-3
 returns-3 c =
@@ -38,9 +38,9 @@ returns-3 c =
     let start = low .before .before .before .before in
     let told = sym (asked .is-declare .ensures ∙ ap isDeclare (known .operation-at .ensures)) ∙ tested .if2 .left in
     c .number-of2 .ensures
-    ∙ sym (reference-numbered (start .args .places .now) (start .args .calls .now) (start .args .terms)
-    (start .args .term .0) (low .if1 .left)
-    (found .term-place .ensures) told)
+    ∙ sym (reference-numbered (start .args .places .now) (start .args .gap) (start .args .calls .now)
+    (start .args .terms) (start .args .term .0) (low .if1 .left)
+    (found .near-place .ensures) told)
 
 pub reference-of-spec : {M : Type 1} → statement M
 reference-of-spec =

@@ -10,10 +10,11 @@ returns c =
     let told = written .before .before .before in
     let found = told .before .before in
     let known = found .before in
-    let start = known .before .before .before .before .before in
-    let kind = line-kind (start .args .calls .now) (start .args .head) (known .operation-at .ensures)
+    let lent = known .before .before .before in
+    let start = lent .before .before .before in
+    let kind = line-kind (start .args .calls .now) (start .args .seen .at) (known .operation-at .ensures)
     (found .line-of .ensures) (told .enum-told .given .1) in
-    rw (line-defined (start .pre) kind)
+    λ before can. rw (line-defined can kind)
     (rw (written .before .before .sort-here .ensures) at (written .put-define .ensures))
 
 returns-2 : tie.Need-returns-2
@@ -22,10 +23,11 @@ returns-2 c =
     let told = written .before .before in
     let found = told .before .before in
     let known = found .before in
-    let start = known .before .before .before .before .before in
-    let kind = line-kind (start .args .calls .now) (start .args .head) (known .operation-at .ensures)
+    let lent = known .before .before .before in
+    let start = lent .before .before .before in
+    let kind = line-kind (start .args .calls .now) (start .args .seen .at) (known .operation-at .ensures)
     (found .line-of .ensures) (told .enum-told2 .given .1) in
-    rw (line-declared (start .pre) kind) (written .put-declare .ensures)
+    λ before can. rw (line-declared can kind) (written .put-declare .ensures)
 
 returns-3 : tie.Need-returns-3
 returns-3 c =
@@ -33,10 +35,11 @@ returns-3 c =
     let told = written .before .before in
     let found = told .before .before in
     let known = found .before in
-    let start = known .before .before .before .before .before in
-    let kind = line-kind (start .args .calls .now) (start .args .head) (known .operation-at .ensures)
+    let lent = known .before .before .before in
+    let start = lent .before .before .before in
+    let kind = line-kind (start .args .calls .now) (start .args .seen .at) (known .operation-at .ensures)
     (found .line-of .ensures) (told .enum-told3 .given .1) in
-    rw (line-asserted (start .pre) kind) (written .put-assert .ensures)
+    λ before can. rw (line-asserted can kind) (written .put-assert .ensures)
 
 returns-4 : tie.Need-returns-4
 returns-4 c =
@@ -44,10 +47,11 @@ returns-4 c =
     let told = written .before .before .before in
     let found = told .before .before in
     let known = found .before in
-    let start = known .before .before .before .before .before in
-    let kind = line-kind (start .args .calls .now) (start .args .head) (known .operation-at .ensures)
+    let lent = known .before .before .before in
+    let start = lent .before .before .before in
+    let kind = line-kind (start .args .calls .now) (start .args .seen .at) (known .operation-at .ensures)
     (found .line-of .ensures) (told .enum-told4 .given .1) in
-    rw (line-checked (start .pre) kind) (written .put-bytes .ensures)
+    λ before can. rw (line-checked can kind) (written .put-bytes .ensures)
 
 pub put-record-spec : {M : Type 1} → statement M
 put-record-spec =

@@ -21,17 +21,22 @@ put-ending-requires c κs = search needs
 same-length : tie.Need-same-length
 same-length c =
     let ended = c .before .before in
-    let lined = ended .before .before .before .before in
-    let headed = lined .before .before .before .before in
+    let ringed = ended .before .before .before in
+    let lined = ringed .before .before .before in
+    let headed = lined .before .before .before .before .before in
     ended .put-ending .kept .0 ∙ lined .put-records .kept .0 ∙ headed .put-bytes .kept .0
+
+same-length-2 : tie.Need-same-length-2
+same-length-2 c = search needs
 
 returns : tie.Need-returns
 unfolding script
 returns c =
     let ended = c .before .before in
-    let lined = ended .before .before .before .before in
-    let headed = lined .before .before .before .before in
-    let lent = headed .before .before in
+    let ringed = ended .before .before .before in
+    let lined = ringed .before .before .before in
+    let headed = lined .before .before .before .before .before in
+    let lent = headed .before .before .before in
     let known = lent .before .before .before in
     let start = known .before .before .before in
     let short = start .good .0 .0 in
@@ -47,4 +52,5 @@ put-script-spec =
     put-records-requires
     put-ending-requires
     same-length
+    same-length-2
     returns)

@@ -6,13 +6,15 @@ use Rattle.script.proofs.sort_here.Statement.{statement}
 use Rattle.script.proofs.sort_here.Tie as tie
 
 cast-result : tie.Need-cast-result
-cast-result c = omega (arith, c .shared-slice-known3 .given (c .before .before .before .before .args .terms))
+cast-result c =
+    let known = c .before .before .before in
+    omega (arith, c .shared-slice-known5 .given (known .before .before .before .args .terms))
 
 returns : tie.Need-returns
 returns c = rw (lt-ltb _ _ (c .before .if1 .taken))
 
 returns-2 : tie.Need-returns-2
-returns-2 c = rw (le-ltb _ _ (c .before .if1 .left)) (c .record-sort .ensures)
+returns-2 c = rw (le-ltb _ _ (c .before .if1 .left)) (c .sort-at .ensures)
 
 pub sort-here-spec : {M : Type 1} → statement M
 sort-here-spec =

@@ -13,33 +13,42 @@ use Rattle.script.proofs.write_fitting.Tie as tie
 script-length-requires : tie.Need-script-length-requires
 script-length-requires c κs = search needs
 
+same-length : tie.Need-same-length
+same-length c = search needs
+
 returns : tie.Need-returns
 returns c =
-    let count = c .before in
-    let known = count .before .before .before in
+    let count = c .before .before .before in
+    let lent = count .before .before in
+    let known = lent .before .before .before in
     let start = known .before .before .before in
     let text = scriptOf (start .args .calls .now) (start .args .recorded .now) in
     let room = length (start .args .text .now) in
-    let short = start .good .1 .1 .1 .1 .0 in
+    let short = start .good .1 .1 .1 .1 .1 .1 .0 in
     let counted = count .script-length .ensures in
     record { answers = sym (room-short text room _ (omega arith) counted (c .if1 .taken)); writes = refl }
 
 put-script-requires : tie.Need-put-script-requires
 put-script-requires c κs = search needs
 
-same-length : tie.Need-same-length
-same-length c = search needs
+same-length-2 : tie.Need-same-length-2
+same-length-2 c = search needs
+
+same-length-3 : tie.Need-same-length-3
+same-length-3 c = search needs
 
 returns-2 : tie.Need-returns-2
 returns-2 c =
-    let written = c .before .before in
-    let tested = written .before .before in
-    let count = tested .before in
-    let known = count .before .before .before in
+    let worded = c .before .before in
+    let written = worded .before .before in
+    let tested = written .before .before .before in
+    let count = tested .before .before .before in
+    let lent = count .before .before in
+    let known = lent .before .before .before in
     let start = known .before .before .before in
     let text = scriptOf (start .args .calls .now) (start .args .recorded .now) in
     let room = length (start .args .text .now) in
-    let short = start .good .1 .1 .1 .1 .0 in
+    let short = start .good .1 .1 .1 .1 .1 .1 .0 in
     let counted = count .script-length .ensures in
     let wrote = written .put-script .ensures in
     let fits : length text ≤ room = omega (arith, counted, tested .if1 .left) in
@@ -52,4 +61,11 @@ returns-2 c =
 pub write-fitting-spec : {M : Type 1} → statement M
 write-fitting-spec =
     tie.close
-    (tie.spec script-length-requires returns put-script-requires same-length returns-2)
+    (tie.spec
+    script-length-requires
+    same-length
+    returns
+    put-script-requires
+    same-length-2
+    same-length-3
+    returns-2)

@@ -25,7 +25,7 @@ returns c =
     let marks = told .before .before in
     let known = marks .before .before .before in
     let opened = known .before .before .before in
-    let start = opened .before in
+    let start = opened .before .before in
     let same =
     bad-is (start .args .names .now) (decode (start .args .calls .now)) (start .pre .1) 0
     (start .args .recorded .now) in
@@ -35,14 +35,18 @@ returns c =
 same-length : tie.Need-same-length
 same-length c = search needs
 
+same-length-2 : tie.Need-same-length-2
+same-length-2 c = search needs
+
 returns-2 : tie.Need-returns-2
 returns-2 c =
-    let wrote = c .before .before in
-    let told = wrote .before .before in
+    let ringed = c .before .before in
+    let wrote = ringed .before .before in
+    let told = wrote .before .before .before in
     let marks = told .before .before in
     let known = marks .before .before .before in
     let opened = known .before .before .before in
-    let start = opened .before in
+    let start = opened .before .before in
     let same =
     bad-is (start .args .names .now) (decode (start .args .calls .now)) (start .pre .1) 0
     (start .args .recorded .now) in
@@ -55,4 +59,12 @@ returns-2 c =
 pub write-marked-spec : {M : Type 1} → statement M
 write-marked-spec =
     tie.close
-    (tie.spec bad-mark-requires enum-known-slot enum-told write-fitting-requires returns same-length returns-2)
+    (tie.spec
+    bad-mark-requires
+    enum-known-slot
+    enum-told
+    write-fitting-requires
+    returns
+    same-length
+    same-length-2
+    returns-2)

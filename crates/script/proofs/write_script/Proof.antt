@@ -3,31 +3,41 @@ use borrow.Author.Needs.{needs}
 use Rattle.script.proofs.write_script.Statement.{statement}
 use Rattle.script.proofs.write_script.Tie as tie
 
-slice-aggregate-write-script-with : tie.Need-slice-aggregate-write-script-with
-slice-aggregate-write-script-with c = search needs
+gap-for-requires : tie.Need-gap-for-requires
+gap-for-requires c κs = search needs
 
-slice-aggregate-write-script-with-2 : tie.Need-slice-aggregate-write-script-with-2
-slice-aggregate-write-script-with-2 c = search needs
+slice-aggregate-write-script-by : tie.Need-slice-aggregate-write-script-by
+slice-aggregate-write-script-by c = search needs
 
-slice-aggregate-write-script-with-3 : tie.Need-slice-aggregate-write-script-with-3
-slice-aggregate-write-script-with-3 c = search needs
+slice-aggregate-write-script-by-2 : tie.Need-slice-aggregate-write-script-by-2
+slice-aggregate-write-script-by-2 c = search needs
 
-write-script-with-requires : tie.Need-write-script-with-requires
-write-script-with-requires c κs = search needs
+slice-aggregate-write-script-by-3 : tie.Need-slice-aggregate-write-script-by-3
+slice-aggregate-write-script-by-3 c = search needs
+
+slice-aggregate-write-script-by-4 : tie.Need-slice-aggregate-write-script-by-4
+slice-aggregate-write-script-by-4 c = search needs
+
+write-script-by-requires : tie.Need-write-script-by-requires
+write-script-by-requires c κs = search needs
 
 same-length : tie.Need-same-length
 same-length c = search needs
 
 returns : tie.Need-returns
-returns c = let lent = c .before .before .before in lent .before .before .write-script-with .ensures
+returns c =
+    let sorted = c .before .before .before in
+    sorted .before .before .before .write-script-by .ensures
 
 pub write-script-spec : {M : Type 1} → statement M
 write-script-spec =
     tie.close
     (tie.spec
-    slice-aggregate-write-script-with
-    slice-aggregate-write-script-with-2
-    slice-aggregate-write-script-with-3
-    write-script-with-requires
+    gap-for-requires
+    slice-aggregate-write-script-by
+    slice-aggregate-write-script-by-2
+    slice-aggregate-write-script-by-3
+    slice-aggregate-write-script-by-4
+    write-script-by-requires
     same-length
     returns)

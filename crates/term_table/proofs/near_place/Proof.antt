@@ -3,7 +3,7 @@ use borrow.Author.Needs.{needs}
 use Prim.Native.Nat.{_+_}
 use native.Mathlib.Omega.{arith}
 use native.Mathlib.Nat.{mod-le}
-use borrow.Author.Tests.{lt-ltb, le-ltb, le-leb, lt-leb}
+use borrow.Author.Tests.{lt-ltb, le-ltb, le-leb, lt-leb, eq-eqb, ne-eqb}
 use Rattle.term_table.proofs.near_place.Statement.{statement}
 use Rattle.term_table.proofs.near_place.Tie as tie
 
@@ -19,15 +19,12 @@ word-at-requires c κs = search needs
 cast-from : tie.Need-cast-from
 cast-from c = search needs
 
-rem-place-from : tie.Need-rem-place-from
-rem-place-from c = search needs
+rem-left : tie.Need-rem-left
+rem-left c = search needs
 
-cast-place-from : tie.Need-cast-place-from
-cast-place-from c = let args = c .before .before .before .before .before .args in
+cast-left : tie.Need-cast-left
+cast-left c = let args = c .before .before .before .before .before .args in
     omega (arith, mod-le (args .k) (args .gap + 1))
-
-place-from-requires : tie.Need-place-from-requires
-place-from-requires c κs = search needs
 
 returns : tie.Need-returns
 returns c =
@@ -36,6 +33,22 @@ returns c =
     rw (
       le-leb _ _ (tested .before .if1 .taken),
       lt-ltb _ _ (tested .if2 .taken),
+      eq-eqb _ _ (c .if3 .taken),
+      read .word-at .ensures,
+    )
+
+place-from-requires : tie.Need-place-from-requires
+place-from-requires c κs = search needs
+
+returns-2 : tie.Need-returns-2
+returns-2 c =
+    let noted = c .before in
+    let read = noted .before in
+    let tested = read .before in
+    rw (
+      le-leb _ _ (tested .before .if1 .taken),
+      lt-ltb _ _ (tested .if2 .taken),
+      ne-eqb _ _ (noted .if3 .left),
       c .place-from .ensures,
       read .word-at .ensures,
     )
@@ -43,15 +56,15 @@ returns c =
 place-of-term-requires : tie.Need-place-of-term-requires
 place-of-term-requires c κs = search needs
 
-returns-2 : tie.Need-returns-2
-returns-2 c =
+returns-3 : tie.Need-returns-3
+returns-3 c =
     rw (le-leb _ _ (c .before .before .if1 .taken), le-ltb _ _ (c .before .if2 .left), c .place-of-term .ensures)
 
 place-of-term-requires-2 : tie.Need-place-of-term-requires-2
 place-of-term-requires-2 c κs = search needs
 
-returns-3 : tie.Need-returns-3
-returns-3 c = rw (lt-leb _ _ (c .before .if1 .left), c .place-of-term2 .ensures)
+returns-4 : tie.Need-returns-4
+returns-4 c = rw (lt-leb _ _ (c .before .if1 .left), c .place-of-term2 .ensures)
 
 pub near-place-spec : {M : Type 1} → statement M
 near-place-spec =
@@ -61,11 +74,12 @@ near-place-spec =
     div-slot
     word-at-requires
     cast-from
-    rem-place-from
-    cast-place-from
-    place-from-requires
+    rem-left
+    cast-left
     returns
-    place-of-term-requires
+    place-from-requires
     returns-2
+    place-of-term-requires
+    returns-3
     place-of-term-requires-2
-    returns-3)
+    returns-4)

@@ -9,7 +9,7 @@ use Rattle.text.proofs.put_bytes.Statement.{statement}
 use Rattle.text.proofs.put_bytes.Tie as tie
 
 returns : tie.Need-returns
-returns c = wrote-past _ _ _ (c .before .if1 .taken) (c .place-past .ensures)
+returns c = wrote-past _ _ _ (c .before .if1 .taken) (c .counted-sum .ensures)
 
 returns-2 : tie.Need-returns-2
 returns-2 c =
@@ -19,7 +19,7 @@ returns-2 c =
     record {
       words = copied .copy-bytes .ensures
           ∙ overwrite-room (start .args .text .now) (start .args .at) (start .args .bytes .now) (omega arith);
-      count = c .place-past2 .ensures;
+      count = c .counted-sum2 .ensures;
     }
 
 returns-3 : tie.Need-returns-3
@@ -28,7 +28,7 @@ returns-3 c =
     let start = copied .before .before .before .before .before .before in
     record {
       words = rw (take-length (start .args .bytes .now)) at (copied .copy-bytes2 .ensures);
-      count = c .place-past3 .ensures;
+      count = c .counted-sum3 .ensures;
     }
 
 pub put-bytes-spec : {M : Type 1} → statement M

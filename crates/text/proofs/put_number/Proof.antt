@@ -16,7 +16,7 @@ store-digits-requires c κs =
 
 returns-2 : tie.Need-returns-2
 returns-2 c = wrote-past _ _ _ (c .before .if1 .left)
-    (rw (c .before .before .digit-count .ensures) at (c .place-past2 .ensures))
+    (rw (c .before .before .digit-count .ensures) at (c .counted-sum2 .ensures))
 
 pub put-number-spec : {M : Type 1} → statement M
 put-number-spec =

@@ -1,13 +1,11 @@
--- Laws of the definitions of Placed.
-use mathlib.Core.Path.{_≡_, refl, ap, ap₂, _∙_}
-use mathlib.Core.Bool.{Bool, true, false, cond, _&&_}
+-- Where the record of the next term stands.
+use mathlib.Core.Path.{_≡_, ap, ap₂, _∙_}
+use mathlib.Core.Bool.{true}
 use mathlib.Core.List.{List}
 use Prim.Native.Nat.{ℕ, zero, suc, _-_, _≤_, _<_}
 use native.Mathlib.Omega.{arith}
 use native.Mathlib.Numerals.{sub-one}
-use lib.ListN.{length, getD}
-use lib.Dec.{leb, ltb}
-use borrow.Author.Tests.{leb-true, ltb-true}
+use lib.ListN.{length}
 use Rattle.engine.proofs.Laws.{length-snoc}
 use Rattle.engine.specs.Sorts.{Context, start, after}
 use Rattle.engine.specs.Structure.{termPlace, placeOfTerm}
@@ -15,9 +13,7 @@ use Rattle.engine.proofs.StructureLaws.{place-here, place-next, place-skip}
 use Rattle.engine.proofs.ReachedLaws.{Makes, one, nothing, makes-at, makes-op, passes-forward}
 use Rattle.engine.specs.Reached.{Right, Passes}
 use Rattle.engine.specs.Encode.{makesTerm, operationAt, bare, nextAt, callAt}
-use Rattle.term_table.specs.Tables.{placeBy}
 use Rattle.term_table.specs.Sorted.{ReadTo}
-use Rattle.term_table.specs.Placed.{Placed}
 
 -- A scan for the next term, from a place before, finds the record that makes it.
 place-found : (n m : ℕ) (w : List ℕ) (at : ℕ) (x : Context) (end : ℕ) (y : Context) → Passes n w at x end y → n < m
@@ -69,14 +65,3 @@ module _ {w : List ℕ} {at : ℕ} {x : Context} {table : List ℕ} {terms : ℕ
       let inside = right .inside in
       let found = place-found (r .records) (length w) w 0 start at x (r .passes) (omega arith) inside makes in
       ap (termPlace (length w) w 0) (let c = r .counts in omega arith) ∙ found .1
-
--- The place that the table or the records give.
-pub place-is : (w places : List ℕ) (terms k : ℕ) → Placed w places terms → k < terms → placeBy places w k
-    ≡ placeOfTerm w k
-place-is w places terms k placed low = go (leb (length w) 4294967296) refl (ltb k (length places)) refl
-  where
-    go : (a : Bool) → leb (length w) 4294967296 ≡ a → (b : Bool) → ltb k (length places) ≡ b
-        → cond (a && b) (getD places k 0) (placeOfTerm w k) ≡ placeOfTerm w k
-    go true e true f = placed (leb-true (length w) 4294967296 e) k (ltb-true k (length places) f) low
-    go true e false f = refl
-    go false e b f = refl

@@ -1,0 +1,20 @@
+-- `term_table::gap_of` meets its contract: each way out has what its test says. Assumes nothing.
+use borrow.Author.Needs.{needs}
+use borrow.Author.Tests.{eq-eqb, ne-eqb}
+use Rattle.term_table.proofs.gap_of.Statement.{statement}
+use Rattle.term_table.proofs.gap_of.Tie as tie
+
+returns : tie.Need-returns
+returns c = rw (eq-eqb _ _ (c .if1 .taken))
+
+div-result : tie.Need-div-result
+div-result c = search needs
+
+cast-result : tie.Need-cast-result
+cast-result c = search needs
+
+returns-2 : tie.Need-returns-2
+returns-2 c = rw (ne-eqb _ _ (c .if1 .left))
+
+pub gap-of-spec : {M : Type 1} → statement M
+gap-of-spec = tie.close (tie.spec returns div-result cast-result returns-2)
