@@ -1,6 +1,5 @@
 -- `script::gap_for` meets its contract: each way out has what its test says. Assumes nothing.
 use borrow.Author.Needs.{needs}
-use mathlib.Core.Path.{_∙_}
 use borrow.Author.Tests.{le-leb, lt-leb}
 use Rattle.script.proofs.gap_for.Statement.{statement}
 use Rattle.script.proofs.gap_for.Tie as tie

@@ -2,14 +2,14 @@
 -- what is left of the list. Assumes nothing.
 use borrow.Author.Needs.{needs}
 use Prim.Native.Nat.{ℕ, _+_, _-_}
-use mathlib.Core.Path.{_≡_, ap, _∙_}
+use mathlib.Core.Path.{ap, _∙_}
+use mathlib.Core.List.{List}
 use native.Mathlib.Omega.{arith}
 use lib.ListN.{length}
 use Rattle.engine.specs.Call.{Call}
 use Rattle.call_list.specs.declared.Cursor.{Cursor}
 use Rattle.call_list.specs.Made.{made}
 use Rattle.call_list.proofs.CursorsLaws.{passed-next}
-use mathlib.Core.List.{List}
 use Rattle.script.proofs.WalkLaws.{Passed, passed-start, passed-more, passed-end}
 use Rattle.script.proofs.terms_in.Statement.{statement}
 use Rattle.script.proofs.terms_in.Tie as tie
