@@ -1,5 +1,3 @@
-pub mod RecordLaws
-pub mod ShapeLaws
 pub mod TextLaws
 pub mod WalkLaws
 pub mod WrittenLaws

@@ -2,7 +2,8 @@
 use mathlib.Core.Path.{_≡_}
 use mathlib.Core.List.{List, [], _∷_, _++_, append-assoc, append-nil}
 use Rattle.engine.specs.Call.{Call}
-use Rattle.script.specs.Text.{line, lines}
+use Rattle.lines.specs.Line.{line}
+use Rattle.script.specs.Text.{lines}
 
 -- One call more is one line more.
 pub lines-more : (before calls : List Call) (call : Call) → lines before (calls ++ (call ∷ []))

@@ -42,8 +42,9 @@ use Rattle.call_list.specs.Literal.{payloads}
 use Rattle.call_list.proofs.LiteralLaws.{literal-fits}
 use Rattle.pieces.specs.Text.{numbered, spelledAs, reference}
 use Rattle.pieces.specs.Arguments.{referenceBy}
-use Rattle.script.specs.Record.{Ready, sortBy, Writable}
-use Rattle.script.specs.Text.{line, lines}
+use Rattle.lines.specs.Record.{Ready, sortBy, Writable}
+use Rattle.lines.specs.Line.{line}
+use Rattle.script.specs.Text.{lines}
 use Rattle.script.specs.Walk.{HasTables}
 use Rattle.script.proofs.TextLaws.{lines-more}
 

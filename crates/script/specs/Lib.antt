@@ -1,5 +1,3 @@
 pub mod Text
-pub mod Shape
-pub mod Record
 pub mod Walk
 pub mod Written

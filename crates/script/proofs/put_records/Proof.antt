@@ -42,10 +42,7 @@ loop-holds c =
     )
 
 put-record-requires : tie.Need-put-record-requires Inv-loop μ-loop
-put-record-requires c κs =
-    let turn = c .before .before in
-    let inv = turn .before .before .loop .inv in
-    walked-ready (inv .0) (inv .4) (turn .if1 .taken)
+put-record-requires c κs = search needs
 
 note-recent-requires : tie.Need-note-recent-requires Inv-loop μ-loop
 note-recent-requires c κs = search needs
@@ -81,7 +78,8 @@ loop-again c =
     let next =
     passed-next (start .args .calls .now) (looped .loop .seen) (c .next .ensures) (omega (arith, within, start))
     (omega (arith, within, inv .4 .past .few-terms, start)) (omega (arith, within, inv .4 .past .few-names, start)) in
-    let line = written .put-record .ensures _ (walked-writable (inv .0) (inv .4) within) in (
+    let ready = walked-ready (inv .0) (inv .4) within in
+    let line = written .put-record .ensures _ ready (walked-writable (inv .0) (inv .4) within) in (
       inv .0,
       written .put-record .kept .0 ∙ inv .1,
       noted .note-recent .kept .1 .1 .0 ∙ inv .2,

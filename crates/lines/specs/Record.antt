@@ -20,7 +20,7 @@ use Rattle.pieces.specs.declared.Line.{Line}
 use Rattle.pieces.specs.declared.Line.the-variants.{Define}
 use Rattle.pieces.specs.declared.Body.{Body}
 use Rattle.pieces.specs.declared.Body.the-variants.{Literal}
-use Rattle.script.specs.Shape.{bodyBy, defineLine, declareLine, assertLine}
+use Rattle.lines.specs.Shape.{bodyBy, defineLine, declareLine, assertLine}
 
 -- What the line of the record at a place does, and how its term is written.
 abbrev pub lineKind : List ℕ → ℕ → Line

@@ -1,9 +1,9 @@
--- `script::sort_here` meets its contract: a term within the table has its sort there. Assumes nothing.
+-- `lines::sort_here` meets its contract: a term within the table has its sort there. Assumes nothing.
 use borrow.Author.Needs.{needs}
 use borrow.Author.Tests.{lt-ltb, le-ltb}
 use native.Mathlib.Omega.{arith}
-use Rattle.script.proofs.sort_here.Statement.{statement}
-use Rattle.script.proofs.sort_here.Tie as tie
+use Rattle.lines.proofs.sort_here.Statement.{statement}
+use Rattle.lines.proofs.sort_here.Tie as tie
 
 cast-result : tie.Need-cast-result
 cast-result c =

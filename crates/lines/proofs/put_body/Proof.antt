@@ -1,18 +1,8 @@
--- `script::put_body` meets its contract: each way of writing a term has its own function. Assumes nothing.
+-- `lines::put_body` meets its contract: each way of writing a term has its own function. Assumes nothing.
 use borrow.Author.Needs.{needs}
-use Rattle.script.proofs.RecordLaws.{body-kind}
-use Rattle.script.proofs.put_body.Statement.{statement}
-use Rattle.script.proofs.put_body.Tie as tie
-
-put-literal-requires : tie.Need-put-literal-requires
-put-literal-requires c κs =
-    let told = c .before in
-    let found = told .before .before in
-    let known = found .before .before in
-    let start = known .before .before .before .before in
-    let kind = body-kind (start .args .calls .now) (start .args .head) (known .operation-at .ensures)
-    (found .body-of .ensures) (told .enum-told3 .given .1) in
-    start .pre kind
+use Rattle.lines.proofs.RecordLaws.{body-kind}
+use Rattle.lines.proofs.put_body.Statement.{statement}
+use Rattle.lines.proofs.put_body.Tie as tie
 
 returns : tie.Need-returns
 returns c =
@@ -24,7 +14,7 @@ returns c =
     let start = known .before .before .before .before in
     let kind = body-kind (start .args .calls .now) (start .args .head) (known .operation-at .ensures)
     (found .body-of .ensures) (told .enum-told .given .1) in
-    rw kind (rw (written .before .argument-at .ensures) at (written .put-bool .ensures))
+    λ ready. rw kind (rw (written .before .argument-at .ensures) at (written .put-bool .ensures))
 
 returns-2 : tie.Need-returns-2
 returns-2 c =
@@ -36,7 +26,7 @@ returns-2 c =
     let start = known .before .before .before .before in
     let kind = body-kind (start .args .calls .now) (start .args .head) (known .operation-at .ensures)
     (found .body-of .ensures) (told .enum-told2 .given .1) in
-    rw kind (rw (counted .count-at .ensures) at (written .put-conjunction .ensures))
+    λ ready. rw kind (rw (counted .count-at .ensures) at (written .put-conjunction .ensures))
 
 returns-3 : tie.Need-returns-3
 returns-3 c =
@@ -48,7 +38,7 @@ returns-3 c =
     let start = known .before .before .before .before in
     let kind = body-kind (start .args .calls .now) (start .args .head) (known .operation-at .ensures)
     (found .body-of .ensures) (told .enum-told3 .given .1) in
-    rw kind (written .put-literal .ensures)
+    λ ready. rw kind (written .put-literal .ensures (ready kind))
 
 returns-4 : tie.Need-returns-4
 returns-4 c =
@@ -60,7 +50,7 @@ returns-4 c =
     let start = known .before .before .before .before in
     let kind = body-kind (start .args .calls .now) (start .args .head) (known .operation-at .ensures)
     (found .body-of .ensures) (told .enum-told4 .given .1) in
-    rw kind (written .put-extraction .ensures)
+    λ ready. rw kind (written .put-extraction .ensures)
 
 returns-5 : tie.Need-returns-5
 returns-5 c =
@@ -72,7 +62,7 @@ returns-5 c =
     let start = known .before .before .before .before in
     let kind = body-kind (start .args .calls .now) (start .args .head) (known .operation-at .ensures)
     (found .body-of .ensures) (told .enum-told5 .given .1) in
-    rw kind (rw (known .operation-at .ensures, counted .count-at .ensures) at (written .put-application .ensures))
+    λ ready. rw kind (rw (known .operation-at .ensures, counted .count-at .ensures) at (written .put-application .ensures))
 
 pub put-body-spec : {M : Type 1} → statement M
 put-body-spec =
@@ -87,7 +77,7 @@ put-body-spec =
     (λ c. search needs)
     (λ c κs. search needs)
     (λ c. search needs)
-    put-literal-requires
+    (λ c κs. search needs)
     (λ c. search needs)
     (λ c κs. search needs)
     (λ c. search needs)

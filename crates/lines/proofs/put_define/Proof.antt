@@ -1,8 +1,8 @@
--- `script::put_define` meets its contract: the pieces in their order. Assumes nothing.
+-- `lines::put_define` meets its contract: the pieces in their order. Assumes nothing.
 use borrow.Author.Needs.{needs}
 use Rattle.engine.proofs.EmitLaws.{wrote-then}
-use Rattle.script.proofs.put_define.Statement.{statement}
-use Rattle.script.proofs.put_define.Tie as tie
+use Rattle.lines.proofs.put_define.Statement.{statement}
+use Rattle.lines.proofs.put_define.Tie as tie
 
 slice-aggregate-put-bytes : tie.Need-slice-aggregate-put-bytes
 slice-aggregate-put-bytes c = search needs
@@ -49,11 +49,11 @@ returns c =
     let known = opened .before .before .before in
     let start = known .before .before .before in
     let short = start .good .0 .0 in
-    wrote-then (wrote-then
+    λ ready. wrote-then (wrote-then
     (wrote-then (wrote-then
     (wrote-then (wrote-then (opened .put-bytes .ensures) (numbered .put-numbered .ensures) short)
     (empty .put-bytes2 .ensures) short) (sorted .put-sort .ensures) short) (spaced .put-byte .ensures) short)
-    (body .put-body .ensures) short) (closed .put-bytes3 .ensures) short
+    (body .put-body .ensures ready) short) (closed .put-bytes3 .ensures) short
 
 pub put-define-spec : {M : Type 1} → statement M
 put-define-spec =

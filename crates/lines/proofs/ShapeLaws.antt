@@ -17,8 +17,8 @@ use Rattle.pieces.specs.Text.{reference}
 use Rattle.pieces.specs.Shape.{lineOf, bodyOf, nameOf}
 use Rattle.pieces.specs.declared.Line.{Line}
 use Rattle.pieces.specs.declared.Line.the-variants.{Define, Declare, Assert, Check}
-use Rattle.script.specs.Text.{line}
-use Rattle.script.specs.Shape.{bodyBy, defineLine, declareLine, assertLine}
+use Rattle.lines.specs.Line.{line}
+use Rattle.lines.specs.Shape.{bodyBy, defineLine, declareLine, assertLine}
 
 -- The line of a call by what it does.
 abbrev pub lineBy : Line → List Call → Op → ℕ → (ℕ → ℕ) → List ℕ

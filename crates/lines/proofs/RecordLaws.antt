@@ -12,10 +12,10 @@ use Rattle.pieces.specs.Shape.{lineOf, bodyOf}
 use Rattle.pieces.specs.declared.Line.{Line}
 use Rattle.pieces.specs.declared.Line.the-variants.{Define, Declare, Assert, Check}
 use Rattle.pieces.specs.declared.Body.{Body}
-use Rattle.script.specs.Text.{line}
-use Rattle.script.specs.Shape.{bodyBy, defineLine, assertLine}
-use Rattle.script.proofs.ShapeLaws.{lineBy, line-by}
-use Rattle.script.specs.Record.{lineKind, bodyKind, sortBy, defineAt, declareAt, assertAt, Writable}
+use Rattle.lines.specs.Line.{line}
+use Rattle.lines.specs.Shape.{bodyBy, defineLine, assertLine}
+use Rattle.lines.proofs.ShapeLaws.{lineBy, line-by}
+use Rattle.lines.specs.Record.{lineKind, bodyKind, sortBy, defineAt, declareAt, assertAt, Writable}
 
 -- The same as the code finds them.
 pub line-kind : (w : List ℕ) (head : ℕ) {op : Op} {found told : Line} → op ≡ operationAt w head → found ≡ lineOf op
