@@ -20,7 +20,6 @@ use Rattle.call_list.specs.declared.Cursor.{Cursor}
 use Rattle.call_list.proofs.CursorsLaws.{nothingRead, cursorNext, bit-low}
 use Rattle.call_list.specs.Operations.{isDeclare}
 use Rattle.call_list.proofs.OperationsLaws.{declares-of}
-use Rattle.checker.specs.declared.CallList.{CallList}
 use Rattle.checker.specs.declared.CallList.the-variants.{WellFormed, Malformed}
 use Rattle.term_table.specs.Near.{sortNear, noteSort, noteRecent, notePlace}
 use Rattle.term_table.specs.Sorted.{ReadTo}

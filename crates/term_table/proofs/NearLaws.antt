@@ -11,16 +11,15 @@ use lib.Arith.{digits-div, digits-mod}
 use lib.ListN.{length, getD, set, length-set, List·getD-append}
 use lib.Seq.{getD-append-seam, getD-set-same, getD-set-other}
 use lib.Dec.{eqb, leb, ltb}
-use borrow.Author.Tests.{lt-ltb, le-ltb, ltb-true, ltb-false, leb-true, leb-false, eqb-true, eqb-false}
+use borrow.Author.Tests.{lt-ltb, ltb-true, ltb-false, leb-true, leb-false, eqb-true, eqb-false}
 use Rattle.logic.specs.declared.Term.{Term}
 use Rattle.bitvec.specs.Bits.{bit}
 use Rattle.engine.proofs.Tests.{right-of}
 use Rattle.engine.proofs.Laws.{length-snoc}
 use Rattle.engine.specs.Sorts.{Sort, Context, start, after, sortAt}
 use Rattle.engine.specs.Encode.{makesTerm, operationAt, bare, nextAt, callAt}
-use Rattle.engine.specs.Structure.{originOf, capped, termPlace, placeOfTerm, choose, guarded, sortFrom, originBy}
-use Rattle.engine.specs.Structure.{sortThrough, sortOfTerm}
-use Rattle.engine.proofs.StructureLaws.{Below, sortFrom-ext, from-low, known-below, place-end, place-here, place-next}
+use Rattle.engine.specs.Structure.{originOf, capped, termPlace, placeOfTerm, choose, guarded, sortFrom}
+use Rattle.engine.proofs.StructureLaws.{Below, sortFrom-ext, from-low, place-end, place-here, place-next}
 use Rattle.engine.proofs.StructureLaws.{place-skip}
 use Rattle.engine.proofs.ReachedLaws.{Makes, one, nothing, makes-at, makes-op, Says, finds, passes-forward, low-passes}
 use Rattle.engine.proofs.ReachedLaws.{low-start}
