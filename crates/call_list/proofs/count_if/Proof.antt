@@ -1,6 +1,5 @@
 -- `call_list::count_if` meets its contract: each way out has what its test says. Assumes nothing.
 use borrow.Author.Needs.{needs}
-use mathlib.Core.Path.{_∙_}
 use native.Mathlib.Omega.{arith}
 use Rattle.call_list.proofs.count_if.Statement.{statement}
 use Rattle.call_list.proofs.count_if.Tie as tie
