@@ -21,11 +21,12 @@ use Rattle.call_list.proofs.CursorsLaws.{nothingRead, cursorNext, bit-low}
 use Rattle.call_list.specs.Operations.{isDeclare}
 use Rattle.call_list.proofs.OperationsLaws.{declares-of}
 use Rattle.checker.specs.declared.CallList.the-variants.{WellFormed, Malformed}
-use Rattle.term_table.specs.Near.{sortNear, noteSort, noteRecent, notePlace}
+use Rattle.term_places.specs.Places.{notePlace, Spaced}
+use Rattle.term_places.proofs.PlacesLaws.{spaced-start}
+use Rattle.term_table.specs.Near.{sortNear, noteSort, noteRecent}
 use Rattle.term_table.specs.Sorted.{ReadTo}
 use Rattle.term_table.proofs.SortedLaws.{read-start}
-use Rattle.term_table.specs.Noted.{Spaced}
-use Rattle.term_table.proofs.NearLaws.{spaced-start, spaced-more, Recent, recent-start, ring-more}
+use Rattle.term_table.proofs.NearLaws.{spaced-more, Recent, recent-start, ring-more}
 use Rattle.term_table.proofs.NearLaws.{sorts-more, note-length, near-is}
 use Rattle.name_table.specs.Names.{topOf, noteName, noteTop}
 use Rattle.name_table.specs.Named.{NamesTo, TopsTo}

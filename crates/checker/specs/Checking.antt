@@ -7,7 +7,7 @@ use Rattle.engine.specs.Sorts.{Context}
 use Rattle.engine.specs.WellFormed.{wellFormed, outcome}
 use Rattle.checker.specs.declared.CallList.{CallList}
 use Rattle.term_table.specs.Sorted.{ReadTo}
-use Rattle.term_table.specs.Noted.{Spaced}
+use Rattle.term_places.specs.Places.{Spaced}
 use Rattle.name_table.specs.Named.{NamesTo}
 use Rattle.checker.specs.Tables.{checkedAs}
 

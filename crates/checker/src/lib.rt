@@ -239,7 +239,7 @@ fn check_records(
             }
             Wrong::None => {
                 term_table::note_sort(calls, sorts, recent, places, gap, seen.at, seen.terms);
-                term_table::note_place(calls, places, gap, seen.at, seen.terms);
+                term_places::note_place(calls, places, gap, seen.at, seen.terms);
                 name_table::note_name(calls, names, seen.at);
                 name_table::note_top(calls, tops, seen.at);
                 checked = is_check(call_list::operation_at(calls, seen.at));
@@ -277,7 +277,7 @@ pub fn check(calls: &[u32]) -> CallList
     ensures { λ r. ⌜ r ≡ checkedAs (outcome (now (calls .entry))) ⌝ }
 {
     let mut places = [0u32; 4096];
-    let gap = term_table::gap_of(calls, 4096);
+    let gap = term_places::gap_of(calls, 4096);
     let mut sorts = [0u8; 40960];
     let mut recent = [0u8; 4096];
     let mut names = [0u8; 64512];

@@ -30,7 +30,7 @@ use Rattle.engine.specs.Reached.{Tabled}
 use Rattle.term_table.specs.Near.{sortNear, noteRecent}
 use Rattle.term_table.specs.Sorted.{ReadTo}
 use Rattle.term_table.proofs.SortedLaws.{read-start, read-next, terms-next, tabled-before, sorts-few}
-use Rattle.term_table.specs.Noted.{Spaced}
+use Rattle.term_places.specs.Places.{Spaced}
 use Rattle.term_table.proofs.NearLaws.{Recent, recent-start, ring-more, near-is}
 use Rattle.call_list.proofs.CursorsLaws.{nothingRead, cursorNext, bit-low}
 use Rattle.call_list.specs.declared.Cursor.{Cursor}

@@ -8,7 +8,7 @@ use Rattle.engine.specs.Sorts.{Context}
 use Rattle.engine.specs.Encode.{decode}
 use Rattle.engine.specs.WellFormed.{wellFormed, outcome}
 use Rattle.engine.specs.Reached.{Tabled}
-use Rattle.term_table.specs.Noted.{Spaced}
+use Rattle.term_places.specs.Places.{Spaced}
 use Rattle.eval.specs.Evaluated.{bitsFault}
 
 -- What evaluating record by record asks: a well-formed list, bits that fit, and room for its terms.

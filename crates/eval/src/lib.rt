@@ -239,7 +239,7 @@ pub fn evaluate_with(
 {
     let mut recent = [0u8; 256];
     let mut places = [0u32; 128];
-    let gap = term_table::gap_of(calls, 128);
+    let gap = term_places::gap_of(calls, 128);
     evaluate_by(
         calls,
         bits,
@@ -260,7 +260,7 @@ pub fn evaluate(calls: &[u32], bits: &[u64], values: &mut [u64]) -> Evaluation
     let mut sorts = [0u8; 40960];
     let mut recent = [0u8; 4096];
     let mut places = [0u32; 4096];
-    let gap = term_table::gap_of(calls, 4096);
+    let gap = term_places::gap_of(calls, 4096);
     let mut names = [0u8; 64512];
     evaluate_by(
         calls,

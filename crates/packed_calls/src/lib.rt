@@ -45,7 +45,7 @@ pub fn check_with(calls: &[u32], sizes: &mut [u64], sorts: &mut [u8], names: &mu
 {
     let mut places = [0u32; 128];
     let mut recent = [0u8; 256];
-    let gap = term_table::gap_of(calls, 128);
+    let gap = term_places::gap_of(calls, 128);
     packed_check(
         checker::check_by(calls, &mut places, gap, sorts, &mut recent, names),
         sizes,

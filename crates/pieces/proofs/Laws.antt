@@ -14,7 +14,7 @@ use Rattle.text.specs.Bytes.{ascii, decimal}
 use Rattle.text.specs.Names.{letterText, suffixText, nameText}
 use Rattle.call_list.specs.Literal.{payloads}
 use Rattle.call_list.specs.Operations.{isDeclare}
-use Rattle.term_table.specs.Near.{placeNear}
+use Rattle.term_places.specs.Places.{placeNear}
 use Rattle.syntax.specs.Text.{operationText}
 use Rattle.pieces.specs.Text.{numbered, spelledAs, spaced, applied, conjunction}
 use Rattle.pieces.specs.Shape.{nameOf}

@@ -8,7 +8,7 @@ use Rattle.logic.specs.Table.{tab}
 use Rattle.engine.specs.Call as c
 use Rattle.engine.specs.Encode.{suffixes, callAt}
 use Rattle.call_list.specs.Literal.{payloads}
-use Rattle.term_table.specs.Near.{placeNear}
+use Rattle.term_places.specs.Places.{placeNear}
 use Rattle.syntax.specs.Text.{extractText}
 use Rattle.text.specs.Bytes.{decimal}
 use Rattle.text.specs.Names.{suffixText}

@@ -161,7 +161,7 @@ fn reference_of(calls: &[u32], places: &[u32], gap: u32, terms: usize, term: Ter
     if terms <= k {
         return number_of(k);
     }
-    let head = term_table::near_place(calls, places, gap, term.0);
+    let head = term_places::near_place(calls, places, gap, term.0);
     if call_list::is_declare(call_list::operation_at(calls, head)) {
         return declared_name(calls, head);
     }

@@ -21,10 +21,12 @@ use Rattle.engine.specs.Structure.{originOf, sortFrom, placeOfTerm}
 use Rattle.engine.proofs.StructureLaws.{Below}
 use Rattle.engine.specs.Reached.{Right}
 use Rattle.engine.proofs.ReachedLaws.{right-read, said}
-use Rattle.term_table.specs.Near.{placeNear, sortNear, recordBy, noteRecent}
+use Rattle.term_places.specs.Places.{placeNear}
+use Rattle.term_places.proofs.PlacesLaws.{place-near}
+use Rattle.term_table.specs.Near.{sortNear, recordBy, noteRecent}
 use Rattle.term_table.specs.Sorted.{ReadTo}
 use Rattle.term_table.proofs.SortedLaws.{read-start, read-next, terms-next, tabled-before, sorts-kept, sorts-few}
-use Rattle.term_table.proofs.NearLaws.{place-near, near-is, record-said, Recent, recent-start, ring-more}
+use Rattle.term_table.proofs.NearLaws.{near-is, record-said, Recent, recent-start, ring-more}
 use Rattle.call_list.specs.Made.{made}
 use Rattle.call_list.proofs.MadeLaws.{made-append, made-past, makes-operation}
 use Rattle.call_list.specs.Made.{sortsOf, sortOfCall}

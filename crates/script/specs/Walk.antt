@@ -10,8 +10,7 @@ use Rattle.engine.specs.Encode.{decode}
 use Rattle.engine.specs.WellFormed.{wellFormed, outcome}
 use Rattle.engine.specs.Reached.{Tabled}
 use Rattle.call_list.specs.Made.{made}
-use Rattle.term_table.specs.Near.{gapOf}
-use Rattle.term_table.specs.Noted.{Spaced}
+use Rattle.term_places.specs.Places.{gapOf, Spaced}
 use Rattle.name_table.specs.Named.{NamesTo}
 
 -- How many terms are left out between two whose places are noted, with room for so many places.

@@ -161,7 +161,7 @@ fn gap_for(calls: &[u32], places: usize) -> u32
     if terms_in(calls) <= places {
         return 0;
     }
-    term_table::gap_of(calls, places)
+    term_places::gap_of(calls, places)
 }
 
 // Writes the script of a call list and its recorded marks into a lent text (faults 19, 2 and 15), with tables for the

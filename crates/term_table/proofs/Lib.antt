@@ -1,4 +1,3 @@
 pub mod NearLaws
-pub mod NotedLaws
 pub mod SortedLaws
 pub mod Sums

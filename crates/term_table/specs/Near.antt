@@ -1,25 +1,16 @@
--- Terms past the table of sorts: a ring has the sorts of the latest terms, and a table of places that of every `gap +
--- 1`th term's record, from which the record of a term after it is counted on.
+-- Terms past the table of sorts: a ring has the sorts of the latest terms, and of the others the records say where
+-- their sorts come from.
 use mathlib.Core.Bool.{Bool, cond, _&&_}
 use mathlib.Core.List.{List}
-use Prim.Native.Nat.{ℕ, zero, suc, _+_, _-_, _/_, _%_}
+use Prim.Native.Nat.{ℕ, zero, suc, _-_, _%_}
 use lib.ListN.{length, getD, set}
-use lib.Dec.{eqb, leb, ltb}
+use lib.Dec.{leb, ltb}
 use Rattle.engine.specs.Sorts.{Sort, noSort}
 use Rattle.engine.specs.Encode.{makesTerm, operationAt, callAt}
-use Rattle.engine.specs.Structure.{originOf, termPlace, placeOfTerm, choose, guarded, sortFrom}
+use Rattle.engine.specs.Structure.{originOf, choose, guarded, sortFrom}
 use Rattle.engine.specs.declared.Origin.{Origin}
 use Rattle.engine.specs.declared.Origin.the-variants.{Given}
-
--- The place of the record that makes the term number `left` from a term's record on, that term's for 0.
-abbrev pub placeOn : List ℕ → ℕ → ℕ → ℕ
-placeOn w from left = cond (eqb left 0) from (termPlace (length w) w from left)
-
--- The place of term k's record, counted on from the place that the table has before it.
-abbrev pub placeNear : List ℕ → ℕ → List ℕ → ℕ → ℕ
-placeNear places gap w k =
-    cond (leb (length w) 4294967296 && ltb (k / (gap + 1)) (length places))
-    (placeOn w (getD places (k / (gap + 1)) 0) (k % (gap + 1))) (placeOfTerm w k)
+use Rattle.term_places.specs.Places.{placeNear}
 
 -- Term k is one of the latest, of `terms` terms so far.
 abbrev pub isRecent : List ℕ → ℕ → ℕ → Bool
@@ -53,13 +44,3 @@ abbrev pub noteRecent : (ℕ → Sort) → List ℕ → List ℕ → List ℕ �
 noteRecent sort sorts recent w at terms =
     cond (makesTerm (operationAt w at) && leb (length sorts) terms)
     (set recent (terms % length recent) (recordBy sort w at)) recent
-
--- The gap with which a table of so many places reaches to the end of a list, in which every term has two words or more.
-abbrev pub gapOf : ℕ → ℕ → ℕ
-gapOf words places = cond (eqb places 0) 0 (words / places / 2 % 4294967296)
-
--- The place of every `gap + 1`th term's record goes into the table of places.
-abbrev pub notePlace : List ℕ → ℕ → List ℕ → ℕ → ℕ → List ℕ
-notePlace places gap w at terms =
-    cond (makesTerm (operationAt w at) && eqb (terms % (gap + 1)) 0)
-    (set places (terms / (gap + 1)) (at % 4294967296)) places

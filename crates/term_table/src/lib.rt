@@ -1,72 +1,13 @@
-// The terms of a call list: what a record says of its term's sort, and a table with the sort and the place of the first
-// terms, past which a ring has the sorts of the latest, and the records of the others are searched.
-use call_list::Operation;
-use call_list::TermOp;
-use engine::BinaryOp;
+// The sorts of a call list's terms: a table has those of the first, past which a ring has those of the latest, and the
+// records of the others are searched.
 use engine::Origin;
-use logic::Term;
 ghost use mathlib.Core.Path.{_≡_};
 ghost use mathlib.Core.Bool.{cond};
-ghost use Prim.Native.Nat.{suc, _+_, _-_, _/_, _%_, _<_, _^_};
+ghost use Prim.Native.Nat.{_+_, _%_, _<_};
 ghost use lib.ListN.{length, getD, set};
 ghost use lib.Dec.{leb};
-ghost use Rattle.engine.specs.Encode.{callAt};
-ghost use Rattle.engine.specs.Structure.{binaryOrigin, originOf, capped, guarded};
-ghost use Rattle.engine.specs.Emit.{binaryOf};
-ghost use Rattle.term_table.specs.Near.{placeNear, isRecent, originNear, sortNear, recordBy};
-ghost use Rattle.term_table.specs.Near.{noteSort, noteRecent, notePlace, gapOf};
-
-fn extract_width(high: u32, low: u32) -> u32
-    requires { ⌜ high < 2 ^ 29 ⌝ }
-    ensures { λ r. ⌜ r ≡ suc high - low ⌝ }
-{
-    if high < low { 0 } else { high - low + 1 }
-}
-
-fn binary_origin(op: BinaryOp, a: Term) -> Origin
-    ensures { λ r. ⌜ r ≡ binaryOrigin (binaryOf op) (a .0) ⌝ }
-{
-    match op {
-        BinaryOp::Comp => Origin::Given(1),
-        BinaryOp::And => Origin::Same(a),
-        BinaryOp::Or => Origin::Same(a),
-        BinaryOp::Xor => Origin::Same(a),
-        BinaryOp::Add => Origin::Same(a),
-        BinaryOp::Shl => Origin::Same(a),
-        BinaryOp::Lshr => Origin::Same(a),
-        BinaryOp::Ashr => Origin::Same(a),
-        BinaryOp::Mul => Origin::Same(a),
-    }
-}
-
-// What the record at a place says of its term's sort.
-pub fn origin_at(calls: &[u32], at: usize) -> Origin
-    ensures { λ r. ⌜ r ≡ originOf (callAt (now (calls .entry)) at) ⌝ }
-{
-    let a = call_list::argument_at(calls, at, 0);
-    let b = call_list::argument_at(calls, at, 1);
-    let w = call_list::argument_at(calls, at, 3);
-    match call_list::operation_at(calls, at) {
-        Operation::Term(term) => match term {
-            TermOp::BoolLit => Origin::Given(0),
-            TermOp::BoolIte => Origin::Given(0),
-            TermOp::Not => Origin::Given(0),
-            TermOp::And => Origin::Given(0),
-            TermOp::Lit => Origin::Given(a),
-            TermOp::Equal => Origin::Given(0),
-            TermOp::Ite => Origin::Same(Term(b)),
-            TermOp::Concat => Origin::Joined(Term(a), Term(b)),
-            TermOp::Extract => Origin::Given(extract_width(a, b)),
-            TermOp::BvNot => Origin::Same(Term(a)),
-            TermOp::Binary(op) => binary_origin(op, Term(a)),
-            TermOp::Compare(_) => Origin::Given(0),
-        },
-        Operation::Declare => Origin::Given(w),
-        Operation::Assert => Origin::Given(65),
-        Operation::Check => Origin::Given(65),
-        Operation::Unknown => Origin::Given(65),
-    }
-}
+ghost use Rattle.engine.specs.Structure.{capped, guarded};
+ghost use Rattle.term_table.specs.Near.{isRecent, originNear, sortNear, recordBy, noteSort, noteRecent};
 
 // The number at a place of a table, 0 past its end.
 fn entry(table: &[u8], at: usize) -> u32
@@ -116,27 +57,6 @@ fn earlier_origin(k: u32, origin: Origin) -> Origin
     }
 }
 
-// The place of the record that makes a term: from the table of places, which has that of every `gap + 1`th term, or
-// counted on from the one before it. A table of words has the places of a list of at most 2^32 words.
-pub fn near_place(calls: &[u32], places: &[u32], gap: u32, k: u32) -> usize
-    ensures { λ r. ⌜ r ≡ placeNear (now (places .entry)) gap (now (calls .entry)) k ⌝ }
-{
-    let step = gap as usize + 1;
-    let slot = k as usize / step;
-    if calls.len() <= 4294967296 {
-        if slot < places.len() {
-            let from = logic::word_at(places, slot) as usize;
-            let left = (k as usize % step) as u32;
-            if left == 0 {
-                return from;
-            }
-            return call_list::place_from(calls, from, left);
-        }
-        return call_list::place_of_term(calls, Term(k));
-    }
-    call_list::place_of_term(calls, Term(k))
-}
-
 // Whether a term is one of the latest, whose sorts the ring has, of so many terms so far.
 fn is_recent(recent: &[u8], terms: usize, k: u32) -> bool
     ensures { λ r. ⌜ r ≡ isRecent (now (recent .entry)) terms k ⌝ }
@@ -179,7 +99,10 @@ fn term_origin(
     if is_recent(recent, terms, k) {
         return Origin::Given(ring_entry(recent, k as usize));
     }
-    earlier_origin(k, origin_at(calls, near_place(calls, places, gap, k)))
+    earlier_origin(
+        k,
+        origins::origin_at(calls, term_places::near_place(calls, places, gap, k)),
+    )
 }
 
 // The sort of a term, through the terms that it goes by. Of a join the second is looked up and the first gone on with,
@@ -254,7 +177,7 @@ pub fn sort_at(
         (sortNear (now (sorts .entry)) (now (recent .entry)) (now (places .entry)) gap (now (calls .entry)) terms)
         (now (calls .entry)) at ⌝ }
 {
-    match origin_at(calls, at) {
+    match origins::origin_at(calls, at) {
         Origin::Given(s) => capped_sum(0, s),
         Origin::Same(a) => term_sort(calls, sorts, recent, places, gap, terms, a.0),
         Origin::Joined(a, b) => capped_sum(
@@ -337,29 +260,5 @@ pub fn note_sort(
         let sort = sort_at(calls, sorts, recent, places, gap, terms, at);
         put_byte(sorts, terms, sort);
         put_recent(sorts, recent, terms, sort);
-    }
-}
-
-// How many terms to leave out between two whose places are noted, with room for so many places. A record that makes a
-// term has at least two words, so that the table reaches to the end of the list.
-pub fn gap_of(calls: &[u32], places: usize) -> u32
-    ensures { λ r. ⌜ r ≡ gapOf (length (now (calls .entry))) places ⌝ }
-{
-    if places == 0 {
-        return 0;
-    }
-    (calls.len() / places / 2 % 4294967296) as u32
-}
-
-// The place of the record that makes a term goes into the table of places, if it is the term's turn: of every `gap +
-// 1`th.
-pub fn note_place(calls: &[u32], places: &mut [u32], gap: u32, at: usize, terms: usize)
-    ensures { λ _. ⌜ now (places .exit) ≡ notePlace (now (places .entry)) gap (now (calls .entry)) at terms ⌝ }
-{
-    if call_list::makes_term(call_list::operation_at(calls, at)) {
-        let step = gap as usize + 1;
-        if terms % step == 0 {
-            logic::put(places, terms / step, (at % 4294967296) as u32);
-        }
     }
 }

@@ -16,7 +16,8 @@ use Rattle.slots.specs.Tells.{widthIn, Tells}
 use Rattle.net_pairs.specs.declared.Walked.{Walked}
 use Rattle.net_pairs.specs.Does.{obligedIn, Does}
 use Rattle.walk.specs.Works.{mostObligations, Works}
-use Rattle.walk_cell.specs.Cursor.{isNext, newAt, repAfter, stepsAt, Readable}
+use Rattle.replaced_cells.specs.Cursor.{isNext, newAt, repAfter, Readable}
+use Rattle.walk_cell.specs.Steps.{stepsAt}
 use Rattle.net_pairs.proofs.Does.{does-append, Left, left-start, left-turn, left-end}
 use Rattle.walk.proofs.Cells.{Place, place-start, here-cell, here-new, cell-turn, cells-end}
 use Rattle.walk.proofs.Room.{obligations-few, kept-first}

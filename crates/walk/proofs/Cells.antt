@@ -31,8 +31,9 @@ use Rattle.order.specs.Verify.{eachCell, newCellIn}
 use Rattle.order.proofs.Replacements.{Heads, none-below, above, later}
 use Rattle.slots.specs.Tells.{widthIn, Tells}
 use Rattle.slots.proofs.Laws.{tells-past}
-use Rattle.walk_cell.specs.Cursor.{isNext, newAt, repAfter, stepsAt, Readable}
-use Rattle.walk_cell.proofs.Cells.{next-inside}
+use Rattle.replaced_cells.specs.Cursor.{isNext, newAt, repAfter, Readable}
+use Rattle.replaced_cells.proofs.CursorLaws.{next-inside}
+use Rattle.walk_cell.specs.Steps.{stepsAt}
 
 -- The cell replacements from a place up to `end`, the slots of their cells from `least` on.
 abbrev pub NewCells : Design → List ℕ → ℕ → ℕ → List Placed → ℕ → Type 0

@@ -27,7 +27,7 @@ use Rattle.accepted.proofs.Laid.{accepted-laid}
 use Rattle.order.specs.Verify.{Step, addCell, withNew, cellSteps, pairSteps, eachCell, eachPair, steps, newCellIn}
 use Rattle.net_pairs.specs.Does.{obligedIn, Kept}
 use Rattle.walk.specs.Works.{mostObligations}
-use Rattle.walk_cell.specs.Cursor.{stepsAt}
+use Rattle.walk_cell.specs.Steps.{stepsAt}
 use Rattle.net_pairs.proofs.Does.{obliged-append}
 use Rattle.walk_cell.proofs.Steps.{added-none}
 

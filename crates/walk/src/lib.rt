@@ -46,8 +46,8 @@ fn verify_cells(
     while index < table.len() {
         let slot = Slot((index % 4294967296) as u32);
         s = walk_cell::verify_cell(list, end, at, rep, table, calls, names, marks, eqs, s, slot);
-        at = walk_cell::next_at(list, at);
-        rep = walk_cell::rep_after(list, end, rep, slot);
+        at = replaced_cells::next_at(list, at);
+        rep = replaced_cells::rep_after(list, end, rep, slot);
         index += slots_at(table, slot) as usize;
     }
     s

@@ -12,7 +12,7 @@ use Rattle.order.specs.Verify.{declared, asserted, obliged, isInput, addCell, n
 use Rattle.net_pairs.specs.declared.Walked.{Walked}
 use Rattle.net_pairs.specs.Does.{obligedIn, Does}
 use Rattle.net_pairs.proofs.Does.{does-none, does-append}
-use Rattle.walk_cell.specs.Cursor.{stepsAt}
+use Rattle.walk_cell.specs.Steps.{stepsAt}
 
 module _ (past : ℕ → Bool) (slot : ℕ) (a : Cell) where
   -- A cell that is added obliges nothing.

@@ -1,61 +1,18 @@
 // `Design::verify` of design.rs: what is made of one cell of an accepted list, by the words of its record and of its
 // replacement.
-use cell::Decoded;
-use cell::Operation;
 use logic::Slot;
 use net_pairs::Walked;
 ghost use mathlib.Core.Path.{_≡_};
 ghost use mathlib.Core.Bool.{true};
 ghost use mathlib.Core.List.{List, [], _∷_};
 ghost use Prim.Native.Nat.{ℕ, _+_, _≤_, _<_};
-ghost use lib.ListN.{length};
-ghost use Rattle.cell_reader.specs.Parse.{opAt, endAt, cellAt};
+ghost use Rattle.cell_reader.specs.Parse.{cellAt};
 ghost use Rattle.order.specs.Verify.{obliged, addCell, newCell};
 ghost use Rattle.nets.specs.Reads.{pastIn};
 ghost use Rattle.slots.specs.Tells.{widthIn};
 ghost use Rattle.net_pairs.specs.Does.{Does};
-ghost use Rattle.walk_cell.specs.Cursor.{isNext, newAt, repAfter, stepsAt, Readable};
-
-// The operation of the record at a place; a Note's where its head names none.
-fn op_at(list: &[u32], at: usize) -> Operation
-    ensures { λ r. ⌜ r ≡ opAt (now (list .entry)) at ⌝ }
-{
-    match cell::operation_of(logic::payload(logic::word_at(list, at)) % 32) {
-        Decoded::Unknown => Operation::Note,
-        Decoded::Known(op) => op,
-    }
-}
-
-// The place after the record at a place in the list.
-pub fn next_at(list: &[u32], at: usize) -> usize
-    ensures { λ r. ⌜ (at < length (now (list .entry)) → r ≡ endAt (now (list .entry)) at) ⌝ }
-{
-    if at < list.len() {
-        return at + 1 + (logic::payload(logic::word_at(list, at)) / 32) as usize;
-    }
-    at
-}
-
-// `changes.replaced_cells.get(&index)`: whether the next cell replacement is that of a slot.
-fn is_next(list: &[u32], end: usize, rep: usize, slot: Slot) -> bool
-    ensures { λ r. ⌜ r ≡ isNext (now (list .entry)) end rep (slot .0) ⌝ }
-{
-    if rep < end {
-        return logic::payload(logic::word_at(list, rep)) == slot.0;
-    }
-    false
-}
-
-// The place of the next cell replacement, after the cell at a slot.
-pub fn rep_after(list: &[u32], end: usize, rep: usize, slot: Slot) -> usize
-    ensures { λ r. ⌜ ((isNext (now (list .entry)) end rep (slot .0) ≡ true → Readable (now (list .entry)) (rep + 1))
-        → r ≡ repAfter (now (list .entry)) end rep (slot .0)) ⌝ }
-{
-    if is_next(list, end, rep, slot) {
-        return next_at(list, rep + 1);
-    }
-    rep
-}
+ghost use Rattle.replaced_cells.specs.Cursor.{isNext, newAt, Readable};
+ghost use Rattle.walk_cell.specs.Steps.{stepsAt};
 
 // `smt.add_cell` of the record at a place.
 fn add_at(
@@ -74,7 +31,7 @@ fn add_at(
         (now (calls .entry)) (now (names .entry)) (now (marks .entry)) eqs s
         (now (calls .exit)) (now (names .exit)) (now (marks .exit)) eqs r) ⌝ }
 {
-    let op = op_at(list, at);
+    let op = replaced_cells::op_at(list, at);
     if at < list.len() {
         let first = at + 1;
         let fields = &list[first..];
@@ -115,7 +72,7 @@ fn new_at(
         (now (calls .entry)) (now (names .entry)) (now (marks .entry)) (now (eqs .entry)) s
         (now (calls .exit)) (now (names .exit)) (now (marks .exit)) (now (eqs .exit)) r) ⌝ }
 {
-    let op = op_at(list, at);
+    let op = replaced_cells::op_at(list, at);
     if at < list.len() {
         let first = at + 1;
         let fields = &list[first..];
@@ -163,7 +120,7 @@ pub fn verify_cell(
         return s;
     }
     let old = add_at(list, at, table, calls, names, marks, s, slot, width);
-    if is_next(list, end, rep, slot) {
+    if replaced_cells::is_next(list, end, rep, slot) {
         let new = rep + 1;
         return new_at(list, new, table, calls, names, marks, eqs, old, slot, width);
     }

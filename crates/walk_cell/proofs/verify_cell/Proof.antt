@@ -7,9 +7,9 @@ use native.Mathlib.Omega.{arith}
 use Rattle.cell_reader.specs.Parse.{cellAt}
 use Rattle.nets.specs.Reads.{pastIn}
 use Rattle.slots.specs.Tells.{widthIn}
-use Rattle.walk_cell.specs.Cursor.{newAt}
+use Rattle.replaced_cells.specs.Cursor.{newAt}
+use Rattle.replaced_cells.proofs.CursorLaws.{next-inside}
 use Rattle.walk_cell.proofs.Steps.{does-skip, does-old, does-both}
-use Rattle.walk_cell.proofs.Cells.{next-inside}
 use Rattle.walk_cell.proofs.verify_cell.Statement.{statement}
 use Rattle.walk_cell.proofs.verify_cell.Tie as tie
 

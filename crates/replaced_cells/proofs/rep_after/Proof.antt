@@ -1,10 +1,11 @@
--- `walk_cell::rep_after` meets its contract: the next replacement is passed where it is the slot's. Assumes nothing.
+-- `replaced_cells::rep_after` meets its contract: the next replacement is passed where it is the slot's. Assumes
+-- nothing.
 use borrow.Author.Needs.{needs}
 use mathlib.Core.Path.{sym, _∙_}
 use native.Mathlib.Omega.{arith}
-use Rattle.walk_cell.proofs.Cells.{next-inside}
-use Rattle.walk_cell.proofs.rep_after.Statement.{statement}
-use Rattle.walk_cell.proofs.rep_after.Tie as tie
+use Rattle.replaced_cells.proofs.CursorLaws.{next-inside}
+use Rattle.replaced_cells.proofs.rep_after.Statement.{statement}
+use Rattle.replaced_cells.proofs.rep_after.Tie as tie
 
 add-next-at : tie.Need-add-next-at
 add-next-at c =

@@ -1,7 +1,7 @@
--- `term_table::binary_origin` meets its contract: an arm or a test for each case. Assumes nothing.
+-- `origins::binary_origin` meets its contract: an arm or a test for each case. Assumes nothing.
 use borrow.Author.Needs.{needs}
-use Rattle.term_table.proofs.binary_origin.Statement.{statement}
-use Rattle.term_table.proofs.binary_origin.Tie as tie
+use Rattle.origins.proofs.binary_origin.Statement.{statement}
+use Rattle.origins.proofs.binary_origin.Tie as tie
 
 enum-told : tie.Need-enum-told
 enum-told c = search needs

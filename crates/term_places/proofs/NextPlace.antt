@@ -13,7 +13,6 @@ use Rattle.engine.proofs.StructureLaws.{place-here, place-next, place-skip}
 use Rattle.engine.proofs.ReachedLaws.{Makes, one, nothing, makes-at, makes-op, passes-forward}
 use Rattle.engine.specs.Reached.{Right, Passes}
 use Rattle.engine.specs.Encode.{makesTerm, operationAt, bare, nextAt, callAt}
-use Rattle.term_table.specs.Sorted.{ReadTo}
 
 -- A scan for the next term, from a place before, finds the record that makes it.
 place-found : (n m : ℕ) (w : List ℕ) (at : ℕ) (x : Context) (end : ℕ) (y : Context) → Passes n w at x end y → n < m
@@ -56,12 +55,11 @@ place-found (suc n) (suc m) w at x end y p h inside makes =
         omega arith in
         (omega arith, next ∙ ap₂ (λ (f j : ℕ). termPlace f w (nextAt bare w at) j) (sub-one (suc m)) left ∙ rest .1)
 
-module _ {w : List ℕ} {at : ℕ} {x : Context} {table : List ℕ} {terms : ℕ} (r : ReadTo w at x table terms)
-    (right : Right w at x) where
-  -- The next term is made at the place that reading has come to.
-  pub next-place : makesTerm (operationAt w at) ≡ true → placeOfTerm w terms ≡ at
-  next-place makes =
-      let ahead = passes-forward (r .records) w 0 start at x (r .passes) in
-      let inside = right .inside in
-      let found = place-found (r .records) (length w) w 0 start at x (r .passes) (omega arith) inside makes in
-      ap (termPlace (length w) w 0) (let c = r .counts in omega arith) ∙ found .1
+-- The next term is made at the place that reading has come to.
+pub next-place : (n : ℕ) (w : List ℕ) (at : ℕ) (x : Context) → Passes n w 0 start at x → Right w at x
+    → makesTerm (operationAt w at) ≡ true → placeOfTerm w (length (x .sorts)) ≡ at
+next-place n w at x passes right makes =
+    let ahead = passes-forward n w 0 start at x passes in
+    let inside = right .inside in
+    let found = place-found n (length w) w 0 start at x passes (omega arith) inside makes in
+    ap (termPlace (length w) w 0) (let z : length (x .sorts) ≡ length (x .sorts) - 0 = omega arith in z) ∙ found .1

@@ -1,11 +1,11 @@
--- `term_table::near_place` meets its contract: each way out has what its tests say. Assumes nothing.
+-- `term_places::near_place` meets its contract: each way out has what its tests say. Assumes nothing.
 use borrow.Author.Needs.{needs}
 use Prim.Native.Nat.{_+_}
 use native.Mathlib.Omega.{arith}
 use native.Mathlib.Nat.{mod-le}
 use borrow.Author.Tests.{lt-ltb, le-ltb, le-leb, lt-leb, eq-eqb, ne-eqb}
-use Rattle.term_table.proofs.near_place.Statement.{statement}
-use Rattle.term_table.proofs.near_place.Tie as tie
+use Rattle.term_places.proofs.near_place.Statement.{statement}
+use Rattle.term_places.proofs.near_place.Tie as tie
 
 add-step : tie.Need-add-step
 add-step c = search needs

@@ -1,9 +1,9 @@
--- `term_table::origin_at` meets its contract: an arm for each operation. Assumes nothing.
+-- `origins::origin_at` meets its contract: an arm for each operation. Assumes nothing.
 use native.Mathlib.Omega.{arith}
 use borrow.Author.Needs.{needs}
 use Rattle.bitvec.proofs.Laws.{length-nat2bv}
-use Rattle.term_table.proofs.origin_at.Statement.{statement}
-use Rattle.term_table.proofs.origin_at.Tie as tie
+use Rattle.origins.proofs.origin_at.Statement.{statement}
+use Rattle.origins.proofs.origin_at.Tie as tie
 
 extract-width-requires : tie.Need-extract-width-requires
 extract-width-requires c κs =

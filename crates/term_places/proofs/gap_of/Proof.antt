@@ -1,8 +1,8 @@
--- `term_table::gap_of` meets its contract: each way out has what its test says. Assumes nothing.
+-- `term_places::gap_of` meets its contract: each way out has what its test says. Assumes nothing.
 use borrow.Author.Needs.{needs}
 use borrow.Author.Tests.{eq-eqb, ne-eqb}
-use Rattle.term_table.proofs.gap_of.Statement.{statement}
-use Rattle.term_table.proofs.gap_of.Tie as tie
+use Rattle.term_places.proofs.gap_of.Statement.{statement}
+use Rattle.term_places.proofs.gap_of.Tie as tie
 
 returns : tie.Need-returns
 returns c = rw (eq-eqb _ _ (c .if1 .taken))

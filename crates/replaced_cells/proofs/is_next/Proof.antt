@@ -1,9 +1,9 @@
--- `walk_cell::is_next` meets its contract: each answer rewrites the definition by the test that leads to it. Assumes
--- nothing.
+-- `replaced_cells::is_next` meets its contract: each answer rewrites the definition by the test that leads to it.
+-- Assumes nothing.
 use borrow.Author.Needs.{needs}
 use borrow.Author.Tests.{lt-ltb, le-ltb}
-use Rattle.walk_cell.proofs.is_next.Statement.{statement}
-use Rattle.walk_cell.proofs.is_next.Tie as tie
+use Rattle.replaced_cells.proofs.is_next.Statement.{statement}
+use Rattle.replaced_cells.proofs.is_next.Tie as tie
 
 returns : tie.Need-returns
 returns c =

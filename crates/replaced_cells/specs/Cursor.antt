@@ -2,7 +2,7 @@
 -- slot.
 use mathlib.Core.Bool.{Bool, false, cond}
 use mathlib.Core.Option.{Option, none, some}
-use mathlib.Core.List.{List, [], _∷_}
+use mathlib.Core.List.{List}
 use Prim.Native.Nat.{ℕ, _+_, _≤_, _<_}
 use lib.Dec.{eqb, ltb}
 use lib.ListN.{length}
@@ -10,7 +10,6 @@ use Rattle.cell.specs.Cell.{Cell}
 use Rattle.right.specs.Bounds.{Bounded}
 use Rattle.right.specs.Shape.{Shaped}
 use Rattle.cell_reader.specs.Parse.{numberIn, cellAt, endAt}
-use Rattle.order.specs.Verify.{Step, addCell, withNew}
 
 -- Whether the replacement at a place, up to the place `end` of the first net replacement, is that of a slot.
 abbrev pub isNext : List ℕ → ℕ → ℕ → ℕ → Bool
@@ -24,10 +23,6 @@ newAt w end rep slot = cond (isNext w end rep slot) (some (cellAt w (rep + 1))) 
 -- replacement.
 abbrev pub repAfter : List ℕ → ℕ → ℕ → ℕ → ℕ
 repAfter w end rep slot = cond (isNext w end rep slot) (endAt w (rep + 1)) rep
-
--- The steps of a cell at a slot, of an output width, with the new cell that is given for it.
-abbrev pub stepsAt : (ℕ → Bool) → ℕ → ℕ → Cell → Option Cell → List Step
-stepsAt past slot width a new = cond (eqb width 0) [] (addCell past slot width a ∷ withNew past slot width new)
 
 -- What is known of a record in the list: it ends within the list, and the cell that it stands for has its bounds and
 -- its shape.

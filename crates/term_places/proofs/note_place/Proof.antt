@@ -1,8 +1,8 @@
--- `term_table::note_place` meets its contract: each way out has what its tests say. Assumes nothing.
+-- `term_places::note_place` meets its contract: each way out has what its tests say. Assumes nothing.
 use borrow.Author.Needs.{needs}
 use borrow.Author.Tests.{eq-eqb, ne-eqb}
-use Rattle.term_table.proofs.note_place.Statement.{statement}
-use Rattle.term_table.proofs.note_place.Tie as tie
+use Rattle.term_places.proofs.note_place.Statement.{statement}
+use Rattle.term_places.proofs.note_place.Tie as tie
 
 operation-at-requires : tie.Need-operation-at-requires
 operation-at-requires c κs = search needs

@@ -1,8 +1,8 @@
--- `walk_cell::op_at` meets its contract: each answer rewrites the definition by the calls that lead to it. Assumes
+-- `replaced_cells::op_at` meets its contract: each answer rewrites the definition by the calls that lead to it. Assumes
 -- nothing.
 use borrow.Author.Needs.{needs}
-use Rattle.walk_cell.proofs.op_at.Statement.{statement}
-use Rattle.walk_cell.proofs.op_at.Tie as tie
+use Rattle.replaced_cells.proofs.op_at.Statement.{statement}
+use Rattle.replaced_cells.proofs.op_at.Tie as tie
 
 returns : tie.Need-returns
 returns c =
