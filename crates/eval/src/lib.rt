@@ -2,18 +2,19 @@
 use call_list::Cursor;
 use call_list::Operation;
 use checker::CallList;
-use checker::Wrong;
 use logic::Fault;
+use record_faults::Wrong;
 ghost use mathlib.Core.Path.{_≡_};
 ghost use mathlib.Core.List.{map};
 ghost use Prim.Native.Nat.{_+_, _<_, _≤_, _^_};
 ghost use lib.ListN.{length, set};
 ghost use lib.Dec.{ltb};
+ghost use Rattle.bitvec.specs.Bits.{bit};
 ghost use Rattle.engine.specs.Encode.{decode};
 ghost use Rattle.engine.specs.Emit.{overwrite};
 ghost use Rattle.engine.specs.Meaning.{valueAt};
 ghost use Rattle.call_list.specs.Operations.{opFrom};
-ghost use Rattle.checker.specs.Tables.{wrongAs};
+ghost use Rattle.record_faults.specs.Faults.{wrongAs};
 ghost use Rattle.term_values.specs.Values.{valueNumber};
 ghost use Rattle.term_table.specs.Near.{sortNear};
 ghost use Rattle.eval.specs.Records.{wrongBits, falseOf, valuesNext};
@@ -35,6 +36,13 @@ fn put_number(numbers: &mut [u64], at: usize, number: u64)
     }
 }
 
+// A test as a number.
+fn number(holds: bool) -> usize
+    ensures { λ r. ⌜ r ≡ bit holds ⌝ }
+{
+    if holds { 1 } else { 0 }
+}
+
 // How many false assertions an operation is: 1 for an assertion of a term whose number is 0.
 fn false_of(operation: Operation, value: u64) -> usize
     ensures { λ r. ⌜ r ≡ falseOf (opFrom operation) value ⌝ }
@@ -42,7 +50,7 @@ fn false_of(operation: Operation, value: u64) -> usize
     match operation {
         Operation::Term(_) => 0,
         Operation::Declare => 0,
-        Operation::Assert => checker::number(value == 0),
+        Operation::Assert => number(value == 0),
         Operation::Check => 0,
         Operation::Unknown => 0,
     }

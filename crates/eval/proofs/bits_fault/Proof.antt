@@ -5,7 +5,7 @@ use Prim.Native.Nat.{_-_}
 use mathlib.Core.Path.{sym, ap, _∙_}
 use native.Mathlib.Omega.{arith}
 use lib.ListN.{length}
-use Rattle.checker.specs.Tables.{wrongAs}
+use Rattle.record_faults.specs.Faults.{wrongAs}
 use Rattle.call_list.specs.declared.Cursor.{Cursor}
 use Rattle.call_list.proofs.CursorsLaws.{passed-next}
 use Rattle.eval.proofs.RecordLaws.{BitsTo, bits-start, bits-here, bits-next, bits-end}

@@ -1,7 +1,7 @@
--- `checker::declares_again` meets its contract: each way out has what its tests say. Assumes nothing.
+-- `record_faults::declares_again` meets its contract: each way out has what its tests say. Assumes nothing.
 use borrow.Author.Needs.{needs}
-use Rattle.checker.proofs.declares_again.Statement.{statement}
-use Rattle.checker.proofs.declares_again.Tie as tie
+use Rattle.record_faults.proofs.declares_again.Statement.{statement}
+use Rattle.record_faults.proofs.declares_again.Tie as tie
 
 is-declare-requires : tie.Need-is-declare-requires
 is-declare-requires c κs = search needs
@@ -26,7 +26,7 @@ returns c =
     let known = at-is-declare .before .before .before in
     let start = known .before in
     rw (
-      ← start .pre .1,
+      ← start .pre,
       ← at-is-declare .is-declare .ensures,
       at-if1 .if1 .taken,
       ← at-argument-word .argument-word .ensures,
@@ -39,7 +39,7 @@ returns-2 : tie.Need-returns-2
 returns-2 c =
     let known = c .before .before .before in
     let start = known .before .before in
-    rw (← start .pre .1, ← c .before .is-declare .ensures, c .if1 .left)
+    rw (← start .pre, ← c .before .is-declare .ensures, c .if1 .left)
 
 pub declares-again-spec : {M : Type 1} → statement M
 declares-again-spec =

@@ -1,4 +1,4 @@
--- What the checker reads from its tables: the sorts of words, the faults of a record, and how far it has come.
+-- What the tables of the records before say of a record: the sorts of its words and its faults.
 use mathlib.Core.Bool.{Bool, false, not, cond, _&&_}
 use mathlib.Core.List.{List}
 use mathlib.Core.Option.{Option, some, none}
@@ -6,20 +6,13 @@ use Prim.Native.Nat.{ℕ, _+_, _-_}
 use lib.ListN.{length, getD}
 use lib.Dec.{eqb, ltb}
 use Rattle.logic.specs.Word.{kindOf, payloadOf}
-use Rattle.engine.specs.Sorts.{Sort, noSort, start, after}
-use Rattle.engine.specs.Encode.{Op, operationAt, countAt, bare, argumentAt, callOf}
-use Rattle.engine.specs.WellFormed.{countFits, argumentOf, admits, firstFailing, Outcome, wellFormed, malformed}
+use Rattle.engine.specs.Sorts.{Sort, noSort}
+use Rattle.engine.specs.Encode.{operationAt, countAt, bare, argumentAt}
+use Rattle.engine.specs.WellFormed.{countFits, argumentOf, admits, firstFailing}
 use Rattle.call_list.specs.Operations.{isDeclare}
 use Rattle.name_table.specs.Names.{knownBy}
-use Rattle.checker.specs.declared.Wrong.{Wrong}
-use Rattle.checker.specs.declared.Wrong.the-variants.{None, At}
-use Rattle.checker.specs.declared.CallList.{CallList}
-use Rattle.checker.specs.declared.CallList.the-variants.{WellFormed, Malformed}
-
--- The answer of the checker: how many terms and names, or the place.
-abbrev pub checkedAs : Outcome → CallList
-checkedAs (wellFormed x) = WellFormed (length (x .sorts)) (length (x .names))
-checkedAs (malformed at) = Malformed at
+use Rattle.record_faults.specs.declared.Wrong.{Wrong}
+use Rattle.record_faults.specs.declared.Wrong.the-variants.{None, At}
 
 -- ---- sorts
 
@@ -64,7 +57,3 @@ onWrong (some i) f = some (f i)
 abbrev pub faultBy : (ℕ → Sort) → List ℕ → List ℕ → List ℕ → ℕ → ℕ → Option ℕ
 faultBy sort names tops w terms at =
     cond (headBy names tops w at) (onWrong (wrongBy sort w terms at) (λ i. at + 1 + i)) (some at)
-
--- Whether an operation is the check, or none that a list can have.
-abbrev pub isCheck : Op → Bool
-isCheck op = after start (callOf op 0 (λ i. 0)) .checked

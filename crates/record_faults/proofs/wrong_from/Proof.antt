@@ -1,5 +1,5 @@
--- `checker::wrong_from` meets its contract: from each argument on, the scan finds what it finds from the first; the
--- word before and its sort are kept from turn to turn. The measure is how many arguments are left. Assumes nothing.
+-- `record_faults::wrong_from` meets its contract: from each argument on, the scan finds what it finds from the first;
+-- the word before and its sort are kept from turn to turn. The measure is how many arguments are left. Assumes nothing.
 use borrow.Author.Needs.{needs}
 use Prim.Native.Nat.{ℕ, _+_, _-_, _≤_}
 use mathlib.Core.Path.{_≡_, sym, ap, _∙_}
@@ -8,13 +8,13 @@ use lib.ListN.{getD}
 use Rattle.engine.specs.Encode.{Op}
 use Rattle.engine.specs.WellFormed.{firstFailing, argumentOf}
 use Rattle.engine.proofs.Steps.{failing-none, failing-turn, failing-here}
-use Rattle.checker.specs.Tables.{wordSort, standsBy, wrongAs, onWrong}
+use Rattle.record_faults.specs.Faults.{wordSort, standsBy, wrongAs, onWrong}
 use mathlib.Core.Option.{Option}
-use Rattle.checker.specs.declared.Wrong.the-variants.{At}
+use Rattle.record_faults.specs.declared.Wrong.the-variants.{At}
 use Rattle.term_table.specs.Near.{sortNear}
-use Rattle.checker.proofs.TableLaws.{stands-is}
-use Rattle.checker.proofs.wrong_from.Statement.{statement}
-use Rattle.checker.proofs.wrong_from.Tie as tie
+use Rattle.record_faults.proofs.FaultsLaws.{stands-is}
+use Rattle.record_faults.proofs.wrong_from.Statement.{statement}
+use Rattle.record_faults.proofs.wrong_from.Tie as tie
 
 abbrev Inv-loop : tie.InvT-loop
 Inv-loop calls sorts recent places gap terms at operation n first before₀ sort-before₀ i₀ before sort-before i =

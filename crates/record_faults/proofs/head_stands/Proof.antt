@@ -1,8 +1,13 @@
--- `checker::head_stands` meets its contract: each way out has what its tests say. Assumes nothing.
+-- `record_faults::head_stands` meets its contract: each way out has what its tests say, and a word of the kind of a
+-- head is inside the list. Assumes nothing.
 use borrow.Author.Tests.{lt-ltb, le-ltb, eq-eqb, ne-eqb}
 use borrow.Author.Needs.{needs}
-use Rattle.checker.proofs.head_stands.Statement.{statement}
-use Rattle.checker.proofs.head_stands.Tie as tie
+use mathlib.Core.Path.{sym, ap, _∙_}
+use native.Mathlib.Nat.{le-of-lt}
+use Rattle.logic.specs.Word.{kindOf}
+use Rattle.record_faults.proofs.FaultsLaws.{head-inside}
+use Rattle.record_faults.proofs.head_stands.Statement.{statement}
+use Rattle.record_faults.proofs.head_stands.Tie as tie
 
 word-at-requires : tie.Need-word-at-requires
 word-at-requires c κs = search needs
@@ -11,7 +16,11 @@ kind-requires : tie.Need-kind-requires
 kind-requires c κs = search needs
 
 sub-if2 : tie.Need-sub-if2
-sub-if2 c = search needs
+sub-if2 c =
+    let at-kind = c .before in
+    let args = at-kind .before .before .before .before .before .args in
+    let head = sym (ap kindOf (at-kind .before .word-at .ensures)) ∙ sym (at-kind .kind .ensures) ∙ c .if1 .taken in
+    le-of-lt (head-inside (args .calls .now) (args .at) head)
 
 argument-word-requires : tie.Need-argument-word-requires
 argument-word-requires c κs = search needs
@@ -34,8 +43,8 @@ returns c =
     let start = known .before in
     rw (
       ← c .before .declares-again .ensures,
+      ← start .pre .0,
       ← start .pre .1,
-      ← start .pre .2,
       ← at-word-at .word-at .ensures,
       ← at-kind .kind .ensures,
       eq-eqb _ _ (at-if1 .if1 .taken),
@@ -58,8 +67,8 @@ returns-2 c =
     let start = known .before in
     rw (
       ← c .before .declares-again .ensures,
+      ← start .pre .0,
       ← start .pre .1,
-      ← start .pre .2,
       ← at-word-at .word-at .ensures,
       ← at-kind .kind .ensures,
       eq-eqb _ _ (at-if1 .if1 .taken),
@@ -79,8 +88,8 @@ returns-3 c =
     let known = at-word-at .before .before .before in
     let start = known .before in
     rw (
+      ← start .pre .0,
       ← start .pre .1,
-      ← start .pre .2,
       ← at-word-at .word-at .ensures,
       ← at-kind .kind .ensures,
       eq-eqb _ _ (at-if1 .if1 .taken),
@@ -96,8 +105,8 @@ returns-4 c =
     let known = at-word-at .before .before .before in
     let start = known .before in
     rw (
+      ← start .pre .0,
       ← start .pre .1,
-      ← start .pre .2,
       ← at-word-at .word-at .ensures,
       ← c .before .before .kind .ensures,
       eq-eqb _ _ (c .before .if1 .taken),

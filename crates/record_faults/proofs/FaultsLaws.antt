@@ -1,4 +1,4 @@
--- Laws of what the checker reads from its tables.
+-- Laws of the faults of a record.
 use mathlib.Core.Path.{_≡_, refl, sym, ap, _∙_}
 use mathlib.Core.Bool.{Bool, true, false, not, cond, _&&_, false≢true}
 use mathlib.Core.List.{List}
@@ -21,7 +21,8 @@ use Rattle.call_list.proofs.OperationsLaws.{declares-of}
 use Rattle.term_table.specs.Sorted.{ReadTo}
 use Rattle.name_table.specs.Named.{NamesTo, TopsTo}
 use Rattle.name_table.proofs.NamedLaws.{known-is}
-use Rattle.checker.specs.Tables.{wordSort, standsBy, wrongBy, againBy, headBy, onWrong, faultBy}
+use Rattle.record_faults.specs.Faults.{wordSort, standsBy, wrongBy, wrongAs, againBy, headBy, onWrong, faultBy}
+use Rattle.record_faults.specs.declared.Wrong.the-variants.{None, At}
 
 -- What the tests of one argument say, taken from the words one by one.
 pub stands-is : (sort : ℕ → Sort) (w : List ℕ) (terms at i : ℕ) {arg : Argument} {first before word sb s : ℕ} {r : Bool}
@@ -29,6 +30,17 @@ pub stands-is : (sort : ℕ → Sort) (w : List ℕ) (terms at i : ℕ) {arg : A
     → word ≡ argumentAt bare w at i → sb ≡ wordSort sort terms before → s ≡ wordSort sort terms word
     → r ≡ admits arg first before word sb s → r ≡ standsBy sort w terms at i
 stands-is sort w terms at i p0 p1 p2 p3 p4 p5 e = rw (← p0, ← p1, ← p2, ← p3, ← p4, ← p5) e
+
+-- A word of the kind of a head is inside the list.
+pub head-inside : (w : List ℕ) (at : ℕ) → kindOf (getD w at 0) ≡ 2 → at < length w
+head-inside w at h = go (ltb at (length w)) refl
+  where
+    go : (b : Bool) → ltb at (length w) ≡ b → at < length w
+    go true e = ltb-true at (length w) e
+    go false e =
+        let none : _≡_ {A = ℕ} (getD w at 0) 0 = List·getD-eq-default w 0 (ltb-false at (length w) e) in
+        let z : _≡_ {A = ℕ} 0 2 = sym (ap kindOf none) ∙ h in
+        absurd (omega arith)
 
 -- A head that stands is that of a whole record.
 pub head-whole : (names tops w : List ℕ) (at : ℕ) → headBy names tops w at ≡ true → at + countAt w at < length w
@@ -147,3 +159,12 @@ module _ {w : List ℕ} {at : ℕ} {x : Context} {table : List ℕ} {terms : ℕ
       go false h o q t =
           let place : at ≡ p = cc in
           read-head n w at x inside (head-is inside open-list ∙ h) ∙ ap malformed place
+
+-- The answer of `record_fault`, read back.
+pub wrong-at : (o : Option ℕ) {p : ℕ} → wrongAs o ≡ At p → o ≡ some p
+wrong-at none e = absurd (let z : _≡_ {A = ℕ} 0 1 = cc in omega arith)
+wrong-at (some i) e = cc
+
+pub wrong-none : (o : Option ℕ) → wrongAs o ≡ None → o ≡ none
+wrong-none none e = refl
+wrong-none (some i) e = absurd (let z : _≡_ {A = ℕ} 0 1 = cc in omega arith)

@@ -1,10 +1,10 @@
--- `checker::record_fault` meets its contract: each way out has what its tests say. Assumes nothing.
+-- `record_faults::record_fault` meets its contract: each way out has what its tests say. Assumes nothing.
 use borrow.Author.Needs.{needs}
 use mathlib.Core.Path.{sym, _∙_}
 use native.Mathlib.Omega.{arith}
-use Rattle.checker.proofs.TableLaws.{head-whole}
-use Rattle.checker.proofs.record_fault.Statement.{statement}
-use Rattle.checker.proofs.record_fault.Tie as tie
+use Rattle.record_faults.proofs.FaultsLaws.{head-whole}
+use Rattle.record_faults.proofs.record_fault.Statement.{statement}
+use Rattle.record_faults.proofs.record_fault.Tie as tie
 
 operation-at-requires : tie.Need-operation-at-requires
 operation-at-requires c κs = search needs

@@ -1,8 +1,8 @@
--- `checker::word_sort` meets its contract: each way out has what its tests say. Assumes nothing.
+-- `record_faults::word_sort` meets its contract: each way out has what its tests say. Assumes nothing.
 use borrow.Author.Tests.{lt-ltb, le-ltb, eq-eqb, ne-eqb}
 use borrow.Author.Needs.{needs}
-use Rattle.checker.proofs.word_sort.Statement.{statement}
-use Rattle.checker.proofs.word_sort.Tie as tie
+use Rattle.record_faults.proofs.word_sort.Statement.{statement}
+use Rattle.record_faults.proofs.word_sort.Tie as tie
 
 kind-requires : tie.Need-kind-requires
 kind-requires c κs = search needs
