@@ -15,8 +15,9 @@ use Rattle.checker.specs.Checking.{checkedAs, TablesBy}
 use Rattle.record_faults.specs.declared.Wrong.the-variants.{None, At}
 use Rattle.record_faults.specs.Faults.{wrongAs}
 use Rattle.record_faults.proofs.FaultsLaws.{wrong-at, wrong-none}
+use Rattle.bits_given.specs.Given.{bitsFault}
 use Rattle.eval.specs.declared.Evaluation.the-variants.{Evaluated}
-use Rattle.eval.specs.Evaluated.{falseAssertions, bitsFault, termValues, refused, answer}
+use Rattle.eval.specs.Evaluated.{falseAssertions, termValues, refused, answer}
 use Rattle.eval.specs.Evaluable.{Evaluable}
 
 -- The outcome that a check's answer tells.

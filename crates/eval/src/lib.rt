@@ -6,19 +6,16 @@ use logic::Fault;
 use record_faults::Wrong;
 ghost use mathlib.Core.Path.{_≡_};
 ghost use mathlib.Core.List.{map};
-ghost use Prim.Native.Nat.{_+_, _<_, _≤_, _^_};
 ghost use lib.ListN.{length, set};
-ghost use lib.Dec.{ltb};
 ghost use Rattle.bitvec.specs.Bits.{bit};
 ghost use Rattle.engine.specs.Encode.{decode};
 ghost use Rattle.engine.specs.Emit.{overwrite};
 ghost use Rattle.engine.specs.Meaning.{valueAt};
 ghost use Rattle.call_list.specs.Operations.{opFrom};
-ghost use Rattle.record_faults.specs.Faults.{wrongAs};
 ghost use Rattle.term_values.specs.Values.{valueNumber};
 ghost use Rattle.term_table.specs.Near.{sortNear};
-ghost use Rattle.eval.specs.Records.{wrongBits, falseOf, valuesNext};
-ghost use Rattle.eval.specs.Evaluated.{bitsFault, falseAssertions, termValues, refused, answer, written};
+ghost use Rattle.eval.specs.Records.{falseOf, valuesNext};
+ghost use Rattle.eval.specs.Evaluated.{falseAssertions, termValues, refused, answer, written};
 ghost use Rattle.eval.specs.Evaluable.{Evaluable};
 
 // What evaluating a call list answers: how many assertions are false, or the fault.
@@ -98,51 +95,6 @@ fn refusal(number: u32, place: usize) -> Evaluation
     })
 }
 
-// Whether a number fits a width.
-fn fits_width(number: u64, width: u32) -> bool
-    ensures { λ r. ⌜ r ≡ ltb number (2 ^ width) ⌝ }
-{
-    if width < 64 {
-        number < 1 << width
-    } else {
-        true
-    }
-}
-
-// Whether the record at a place declares a name whose bits are missing or above its width.
-fn wrong_bits(calls: &[u32], bits: &[u64], declared: usize, at: usize) -> bool
-    ensures { λ r. ⌜ r ≡ wrongBits (now (calls .entry)) (now (bits .entry)) declared at ⌝ }
-{
-    if call_list::is_declare(call_list::operation_at(calls, at)) {
-        if declared < bits.len() {
-            if fits_width(bits[declared], call_list::argument_at(calls, at, 3)) {
-                return false;
-            }
-            return true;
-        }
-        return true;
-    }
-    false
-}
-
-// The term number of the first declaration whose bits are missing or above its width (fault 20).
-fn bits_fault(calls: &[u32], bits: &[u64]) -> Wrong
-    ensures { λ r. ⌜ r ≡ wrongAs (bitsFault 0 (decode (now (calls .entry))) (now (bits .entry))) ⌝ }
-{
-    let mut seen = Cursor {
-        at: 0,
-        terms: 0,
-        declared: 0,
-    };
-    while seen.at < calls.len() {
-        if wrong_bits(calls, bits, seen.declared, seen.at) {
-            return Wrong::At(seen.terms);
-        }
-        seen = call_list::next(calls, seen);
-    }
-    Wrong::None
-}
-
 // The numbers of all terms go into the slice, and how many assertions are false is counted; with tables of the sorts
 // and places.
 fn evaluate_records(
@@ -210,7 +162,7 @@ fn evaluate_by(
 {
     match checker::check_by(calls, places, gap, sorts, recent, names) {
         CallList::Malformed(at) => refusal(19, at),
-        CallList::WellFormed { terms, declared: _ } => match bits_fault(calls, bits) {
+        CallList::WellFormed { terms, declared: _ } => match bits_given::bits_fault(calls, bits) {
             Wrong::At(k) => refusal(20, k),
             Wrong::None => {
                 let room = values.len();

@@ -1,4 +1,4 @@
--- `eval::bits_fault` meets its contract: between two records the fault is what the records left say. The measure is how
+-- `bits_given::bits_fault` meets its contract: between two records the fault is what the records left say. The measure is how
 -- many words are left. Assumes nothing.
 use borrow.Author.Needs.{needs}
 use Prim.Native.Nat.{_-_}
@@ -8,9 +8,9 @@ use lib.ListN.{length}
 use Rattle.record_faults.specs.Faults.{wrongAs}
 use Rattle.call_list.specs.declared.Cursor.{Cursor}
 use Rattle.call_list.proofs.CursorsLaws.{passed-next}
-use Rattle.eval.proofs.RecordLaws.{BitsTo, bits-start, bits-here, bits-next, bits-end}
-use Rattle.eval.proofs.bits_fault.Statement.{statement}
-use Rattle.eval.proofs.bits_fault.Tie as tie
+use Rattle.bits_given.proofs.GivenLaws.{BitsTo, bits-start, bits-here, bits-next, bits-end}
+use Rattle.bits_given.proofs.bits_fault.Statement.{statement}
+use Rattle.bits_given.proofs.bits_fault.Tie as tie
 
 abbrev Inv-loop : tie.InvT-loop
 Inv-loop calls bits seen₀ seen = BitsTo calls bits seen

@@ -1,4 +1,4 @@
--- `eval::fits_width` meets its contract: from width 64 on every word fits. Assumes nothing.
+-- `bits_given::fits_width` meets its contract: from width 64 on every word fits. Assumes nothing.
 use mathlib.Core.Path.{sym}
 use Prim.Native.Nat.{_^_, _<_}
 use native.Mathlib.Nat.{lt-of-lt-of-le, one-mul}
@@ -6,8 +6,8 @@ use native.Mathlib.Omega.{arith}
 use lib.Pow.{pow-mono, shl-exact}
 use borrow.Author.Tests.{lt-ltb}
 use borrow.Author.Needs.{needs}
-use Rattle.eval.proofs.fits_width.Statement.{statement}
-use Rattle.eval.proofs.fits_width.Tie as tie
+use Rattle.bits_given.proofs.fits_width.Statement.{statement}
+use Rattle.bits_given.proofs.fits_width.Tie as tie
 
 shl-result : tie.Need-shl-result
 shl-result c = search needs

@@ -1,11 +1,11 @@
--- `eval::wrong_bits` meets its contract: each way out has what its tests say. Assumes nothing.
+-- `bits_given::wrong_bits` meets its contract: each way out has what its tests say. Assumes nothing.
 use mathlib.Core.Path.{_≡_, sym, ap, _∙_}
 use borrow.Author.Tests.{lt-ltb, le-ltb}
 use Rattle.call_list.specs.Operations.{isDeclare}
 use Rattle.call_list.specs.Literal.{payloads}
 use borrow.Author.Needs.{needs}
-use Rattle.eval.proofs.wrong_bits.Statement.{statement}
-use Rattle.eval.proofs.wrong_bits.Tie as tie
+use Rattle.bits_given.proofs.wrong_bits.Statement.{statement}
+use Rattle.bits_given.proofs.wrong_bits.Tie as tie
 
 operation-at-requires : tie.Need-operation-at-requires
 operation-at-requires c κs = search needs
