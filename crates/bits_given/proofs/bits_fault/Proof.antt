@@ -1,5 +1,5 @@
--- `bits_given::bits_fault` meets its contract: between two records the fault is what the records left say. The measure is how
--- many words are left. Assumes nothing.
+-- `bits_given::bits_fault` meets its contract: between two records the fault is what the records left say. The measure
+-- is how many words are left. Assumes nothing.
 use borrow.Author.Needs.{needs}
 use Prim.Native.Nat.{_-_}
 use mathlib.Core.Path.{sym, ap, _∙_}
