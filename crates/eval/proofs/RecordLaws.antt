@@ -9,7 +9,6 @@ use native.Mathlib.Numerals.{add-one}
 use native.Mathlib.Omega.{arith}
 use lib.ListN.{length, getD, set, drop}
 use lib.Seq.{getD-drop}
-use lib.Dec.{eqb}
 use borrow.Author.Tests.{lt-ltb}
 use Rattle.bitvec.specs.Bits.{Bits, bit, bv2nat}
 use Rattle.engine.specs.Call.{Call}
@@ -43,8 +42,8 @@ use Rattle.term_values.specs.Records.{numberIn, sortBelow, literalValue}
 use Rattle.term_values.proofs.RecordsLaws.{literal-value}
 use Rattle.bits_given.specs.Given.{bitsFault, wrongBits}
 use Rattle.bits_given.proofs.GivenLaws.{nameOf, fault-step, no-fault, bits-low}
-use Rattle.eval.specs.Records.{falseOf, valuesNext}
-use Rattle.eval.proofs.RecordsLaws.{falseBy}
+use Rattle.record_values.specs.Records.{falseOf, valuesNext}
+use Rattle.record_values.proofs.RecordsLaws.{falseBy, false-low}
 use Rattle.eval.specs.Evaluable.{Evaluable}
 
 -- ---- bits
@@ -85,14 +84,6 @@ module _ {cs : List Call} {ρ : Assignment} {slice₀ slice : List ℕ} {terms f
   evaluating-op o.assert m p told e low = rw (add-zero declared, add-zero terms) (evaluating-assert (p 0) e room)
   evaluating-op o.check m p told e low = rw (add-zero declared, add-zero terms, add-zero falses) (evaluating-check e)
   evaluating-op o.unknown m p told e low = rw (add-zero declared, add-zero terms, add-zero falses) (evaluating-check e)
-
--- An operation is at most one false assertion.
-pub false-low : (op : Op) (v : ℕ) → falseOf op v ≤ 1
-false-low (o.term op) v = omega arith
-false-low o.declare v = omega arith
-false-low o.assert v = bit-low (eqb v 0)
-false-low o.check v = omega arith
-false-low o.unknown v = omega arith
 
 -- How far a well-formed list is evaluated, between two records.
 pub record EvaluatedTo (gap : ℕ) (w bits slice₀ table places slice recent : List ℕ) (done : Cursor) (falses : ℕ) : Type

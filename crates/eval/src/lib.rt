@@ -1,20 +1,15 @@
 // The evaluator of a call list (faults 19 and 20), total on every list of words.
 use call_list::Cursor;
-use call_list::Operation;
 use checker::CallList;
 use logic::Fault;
 use record_faults::Wrong;
 ghost use mathlib.Core.Path.{_≡_};
 ghost use mathlib.Core.List.{map};
-ghost use lib.ListN.{length, set};
-ghost use Rattle.bitvec.specs.Bits.{bit};
+ghost use lib.ListN.{length};
 ghost use Rattle.engine.specs.Encode.{decode};
 ghost use Rattle.engine.specs.Emit.{overwrite};
 ghost use Rattle.engine.specs.Meaning.{valueAt};
-ghost use Rattle.call_list.specs.Operations.{opFrom};
 ghost use Rattle.term_values.specs.Values.{valueNumber};
-ghost use Rattle.term_table.specs.Near.{sortNear};
-ghost use Rattle.eval.specs.Records.{falseOf, valuesNext};
 ghost use Rattle.eval.specs.Evaluated.{falseAssertions, termValues, refused, answer, written};
 ghost use Rattle.eval.specs.Evaluable.{Evaluable};
 
@@ -22,67 +17,6 @@ ghost use Rattle.eval.specs.Evaluable.{Evaluable};
 pub enum Evaluation {
     Evaluated(usize),
     Refused(Fault),
-}
-
-// A number stored at a place; past the end nothing changes.
-fn put_number(numbers: &mut [u64], at: usize, number: u64)
-    ensures { λ _. ⌜ now (numbers .exit) ≡ set (now (numbers .entry)) at number ⌝ }
-{
-    if at < numbers.len() {
-        numbers[at] = number;
-    }
-}
-
-// A test as a number.
-fn number(holds: bool) -> usize
-    ensures { λ r. ⌜ r ≡ bit holds ⌝ }
-{
-    if holds { 1 } else { 0 }
-}
-
-// How many false assertions an operation is: 1 for an assertion of a term whose number is 0.
-fn false_of(operation: Operation, value: u64) -> usize
-    ensures { λ r. ⌜ r ≡ falseOf (opFrom operation) value ⌝ }
-{
-    match operation {
-        Operation::Term(_) => 0,
-        Operation::Declare => 0,
-        Operation::Assert => number(value == 0),
-        Operation::Check => 0,
-        Operation::Unknown => 0,
-    }
-}
-
-// The number of the term that a record makes goes into the slice.
-fn write_value(
-    calls: &[u32],
-    values: &mut [u64],
-    sorts: &[u8],
-    recent: &[u8],
-    places: &[u32],
-    gap: u32,
-    terms: usize,
-    given: u64,
-    at: usize,
-)
-    ensures { λ _. ⌜ now (values .exit) ≡ valuesNext
-        (sortNear (now (sorts .entry)) (now (recent .entry)) (now (places .entry)) gap (now (calls .entry)) terms)
-        (now (values .entry)) (now (calls .entry)) terms given at ⌝ }
-{
-    if call_list::makes_term(call_list::operation_at(calls, at)) {
-        let value = term_values::record_value(
-            calls,
-            values,
-            sorts,
-            recent,
-            places,
-            gap,
-            terms,
-            given,
-            at,
-        );
-        put_number(values, terms, value);
-    }
 }
 
 // A refusal with a fault's number and place.
@@ -126,8 +60,8 @@ fn evaluate_records(
             call_list::argument_at(calls, done.at, 0) as usize,
         );
         let given = term_values::number_at(bits, done.declared);
-        falses += false_of(operation, asserted);
-        write_value(
+        falses += record_values::false_of(operation, asserted);
+        record_values::write_value(
             calls,
             values,
             sorts,

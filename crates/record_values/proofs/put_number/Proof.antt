@@ -1,9 +1,9 @@
--- `eval::put_number` meets its contract: past the end nothing changes. Assumes nothing.
+-- `record_values::put_number` meets its contract: past the end nothing changes. Assumes nothing.
 use lib.Seq.{set-out}
 use mathlib.Core.Path.{sym}
 use borrow.Author.Needs.{needs}
-use Rattle.eval.proofs.put_number.Statement.{statement}
-use Rattle.eval.proofs.put_number.Tie as tie
+use Rattle.record_values.proofs.put_number.Statement.{statement}
+use Rattle.record_values.proofs.put_number.Tie as tie
 
 mul-numbers : tie.Need-mul-numbers
 mul-numbers c = search needs

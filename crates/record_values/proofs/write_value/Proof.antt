@@ -1,9 +1,9 @@
--- `eval::write_value` meets its contract: a record that makes a term writes its number. Assumes nothing.
+-- `record_values::write_value` meets its contract: a record that makes a term writes its number. Assumes nothing.
 use borrow.Author.Needs.{needs}
 use mathlib.Core.Path.{sym, ap, _∙_}
 use Rattle.engine.specs.Encode.{makesTerm}
-use Rattle.eval.proofs.write_value.Statement.{statement}
-use Rattle.eval.proofs.write_value.Tie as tie
+use Rattle.record_values.proofs.write_value.Statement.{statement}
+use Rattle.record_values.proofs.write_value.Tie as tie
 
 operation-at-requires : tie.Need-operation-at-requires
 operation-at-requires c κs = search needs

@@ -1,8 +1,8 @@
--- `eval::false_of` meets its contract: an arm for each class of operations. Assumes nothing.
+-- `record_values::false_of` meets its contract: an arm for each class of operations. Assumes nothing.
 use mathlib.Core.Path.{_∙_}
 use borrow.Author.Needs.{needs}
-use Rattle.eval.proofs.false_of.Statement.{statement}
-use Rattle.eval.proofs.false_of.Tie as tie
+use Rattle.record_values.proofs.false_of.Statement.{statement}
+use Rattle.record_values.proofs.false_of.Tie as tie
 
 enum-told : tie.Need-enum-told
 enum-told c = search needs

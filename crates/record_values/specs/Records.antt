@@ -1,4 +1,4 @@
--- The evaluator, record by record: what a record adds to what is written and counted.
+-- What a record adds to the numbers written and to the false assertions counted.
 use mathlib.Core.Bool.{cond}
 use mathlib.Core.List.{List}
 use Prim.Native.Nat.{ℕ}
