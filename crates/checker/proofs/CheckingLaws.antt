@@ -1,9 +1,8 @@
 -- Laws of the definitions of Checking.
-use Rattle.checker.specs.declared.Wrong.the-variants.{None, At}
 use mathlib.Core.Path.{_≡_, refl, sym, ap, ap₂, _∙_, subst}
 use mathlib.Core.Bool.{Bool, true, false, cond, _&&_}
 use mathlib.Core.List.{List}
-use mathlib.Core.Option.{Option, some, none}
+use mathlib.Core.Option.{some, none}
 use Prim.Native.Nat.{ℕ, zero, suc, _+_, _-_, _≤_, _<_}
 use native.Mathlib.Nat.{le-refl}
 use native.Mathlib.Omega.{arith}
@@ -33,9 +32,9 @@ use Rattle.name_table.specs.Named.{NamesTo, TopsTo}
 use Rattle.name_table.proofs.NamedLaws.{names-none, names-next, tops-none, tops-next}
 use Rattle.call_list.specs.Literal.{payloads}
 use lib.Dec.{ltb}
-use Rattle.checker.specs.Tables.{checkedAs, isCheck, faultBy, wrongAs}
-use Rattle.checker.proofs.TableLaws.{Says, fault-none, fault-some}
-use Rattle.checker.specs.Checking.{TablesBy, CheckedBy}
+use Rattle.record_faults.specs.Faults.{faultBy}
+use Rattle.record_faults.proofs.FaultsLaws.{Says, fault-none, fault-some}
+use Rattle.checker.specs.Checking.{checkedAs, isCheck, TablesBy, CheckedBy}
 
 -- Between two records: what the calls so far leave, as the tables and counts have it, and what remains to be read.
 pub record Checking (gap : ℕ) (w places table recent names tops : List ℕ) (s : Cursor) (checked : Bool) : Type 0 where
@@ -194,15 +193,6 @@ checked-wrong {gap} {w} {places} {table} {names} {p} e =
   where
     never : (y : Context) → Malformed p ≡ checkedAs (wellFormed y) → ⊥
     never y z = let q : _≡_ {A = ℕ} 0 1 = cc in omega arith
-
--- The answer of `record_fault`, read back.
-pub wrong-at : (o : Option ℕ) {p : ℕ} → wrongAs o ≡ At p → o ≡ some p
-wrong-at none e = absurd (let z : _≡_ {A = ℕ} 0 1 = cc in omega arith)
-wrong-at (some i) e = cc
-
-pub wrong-none : (o : Option ℕ) → wrongAs o ≡ None → o ≡ none
-wrong-none none e = refl
-wrong-none (some i) e = absurd (let z : _≡_ {A = ℕ} 0 1 = cc in omega arith)
 
 -- A table of zeros.
 pub zeros-all : (n k : ℕ) → _≡_ {A = ℕ} (getD (replicate n 0) k 0) 0

@@ -1,2 +1,1 @@
 pub mod CheckingLaws
-pub mod TableLaws

@@ -11,12 +11,13 @@ use Rattle.engine.specs.Sorts.{Context}
 use Rattle.engine.specs.Encode.{decode}
 use Rattle.engine.specs.WellFormed.{Outcome, wellFormed, malformed, outcome}
 use Rattle.checker.specs.declared.CallList.the-variants.{WellFormed, Malformed}
-use Rattle.checker.specs.declared.Wrong.the-variants.{None, At}
-use Rattle.checker.specs.Tables.{checkedAs, wrongAs}
-use Rattle.checker.specs.Checking.{TablesBy}
-use Rattle.checker.proofs.CheckingLaws.{wrong-at, wrong-none}
+use Rattle.checker.specs.Checking.{checkedAs, TablesBy}
+use Rattle.record_faults.specs.declared.Wrong.the-variants.{None, At}
+use Rattle.record_faults.specs.Faults.{wrongAs}
+use Rattle.record_faults.proofs.FaultsLaws.{wrong-at, wrong-none}
+use Rattle.bits_given.specs.Given.{bitsFault}
 use Rattle.eval.specs.declared.Evaluation.the-variants.{Evaluated}
-use Rattle.eval.specs.Evaluated.{falseAssertions, bitsFault, termValues, refused, answer}
+use Rattle.eval.specs.Evaluated.{falseAssertions, termValues, refused, answer}
 use Rattle.eval.specs.Evaluable.{Evaluable}
 
 -- The outcome that a check's answer tells.

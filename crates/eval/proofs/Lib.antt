@@ -2,5 +2,4 @@ pub mod Answers
 pub mod AssignedLaws
 pub mod Evaluating
 pub mod RecordLaws
-pub mod RecordsLaws
 pub mod SatisfiedLaws

@@ -1,18 +1,17 @@
--- Laws of the definitions of RecordLaws.
+-- The evaluator, record by record: how far a well-formed list is evaluated.
 use mathlib.Core.Path.{_≡_, refl, sym, ap, _∙_, subst}
-use mathlib.Core.Bool.{Bool, true, false, not, cond, true≢false}
+use mathlib.Core.Bool.{true, cond}
 use mathlib.Core.List.{List, [], _∷_, map}
-use mathlib.Core.Option.{Option, some, none}
+use mathlib.Core.Option.{none}
 use Prim.Native.Nat.{ℕ, zero, suc, _+_, _-_, _^_, _≤_, _<_}
 use native.Mathlib.Nat.{add-zero}
 use native.Mathlib.Numerals.{add-one}
 use native.Mathlib.Omega.{arith}
-use lib.ListN.{length, getD, set, drop, drop-of-length-le}
-use lib.Seq.{drop-cons, getD-drop}
-use lib.Dec.{eqb, ltb}
-use borrow.Author.Tests.{ltb-true, ltb-false, lt-ltb}
+use lib.ListN.{length, getD, set, drop}
+use lib.Seq.{getD-drop}
+use borrow.Author.Tests.{lt-ltb}
 use Rattle.bitvec.specs.Bits.{Bits, bit, bv2nat}
-use Rattle.engine.specs.Call.{Call, Name}
+use Rattle.engine.specs.Call.{Call}
 use Rattle.engine.specs.Call as c
 use Rattle.engine.specs.Meaning.{Assignment, valueAt, run}
 use Rattle.engine.specs.Sorts.{Sort, sortAt, Context, start, after}
@@ -22,7 +21,7 @@ use Rattle.engine.specs.WellFormed.{wellFormed, readFrom, outcome}
 use Rattle.engine.specs.Emit.{overwrite}
 use Rattle.engine.proofs.ReadBack.{decode-formed}
 use Rattle.engine.proofs.SortLaws.{Sorted, run-sorted}
-use Rattle.engine.proofs.Steps.{calls-end, calls-step, calls-enough}
+use Rattle.engine.proofs.Steps.{calls-end, calls-step}
 use Rattle.engine.proofs.ReachedLaws.{right-read}
 use Rattle.call_list.specs.Operations.{isDeclare}
 use Rattle.call_list.specs.Literal.{payloads}
@@ -35,14 +34,16 @@ use Rattle.term_table.proofs.NearLaws.{Recent, recent-start, ring-more, near-is
 use Rattle.call_list.proofs.CursorsLaws.{nothingRead, cursorNext, bit-low}
 use Rattle.call_list.specs.declared.Cursor.{Cursor}
 use Rattle.term_values.specs.Values.{valueNumber, valueBy}
-use Rattle.eval.specs.Evaluated.{assigned, falseAssertions, bitsFault, termValues}
+use Rattle.eval.specs.Evaluated.{assigned, falseAssertions, termValues}
 use Rattle.eval.proofs.AssignedLaws.{first, rest, assigned-gives, assigned-fits}
 use Rattle.eval.proofs.Evaluating.{Evaluating, evaluating-start, evaluating-term, evaluating-declare}
 use Rattle.eval.proofs.Evaluating.{evaluating-assert, evaluating-check, evaluating-end}
 use Rattle.term_values.specs.Records.{numberIn, sortBelow, literalValue}
 use Rattle.term_values.proofs.RecordsLaws.{literal-value}
-use Rattle.eval.specs.Records.{bitsWrong, wrongBits, falseOf, valuesNext}
-use Rattle.eval.proofs.RecordsLaws.{falseBy}
+use Rattle.bits_given.specs.Given.{bitsFault, wrongBits}
+use Rattle.bits_given.proofs.GivenLaws.{nameOf, fault-step, no-fault, bits-low}
+use Rattle.record_values.specs.Records.{falseOf, valuesNext}
+use Rattle.record_values.proofs.RecordsLaws.{falseBy, false-low}
 use Rattle.eval.specs.Evaluable.{Evaluable}
 
 -- ---- bits
@@ -55,91 +56,6 @@ rest-drop [] zero = refl
 rest-drop [] (suc d) = refl
 rest-drop (x ∷ l) zero = refl
 rest-drop (x ∷ l) (suc d) = rest-drop l d
-
-declare-fault : (k : ℕ) (n : Name) (w : ℕ) (cs : List Call) (l : List ℕ) (d : ℕ)
-    → bitsFault k (c.declare n w ∷ cs) (drop d l)
-    ≡ cond (bitsWrong l d w) (some k) (bitsFault (suc k) cs (drop (suc d) l))
-unfolding bitsFault
-declare-fault k n w cs l d = go (ltb d (length l)) refl (ltb (getD l d 0) (2 ^ w)) refl
-  where
-    go : (a : Bool) → ltb d (length l) ≡ a → (b : Bool) → ltb (getD l d 0) (2 ^ w) ≡ b
-        → bitsFault k (c.declare n w ∷ cs) (drop d l)
-        ≡ cond (cond a (not b) true) (some k) (bitsFault (suc k) cs (drop (suc d) l))
-    go true p true q = rw (drop-cons l d 0 (ltb-true d (length l) p), q)
-    go true p false q = rw (drop-cons l d 0 (ltb-true d (length l) p), q)
-    go false p b q = rw (drop-of-length-le l (ltb-false d (length l) p))
-
-abbrev nameOf : (ℕ → ℕ) → Name
-nameOf p = record { letter = getD o.letters (p 0) c.n; index = p 1; suffix = getD o.suffixes (p 2) c.none }
-
-fault-op : (op : Op) (m : ℕ) (p : ℕ → ℕ) (cs : List Call) (l : List ℕ) (k d : ℕ)
-    → bitsFault k (callOf op m p ∷ cs) (drop d l)
-    ≡ cond (cond (isDeclare op) (bitsWrong l d (p 3)) false) (some k)
-    (bitsFault (k + bit (makesTerm op)) cs (drop (d + bit (isDeclare op)) l))
-unfolding bitsFault
-fault-op (o.term op) m p cs l k d = rw (add-one k, add-zero d)
-fault-op o.declare m p cs l k d = rw (add-one k, add-one d) (declare-fault k (nameOf p) (p 3) cs l d)
-fault-op o.assert m p cs l k d = rw (add-zero k, add-zero d)
-fault-op o.check m p cs l k d = rw (add-zero k, add-zero d)
-fault-op o.unknown m p cs l k d = rw (add-zero k, add-zero d)
-
-module _ (w bits : List ℕ) (at terms declared : ℕ) (inside : at < length w) where
-  -- At a record, the fault of the bits is there, or what remains says it.
-  fault-step : (n : ℕ) → bitsFault terms (callsFrom (suc n) w at) (drop declared bits)
-      ≡ cond (wrongBits w bits declared at) (some terms)
-      (bitsFault (terms + bit (makesTerm (operationAt w at))) (callsFrom n w (nextAt bare w at))
-      (drop (declared + bit (isDeclare (operationAt w at))) bits))
-  fault-step n =
-      rw (calls-step n w at inside)
-      (fault-op (operationAt w at) (countAt w at) (payloads w at) (callsFrom n w (nextAt bare w at)) bits terms
-      declared)
-
-  -- The same, where as many records may be read as words are left.
-  fault-turn : bitsFault terms (callsFrom (length w - at) w at) (drop declared bits)
-      ≡ cond (wrongBits w bits declared at) (some terms)
-      (bitsFault (terms + bit (makesTerm (operationAt w at)))
-      (callsFrom (length w - nextAt bare w at) w (nextAt bare w at))
-      (drop (declared + bit (isDeclare (operationAt w at))) bits))
-  fault-turn =
-      let fuel : length w - at ≡ suc (length w - at - 1) = omega arith in
-      rw (
-        fuel,
-        ← calls-enough (length w - at - 1) (length w - nextAt bare w at) w (nextAt bare w at) (omega arith)
-            (omega arith),
-      )
-      (fault-step (length w - at - 1))
-
--- What the loop over the records keeps: the fault of the bits is what the records left say.
-pub record BitsTo (w bits : List ℕ) (done : Cursor) : Type 0 where
-  pub few-terms : done .terms ≤ done .at
-  pub few-names : done .declared ≤ done .at
-  pub left :
-      bitsFault 0 (decode w) bits
-      ≡ bitsFault (done .terms) (callsFrom (length w - done .at) w (done .at)) (drop (done .declared) bits)
-
-pub bits-start : (w bits : List ℕ) → BitsTo w bits nothingRead
-bits-start w bits = record {
-  few-terms = omega arith;
-  few-names = omega arith;
-  left = ap (λ (n : ℕ). bitsFault 0 (callsFrom n w 0) bits) (let e : length w ≡ length w - 0 = omega arith in e);
-}
-
-module _ {w bits : List ℕ} {done : Cursor} (k : BitsTo w bits done) where
-  pub bits-here : done .at < length w → wrongBits w bits (done .declared) (done .at) ≡ true
-      → bitsFault 0 (decode w) bits ≡ some (done .terms)
-  bits-here inside wrong = k .left ∙ fault-turn w bits (done .at) (done .terms) (done .declared) inside ∙ rw wrong
-
-  pub bits-next : done .at < length w → wrongBits w bits (done .declared) (done .at) ≡ false
-      → BitsTo w bits (cursorNext w done)
-  bits-next inside right = record {
-    few-terms = omega (arith, k .few-terms, bit-low (makesTerm (operationAt w (done .at))));
-    few-names = omega (arith, k .few-names, bit-low (isDeclare (operationAt w (done .at))));
-    left = k .left ∙ fault-turn w bits (done .at) (done .terms) (done .declared) inside ∙ rw right;
-  }
-
-  pub bits-end : length w ≤ done .at → bitsFault 0 (decode w) bits ≡ none
-  unfolding bitsFault
-  bits-end past = k .left ∙ rw (calls-end (length w - done .at) w (done .at) past)
 
 -- ---- numbers and counts
 
@@ -168,29 +84,6 @@ module _ {cs : List Call} {ρ : Assignment} {slice₀ slice : List ℕ} {terms f
   evaluating-op o.assert m p told e low = rw (add-zero declared, add-zero terms) (evaluating-assert (p 0) e room)
   evaluating-op o.check m p told e low = rw (add-zero declared, add-zero terms, add-zero falses) (evaluating-check e)
   evaluating-op o.unknown m p told e low = rw (add-zero declared, add-zero terms, add-zero falses) (evaluating-check e)
-
--- The bits fit where no fault of them is found.
-no-fault : (b : Bool) (k : ℕ) (later : Option ℕ) → cond b (some k) later ≡ none → (b ≡ false) × (later ≡ none)
-no-fault true k later e = let z : _≡_ {A = ℕ} 0 1 = cc in absurd (omega arith)
-no-fault false k later e = (refl, e)
-
-bits-low : (bits : List ℕ) (declared width : ℕ) → bitsWrong bits declared width ≡ false →
-    getD bits declared 0 < 2 ^ width
-bits-low bits declared width = go (ltb declared (length bits)) (ltb (getD bits declared 0) (2 ^ width)) refl
-  where
-    go : (a b : Bool) → ltb (getD bits declared 0) (2 ^ width) ≡ b → cond a (not b) true ≡ false →
-        getD bits declared 0 < 2 ^ width
-    go true true q e = ltb-true (getD bits declared 0) (2 ^ width) q
-    go true false q e = absurd (true≢false e)
-    go false b q e = absurd (true≢false e)
-
--- An operation is at most one false assertion.
-pub false-low : (op : Op) (v : ℕ) → falseOf op v ≤ 1
-false-low (o.term op) v = omega arith
-false-low o.declare v = omega arith
-false-low o.assert v = bit-low (eqb v 0)
-false-low o.check v = omega arith
-false-low o.unknown v = omega arith
 
 -- How far a well-formed list is evaluated, between two records.
 pub record EvaluatedTo (gap : ℕ) (w bits slice₀ table places slice recent : List ℕ) (done : Cursor) (falses : ℕ) : Type

@@ -20,9 +20,10 @@ use Rattle.engine.proofs.SortLaws.{Sorted, there}
 use Rattle.engine.specs.Encode.{decode}
 use Rattle.engine.specs.WellFormed.{Outcome, wellFormed, malformed, outcome}
 use Rattle.engine.proofs.ReadBack.{decode-formed}
+use Rattle.bits_given.specs.Given.{bitsFault}
 use Rattle.eval.specs.declared.Evaluation.the-variants.{Evaluated}
 use Rattle.term_values.specs.Values.{valueNumber}
-use Rattle.eval.specs.Evaluated.{assigned, falseAssertions, bitsFault, termValues, refused, onBits, withRoom}
+use Rattle.eval.specs.Evaluated.{assigned, falseAssertions, termValues, refused, onBits, withRoom}
 use Rattle.eval.specs.Evaluated.{judged, answer}
 use Rattle.eval.proofs.AssignedLaws.{rest, Gives, assigned-gives, assigned-fits}
 use Rattle.eval.proofs.RecordLaws.{values-sorted}

@@ -9,7 +9,7 @@ use Rattle.engine.specs.Encode.{decode}
 use Rattle.engine.specs.WellFormed.{wellFormed, outcome}
 use Rattle.engine.specs.Reached.{Tabled}
 use Rattle.term_places.specs.Places.{Spaced}
-use Rattle.eval.specs.Evaluated.{bitsFault}
+use Rattle.bits_given.specs.Given.{bitsFault}
 
 -- What evaluating record by record asks: a well-formed list, bits that fit, and room for its terms.
 pub record Evaluable (gap : ℕ) (w bits slice table places : List ℕ) : Type 0 where

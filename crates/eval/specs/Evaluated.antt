@@ -3,9 +3,9 @@
 use mathlib.Core.Bool.{Bool, true, false, cond, _&&_}
 use mathlib.Core.List.{List, [], _∷_, map}
 use mathlib.Core.Option.{Option, some, none}
-use Prim.Native.Nat.{ℕ, suc, _+_, _^_}
+use Prim.Native.Nat.{ℕ, _+_}
 use lib.ListN.{length}
-use lib.Dec.{eqb, leb, ltb}
+use lib.Dec.{eqb, leb}
 use Rattle.bitvec.specs.Bits.{nat2bv}
 use Rattle.engine.specs.Call.{Name, Call}
 use Rattle.engine.specs.Call as c
@@ -14,6 +14,7 @@ use Rattle.engine.specs.Encode.{letterNumber, suffixNumber, decode}
 use Rattle.engine.specs.WellFormed.{Outcome, wellFormed, malformed, outcome}
 use Rattle.engine.specs.Emit.{overwrite}
 use Rattle.term_values.specs.Values.{valueNumber}
+use Rattle.bits_given.specs.Given.{bitsFault}
 use Rattle.eval.specs.declared.Evaluation.{Evaluation}
 use Rattle.eval.specs.declared.Evaluation.the-variants.{Evaluated, Refused}
 
@@ -39,15 +40,6 @@ falseAssertions v (c.term t ∷ cs) = falseAssertions v cs
 falseAssertions v (c.declare n w ∷ cs) = falseAssertions v cs
 falseAssertions v (c.assert k ∷ cs) = cond (eqb (valueNumber (v k)) 0) 1 0 + falseAssertions v cs
 falseAssertions v (c.check ∷ cs) = falseAssertions v cs
-
--- Fault 20 of the bits: the term number of the first declaration whose bits are missing or above its width.
-unfoldable pub bitsFault : ℕ → List Call → List ℕ → Option ℕ
-bitsFault k [] given = none
-bitsFault k (c.term t ∷ cs) given = bitsFault (suc k) cs given
-bitsFault k (c.declare n w ∷ cs) [] = some k
-bitsFault k (c.declare n w ∷ cs) (b ∷ given) = cond (ltb b (2 ^ w)) (bitsFault (suc k) cs given) (some k)
-bitsFault k (c.assert a ∷ cs) given = bitsFault k cs given
-bitsFault k (c.check ∷ cs) given = bitsFault k cs given
 
 -- A refusal: a fault's number and place.
 abbrev pub refused : ℕ → ℕ → Evaluation

@@ -1,4 +1,3 @@
 pub mod Evaluated
-pub mod Records
 pub mod Evaluable
 pub mod Satisfied

@@ -1,83 +1,22 @@
 // The evaluator of a call list (faults 19 and 20), total on every list of words.
 use call_list::Cursor;
-use call_list::Operation;
 use checker::CallList;
-use checker::Wrong;
 use logic::Fault;
+use record_faults::Wrong;
 ghost use mathlib.Core.Path.{_≡_};
 ghost use mathlib.Core.List.{map};
-ghost use Prim.Native.Nat.{_+_, _<_, _≤_, _^_};
-ghost use lib.ListN.{length, set};
-ghost use lib.Dec.{ltb};
+ghost use lib.ListN.{length};
 ghost use Rattle.engine.specs.Encode.{decode};
 ghost use Rattle.engine.specs.Emit.{overwrite};
 ghost use Rattle.engine.specs.Meaning.{valueAt};
-ghost use Rattle.call_list.specs.Operations.{opFrom};
-ghost use Rattle.checker.specs.Tables.{wrongAs};
 ghost use Rattle.term_values.specs.Values.{valueNumber};
-ghost use Rattle.term_table.specs.Near.{sortNear};
-ghost use Rattle.eval.specs.Records.{wrongBits, falseOf, valuesNext};
-ghost use Rattle.eval.specs.Evaluated.{bitsFault, falseAssertions, termValues, refused, answer, written};
+ghost use Rattle.eval.specs.Evaluated.{falseAssertions, termValues, refused, answer, written};
 ghost use Rattle.eval.specs.Evaluable.{Evaluable};
 
 // What evaluating a call list answers: how many assertions are false, or the fault.
 pub enum Evaluation {
     Evaluated(usize),
     Refused(Fault),
-}
-
-// A number stored at a place; past the end nothing changes.
-fn put_number(numbers: &mut [u64], at: usize, number: u64)
-    ensures { λ _. ⌜ now (numbers .exit) ≡ set (now (numbers .entry)) at number ⌝ }
-{
-    if at < numbers.len() {
-        numbers[at] = number;
-    }
-}
-
-// How many false assertions an operation is: 1 for an assertion of a term whose number is 0.
-fn false_of(operation: Operation, value: u64) -> usize
-    ensures { λ r. ⌜ r ≡ falseOf (opFrom operation) value ⌝ }
-{
-    match operation {
-        Operation::Term(_) => 0,
-        Operation::Declare => 0,
-        Operation::Assert => checker::number(value == 0),
-        Operation::Check => 0,
-        Operation::Unknown => 0,
-    }
-}
-
-// The number of the term that a record makes goes into the slice.
-fn write_value(
-    calls: &[u32],
-    values: &mut [u64],
-    sorts: &[u8],
-    recent: &[u8],
-    places: &[u32],
-    gap: u32,
-    terms: usize,
-    given: u64,
-    at: usize,
-)
-    ensures { λ _. ⌜ now (values .exit) ≡ valuesNext
-        (sortNear (now (sorts .entry)) (now (recent .entry)) (now (places .entry)) gap (now (calls .entry)) terms)
-        (now (values .entry)) (now (calls .entry)) terms given at ⌝ }
-{
-    if call_list::makes_term(call_list::operation_at(calls, at)) {
-        let value = term_values::record_value(
-            calls,
-            values,
-            sorts,
-            recent,
-            places,
-            gap,
-            terms,
-            given,
-            at,
-        );
-        put_number(values, terms, value);
-    }
 }
 
 // A refusal with a fault's number and place.
@@ -88,51 +27,6 @@ fn refusal(number: u32, place: usize) -> Evaluation
         number: number,
         place: place,
     })
-}
-
-// Whether a number fits a width.
-fn fits_width(number: u64, width: u32) -> bool
-    ensures { λ r. ⌜ r ≡ ltb number (2 ^ width) ⌝ }
-{
-    if width < 64 {
-        number < 1 << width
-    } else {
-        true
-    }
-}
-
-// Whether the record at a place declares a name whose bits are missing or above its width.
-fn wrong_bits(calls: &[u32], bits: &[u64], declared: usize, at: usize) -> bool
-    ensures { λ r. ⌜ r ≡ wrongBits (now (calls .entry)) (now (bits .entry)) declared at ⌝ }
-{
-    if call_list::is_declare(call_list::operation_at(calls, at)) {
-        if declared < bits.len() {
-            if fits_width(bits[declared], call_list::argument_at(calls, at, 3)) {
-                return false;
-            }
-            return true;
-        }
-        return true;
-    }
-    false
-}
-
-// The term number of the first declaration whose bits are missing or above its width (fault 20).
-fn bits_fault(calls: &[u32], bits: &[u64]) -> Wrong
-    ensures { λ r. ⌜ r ≡ wrongAs (bitsFault 0 (decode (now (calls .entry))) (now (bits .entry))) ⌝ }
-{
-    let mut seen = Cursor {
-        at: 0,
-        terms: 0,
-        declared: 0,
-    };
-    while seen.at < calls.len() {
-        if wrong_bits(calls, bits, seen.declared, seen.at) {
-            return Wrong::At(seen.terms);
-        }
-        seen = call_list::next(calls, seen);
-    }
-    Wrong::None
 }
 
 // The numbers of all terms go into the slice, and how many assertions are false is counted; with tables of the sorts
@@ -166,8 +60,8 @@ fn evaluate_records(
             call_list::argument_at(calls, done.at, 0) as usize,
         );
         let given = term_values::number_at(bits, done.declared);
-        falses += false_of(operation, asserted);
-        write_value(
+        falses += record_values::false_of(operation, asserted);
+        record_values::write_value(
             calls,
             values,
             sorts,
@@ -202,7 +96,7 @@ fn evaluate_by(
 {
     match checker::check_by(calls, places, gap, sorts, recent, names) {
         CallList::Malformed(at) => refusal(19, at),
-        CallList::WellFormed { terms, declared: _ } => match bits_fault(calls, bits) {
+        CallList::WellFormed { terms, declared: _ } => match bits_given::bits_fault(calls, bits) {
             Wrong::At(k) => refusal(20, k),
             Wrong::None => {
                 let room = values.len();

@@ -9,7 +9,7 @@ use lib.ListN.{length, set}
 use Rattle.engine.specs.WellFormed.{outcome}
 use Rattle.checker.specs.declared.CallList.{CallList}
 use Rattle.checker.specs.declared.CallList.the-variants.{WellFormed, Malformed}
-use Rattle.checker.specs.Tables.{checkedAs}
+use Rattle.checker.specs.Checking.{checkedAs}
 use Rattle.eval.specs.declared.Evaluation.{Evaluation}
 use Rattle.eval.specs.declared.Evaluation.the-variants as eval
 use Rattle.eval.specs.declared.Evaluation.the-variants.{Evaluated}

@@ -9,7 +9,6 @@ use borrow.Author.Tests.{lt-ltb, le-ltb}
 use Rattle.engine.specs.Encode.{decode}
 use Rattle.engine.specs.Sorts.{Context}
 use Rattle.engine.specs.WellFormed.{Outcome, placeOf, outcome, wellFormed, malformed}
-use Rattle.checker.specs.Tables.{checkedAs}
 use Rattle.checker.specs.declared.CallList.the-variants.{WellFormed, Malformed}
 use Rattle.engine.specs.Emit.{counted, Wrote}
 use Rattle.text.proofs.Write.{overwrite-fits}
@@ -18,7 +17,7 @@ use Rattle.script.specs.declared.Written.the-variants.{Bytes}
 use Rattle.asked.specs.Marks.{badMark}
 use Rattle.engine.proofs.ReadBack.{decode-formed}
 use Rattle.name_table.specs.Named.{NamesTo}
-use Rattle.checker.specs.Checking.{CheckedBy}
+use Rattle.checker.specs.Checking.{checkedAs, CheckedBy}
 use Rattle.script.specs.Walk.{HasTables, HasNames}
 use Rattle.script.specs.Written.{scriptOf, refuse, roomFor, marked, written}
 

@@ -8,9 +8,10 @@ use Rattle.call_list.proofs.CursorsLaws.{passed-next}
 use native.Mathlib.Omega.{arith}
 use lib.ListN.{length}
 use Rattle.term_table.specs.Near.{sortNear}
-use Rattle.checker.specs.Tables.{faultBy}
+use Rattle.record_faults.specs.Faults.{faultBy}
+use Rattle.record_faults.proofs.FaultsLaws.{wrong-at, wrong-none}
 use Rattle.checker.proofs.CheckingLaws.{Checking, checking-start, checked-fault, record-wrong, record-right}
-use Rattle.checker.proofs.CheckingLaws.{checked-end, checked-wrong, wrong-at, wrong-none}
+use Rattle.checker.proofs.CheckingLaws.{checked-end, checked-wrong}
 use Rattle.checker.proofs.check_records.Statement.{statement}
 use Rattle.checker.proofs.check_records.Tie as tie
 
@@ -56,7 +57,7 @@ returns c =
     checked-wrong (checked-fault (inv .5) (c .before .if1 .taken) (c .if2 .taken))
 
 record-fault-requires : tie.Need-record-fault-requires Inv-loop μ-loop
-record-fault-requires c κs = omega arith
+record-fault-requires c κs = search needs
 
 enum-known-place : tie.Need-enum-known-place Inv-loop μ-loop
 enum-known-place c = search needs

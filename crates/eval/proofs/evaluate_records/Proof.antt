@@ -8,7 +8,8 @@ use lib.ListN.{length}
 use Rattle.call_list.specs.Operations.{opFrom}
 use Rattle.call_list.specs.declared.Cursor.{Cursor}
 use Rattle.call_list.proofs.CursorsLaws.{passed-next}
-use Rattle.eval.proofs.RecordLaws.{false-low, EvaluatedTo, evaluated-start, evaluated-next, evaluated-end}
+use Rattle.record_values.proofs.RecordsLaws.{false-low}
+use Rattle.eval.proofs.RecordLaws.{EvaluatedTo, evaluated-start, evaluated-next, evaluated-end}
 use Rattle.eval.proofs.evaluate_records.Statement.{statement}
 use Rattle.eval.proofs.evaluate_records.Tie as tie
 
