@@ -1,4 +1,4 @@
--- The parts into which the code cuts a function of the model.
+-- Document 01, "Modules", builder. The parts into which the code cuts a function of the model.
 use mathlib.Core.Bool.{false}
 use mathlib.Core.List.{[], _∷_}
 use Prim.Native.Nat.{ℕ}

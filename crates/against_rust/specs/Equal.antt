@@ -1,5 +1,6 @@
--- The model of the order of work makes the Rust's calls, call for call, and its marks, on every list of the stored
--- sample: computed by the prover, from the words of the list to the words of the calls.
+-- Document 01, "Modules", order of work. The model of the order of work makes the Rust's calls, call for call, and its
+-- marks, on every list of the stored sample: computed by the prover, from the words of the list to the words of the
+-- calls.
 use mathlib.Core.Path.{_≡_, refl}
 use mathlib.Core.List.{map}
 use lib.Ieee as digits

@@ -1,4 +1,4 @@
--- The alternates of a pattern, and the part into which the code cuts product.
+-- Document 01, "Modules", builder. The alternates of a pattern, and the part into which the code cuts product.
 use mathlib.Core.Bool.{Bool}
 use mathlib.Core.List.{List}
 use Prim.Native.Nat.{ℕ, _+_, _*_}

@@ -1,4 +1,4 @@
--- The entries of the table, slot by slot, as the tokens give them.
+-- Document 01, "Examples": the answer reader. The entries of the table, slot by slot, as the tokens give them.
 use mathlib.Core.Bool.{Bool, true, false}
 use mathlib.Core.List.{List, [], _∷_}
 use Prim.Native.Nat.{ℕ, suc}

@@ -1,4 +1,5 @@
--- What follows sat, as the code goes through it: marks one by one, then the list's parts and the end of the text.
+-- Document 01, "Examples": the answer reader. What follows sat, as the code goes through it: marks one by one, then the
+-- list's parts and the end of the text.
 use mathlib.Core.Path.{_≡_}
 use mathlib.Core.Bool.{Bool}
 use mathlib.Core.List.{List}

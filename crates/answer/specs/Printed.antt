@@ -1,4 +1,5 @@
--- What a solver prints for a table, with any y under an X, and the tables that fit recorded marks.
+-- Document 01, "Examples": the answer reader. What a solver prints for a table, with any y under an X, and the tables
+-- that fit recorded marks.
 use mathlib.Core.Path.{_≡_}
 use mathlib.Core.Bool.{Bool, true, false, cond}
 use mathlib.Core.List.{List, [], _∷_, _++_}

@@ -1,4 +1,4 @@
--- The parts into which the code cuts a function of the model.
+-- Document 01, "Modules", builder. The parts into which the code cuts a function of the model.
 use Prim.Native.Nat.{ℕ}
 use Rattle.bitvec.specs.Bits.{nat2bv}
 use Rattle.smt.specs.Prog.{Prog, _>>=_, BitVec, TritVec, buildBitvecLit, buildBvmul}

@@ -1,4 +1,4 @@
--- What prepare_shift gives, in the model.
+-- Document 01, "Modules", builder. What prepare_shift gives, in the model.
 use Rattle.smt.specs.Prog.{bv}
 use Rattle.smt.specs.Builder as model
 use Rattle.builder.specs.Ran.{trits}

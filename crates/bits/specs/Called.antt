@@ -1,4 +1,5 @@
--- The steps of bv_bind and tv_bind: calls of which one makes a term, and one more temporary.
+-- Document 01, "Modules", builder. The steps of bv_bind and tv_bind: calls of which one makes a term, and one more
+-- temporary.
 use mathlib.Core.Path.{_≡_}
 use mathlib.Core.List.{List}
 use Prim.Native.Nat.{ℕ}

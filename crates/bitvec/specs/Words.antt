@@ -1,5 +1,5 @@
--- Bit vectors of width 1 to 64 as numbers of a u64: what the functions of this crate promise. An operand x counts
--- modulo 2 ^ width, as nat2bv width x; at a width outside 1 to 64 every answer is 0, or false.
+-- SMT-LIB, QF_BV. Bit vectors of width 1 to 64 as numbers of a u64: what the functions of this crate promise. An
+-- operand x counts modulo 2 ^ width, as nat2bv width x; at a width outside 1 to 64 every answer is 0, or false.
 use mathlib.Core.Bool.{Bool, cond, _&&_}
 use Prim.Native.Nat.{ℕ, _+_}
 use lib.Dec.{leb, ltb}

@@ -1,4 +1,4 @@
--- The sum of a number of each element of a list.
+-- Document 01, "Words": bounds. The sum of a number of each element of a list.
 use mathlib.Core.List.{List, [], _∷_}
 use Prim.Native.Nat.{ℕ, _+_}
 

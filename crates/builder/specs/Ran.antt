@@ -1,6 +1,6 @@
--- What a function of the builder leaves, against what its model (smt, Builder) emits: one record for every function.
--- The code keeps the model's state as its counts and two lent tables, names and marks, and keeps no widths: a contract
--- speaks of every width.
+-- Document 01, "Modules", builder. What a function of the builder leaves, against what its model (smt, Builder) emits:
+-- one record for every function. The code keeps the model's state as its counts and two lent tables, names and marks,
+-- and keeps no widths: a contract speaks of every width.
 use mathlib.Core.Path.{_≡_}
 use mathlib.Core.List.{List}
 use Prim.Native.Nat.{ℕ, _<_, _≤_, _^_, suc, min}

@@ -1,4 +1,4 @@
--- How far a list is read, record by record.
+-- Document 01, "Words": a call record. How far a list is read, record by record.
 use mathlib.Core.List.{List}
 use Prim.Native.Nat.{ℕ, _+_}
 use Rattle.bitvec.specs.Bits.{bit}

@@ -1,4 +1,4 @@
--- The number of a literal from its 16-bit numbers.
+-- Document 01, "Words": a call record. The number of a literal from its 16-bit numbers.
 use mathlib.Core.Bool.{cond}
 use mathlib.Core.List.{List}
 use Prim.Native.Nat.{ℕ, suc, _+_, _-_, _*_, _%_, _^_, _<_, _≤_}

@@ -1,4 +1,4 @@
--- The terms of calls: the call that makes term k, and its sort.
+-- Document 01, "Words": a call record. The terms of calls: the call that makes term k, and its sort.
 use mathlib.Core.Bool.{Bool, true, false}
 use mathlib.Core.List.{List, [], _∷_}
 use Rattle.engine.specs.Call.{Call}

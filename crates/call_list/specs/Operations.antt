@@ -1,4 +1,4 @@
--- The operations of the code, as those of the calls.
+-- Document 01, "Words": a call record. The operations of the code, as those of the calls.
 use mathlib.Core.Bool.{Bool}
 use Rattle.engine.specs.WellFormed.{declares}
 use Rattle.engine.specs.Encode as o

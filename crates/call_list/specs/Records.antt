@@ -1,4 +1,4 @@
--- Records by their number: the calls of the first of them.
+-- Document 01, "Words": a call record. Records by their number: the calls of the first of them.
 use mathlib.Core.List.{List}
 use Prim.Native.Nat.{ℕ}
 use Rattle.engine.specs.Call.{Call}

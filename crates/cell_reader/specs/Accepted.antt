@@ -1,4 +1,4 @@
--- What is known of a record that was read: its numbers, its fields and its end.
+-- Document 01, "Words": a design list. What is known of a record that was read: its numbers, its fields and its end.
 use Prim.Native.Nat.{ℕ, _+_, _<_, _≤_}
 use mathlib.Core.Path.{_≡_}
 use mathlib.Core.List.{List}

@@ -1,4 +1,4 @@
--- What the check answers, and the tables that it leaves.
+-- Document 01, "Faults and what stays", 19. What the check answers, and the tables that it leaves.
 use mathlib.Core.Path.{_≡_}
 use mathlib.Core.Bool.{Bool}
 use mathlib.Core.List.{List}

@@ -1,4 +1,4 @@
--- The parts into which the code cuts a function of the model.
+-- Document 01, "Modules", builder. The parts into which the code cuts a function of the model.
 use mathlib.Core.Bool.{false}
 use Prim.Native.Nat.{ℕ}
 use Rattle.smt.specs.Prog.{Prog, ret, _>>=_, TritVec, tv, buildNot, buildBoolLit, buildBoolIte, buildBvcomp}

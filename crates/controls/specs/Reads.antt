@@ -1,4 +1,4 @@
--- How the code reads a control.
+-- Document 01, "Modules", builder. How the code reads a control.
 use Prim.Native.Nat.{ℕ}
 use lib.Dec.{eqb}
 use Rattle.logic.specs.Word.{kindOf, payloadOf}

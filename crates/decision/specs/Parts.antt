@@ -1,4 +1,4 @@
--- The part into which the code cuts matchCell.
+-- Document 01, "Modules", builder. The part into which the code cuts matchCell.
 use mathlib.Core.Bool.{Bool}
 use Prim.Native.Nat.{ℕ}
 use lib.ListN.{replicate}

@@ -1,5 +1,6 @@
--- What an answer of `verify` other than a refusal says of the two slices that the caller holds: which words and marks
--- they begin with, that these are a well-formed call list, whether anything is asked, and requirement 3.
+-- Document 01, "Modules", order of work. What an answer of `verify` other than a refusal says of the two slices that
+-- the caller holds: which words and marks they begin with, that these are a well-formed call list, whether anything is
+-- asked, and requirement 3.
 use mathlib.Core.Path.{_≡_}
 use mathlib.Core.Logic.{_↔_}
 use mathlib.Core.List.{List, []}

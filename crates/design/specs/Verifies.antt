@@ -1,5 +1,5 @@
--- What the code of the order of work is given and what it leaves: `verify` is to answer `verified`, and to leave the
--- two slices as it says.
+-- Document 01, "Modules", order of work. What the code of the order of work is given and what it leaves: `verify` is to
+-- answer `verified`, and to leave the two slices as it says.
 use mathlib.Core.Path.{_≡_}
 use mathlib.Core.List.{List}
 use Prim.Native.Nat.{ℕ, _*_, _≤_}

@@ -1,4 +1,5 @@
--- What is known of an accepted list: every stage of `read` met no fault, and the design is what the stages read.
+-- Document 01, "Words": a design list. What is known of an accepted list: every stage of `read` met no fault, and the
+-- design is what the stages read.
 use Prim.Native.Nat.{ℕ, _≤_}
 use mathlib.Core.Path.{_≡_}
 use mathlib.Core.List.{List}

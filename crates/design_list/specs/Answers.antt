@@ -1,4 +1,4 @@
--- What the reader answers, stage by stage, in plain numbers.
+-- Document 01, "Words": a design list. What the reader answers, stage by stage, in plain numbers.
 use Prim.Native.Nat.{ℕ, _+_}
 use mathlib.Core.Bool.{Bool}
 use mathlib.Core.List.{List}

@@ -1,4 +1,5 @@
--- What stands at each slot of an accepted list, as words in a lent slice (see `markWord`).
+-- Document 01, "Words": a design list. What stands at each slot of an accepted list, as words in a lent slice (see
+-- `markWord`).
 use Prim.Native.Nat.{ℕ, _+_}
 use mathlib.Core.Path.{_≡_}
 use mathlib.Core.Bool.{cond}

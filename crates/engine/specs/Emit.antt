@@ -1,4 +1,5 @@
--- Records written into a lent slice of words at a count: what each function that makes a call leaves.
+-- Document 01, "Words": a call record. Records written into a lent slice of words at a count: what each function that
+-- makes a call leaves.
 use mathlib.Core.Path.{_≡_}
 use mathlib.Core.List.{List}
 use Prim.Native.Nat.{ℕ, _+_, min}

@@ -1,4 +1,5 @@
--- What holds of a call list that was read well so far: its records, and the sorts of their terms.
+-- Document 01, "Words": a call record. What holds of a call list that was read well so far: its records, and the sorts
+-- of their terms.
 use mathlib.Core.Path.{_≡_}
 use mathlib.Core.Bool.{true}
 use mathlib.Core.List.{List}

@@ -1,6 +1,6 @@
--- The terms and names of a call list by its records alone: where the record of a term stands, what it says of the
--- term's sort, and whether a name was declared before a place. On a well-formed list these are the sorts and the names
--- of its calls.
+-- Document 01, "Words": a call record. The terms and names of a call list by its records alone: where the record of a
+-- term stands, what it says of the term's sort, and whether a name was declared before a place. On a well-formed list
+-- these are the sorts and the names of its calls.
 use mathlib.Core.Bool.{Bool, true, false, cond, _&&_}
 use mathlib.Core.List.{List}
 use Prim.Native.Nat.{ℕ, zero, suc, _+_, _-_, min}

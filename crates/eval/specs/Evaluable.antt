@@ -1,4 +1,4 @@
--- What evaluating record by record asks of a list, its bits and its tables.
+-- Document 01, "Examples": the evaluator. What evaluating record by record asks of a list, its bits and its tables.
 use mathlib.Core.Path.{_≡_}
 use mathlib.Core.List.{List}
 use mathlib.Core.Option.{none}

@@ -1,5 +1,5 @@
--- What the count says: no assertion is false exactly if the assignment of the bits satisfies the list, as requirement 3
--- speaks of it. And every assignment that satisfies a list is one of bits.
+-- Document 01, "Examples": the evaluator. What the count says: no assertion is false exactly if the assignment of the
+-- bits satisfies the list, as requirement 3 speaks of it. And every assignment that satisfies a list is one of bits.
 use mathlib.Core.List.{List, [], _∷_}
 use Prim.Native.Nat.{ℕ}
 use Rattle.bitvec.specs.Bits.{bv2nat}

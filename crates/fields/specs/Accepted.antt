@@ -1,4 +1,4 @@
--- What is known of the words that a field reader let pass.
+-- Document 01, "Words": a design list. What is known of the words that a field reader let pass.
 use Prim.Native.Nat.{ℕ, _+_, _<_, _≤_}
 use mathlib.Core.Path.{_≡_}
 use mathlib.Core.List.{List}

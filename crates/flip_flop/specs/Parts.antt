@@ -1,4 +1,4 @@
--- The part into which the code cuts dffCell.
+-- Document 01, "Modules", builder. The part into which the code cuts dffCell.
 use mathlib.Core.Bool.{Bool}
 use Prim.Native.Nat.{ℕ}
 use Rattle.cell.specs.Cell.{FlipFlop}

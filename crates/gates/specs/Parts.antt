@@ -1,4 +1,5 @@
--- The parts into which the code cuts a function of the model: each is what the model's function does from a line on.
+-- Document 01, "Modules", builder. The parts into which the code cuts a function of the model: each is what the model's
+-- function does from a line on.
 use Prim.Native.Nat.{ℕ}
 use Rattle.smt.specs.Prog.{Prog, ret, _>>=_, BitVec, TritVec, tv, buildBvnot, buildBvand, buildBvor, buildBvxor}
 use Rattle.smt.specs.Prog.{buildBitvecIte}

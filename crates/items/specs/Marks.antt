@@ -1,4 +1,4 @@
--- What stands at a slot, by the words of the slots that the reader keeps.
+-- Document 01, "Words": a design list. What stands at a slot, by the words of the slots that the reader keeps.
 use Prim.Native.Nat.{ℕ, _/_, _%_}
 use mathlib.Core.List.{List}
 use lib.ListN.{getD}

@@ -1,4 +1,4 @@
--- The line of a record: what the code writes at a place, after some calls.
+-- Document 01, "Examples": the script writer. The line of a record: what the code writes at a place, after some calls.
 use mathlib.Core.Path.{_≡_}
 use mathlib.Core.Bool.{true, cond}
 use mathlib.Core.List.{List}

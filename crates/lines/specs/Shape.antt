@@ -1,4 +1,5 @@
--- The line of a call by its operation and arguments, as the writer goes through them.
+-- Document 01, "Examples": the script writer. The line of a call by its operation and arguments, as the writer goes
+-- through them.
 use mathlib.Core.List.{List, [], _∷_, _++_}
 use Prim.Native.Nat.{ℕ, suc, _-_}
 use lib.Dec.{eqb}

@@ -1,4 +1,5 @@
--- Lists made element by element: from two lists, and from a function of the place.
+-- For every part of document 01. For every part of document 01. Lists made element by element: from two lists, and from
+-- a function of the place.
 use mathlib.Core.List.{List, [], _∷_}
 use Prim.Native.Nat.{ℕ, zero, suc}
 

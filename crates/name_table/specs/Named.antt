@@ -1,4 +1,5 @@
--- The table of names, record by record: it has the names declared so far, as far as it reaches.
+-- Document 01, "Words": a call record. The table of names, record by record: it has the names declared so far, as far
+-- as it reaches.
 use mathlib.Core.Path.{_≡_}
 use mathlib.Core.Bool.{Bool, true, false, _&&_, _||_}
 use mathlib.Core.List.{List, [], _∷_}

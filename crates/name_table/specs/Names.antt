@@ -1,4 +1,4 @@
--- The table of names: where a name stands in it, and what it answers.
+-- Document 01, "Words": a call record. The table of names: where a name stands in it, and what it answers.
 use mathlib.Core.Bool.{Bool, cond, _&&_, false}
 use mathlib.Core.List.{List}
 use Prim.Native.Nat.{ℕ, _+_, _*_, min}

@@ -1,4 +1,5 @@
--- The model's ages and halves under the code's names, and what declaring a net's name leaves.
+-- Document 01, "Modules", builder. The model's ages and halves under the code's names, and what declaring a net's name
+-- leaves.
 use mathlib.Core.Path.{_≡_}
 use mathlib.Core.List.{List}
 use Prim.Native.Nat.{ℕ}

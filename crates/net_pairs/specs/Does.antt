@@ -1,5 +1,5 @@
--- What a part of the walk leaves, against what the model's steps (order, Verify) emit: `Did` of the steps, and the
--- terms of their obligations in a lent table, one after another.
+-- Document 01, "Modules", order of work. What a part of the walk leaves, against what the model's steps (order, Verify)
+-- emit: `Did` of the steps, and the terms of their obligations in a lent table, one after another.
 use mathlib.Core.Path.{_≡_}
 use mathlib.Core.List.{List, [], _∷_}
 use Prim.Native.Nat.{ℕ, _+_, _≤_, _<_}

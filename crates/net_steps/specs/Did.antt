@@ -1,5 +1,5 @@
--- What a function of the order of work leaves, against what the model's steps (order, Verify) emit: `Ran` for a list of
--- steps, with the terms of their obligations as the result.
+-- Document 01, "Modules", order of work. What a function of the order of work leaves, against what the model's steps
+-- (order, Verify) emit: `Ran` for a list of steps, with the terms of their obligations as the result.
 use mathlib.Core.Path.{_≡_}
 use mathlib.Core.List.{List, [], _∷_}
 use Prim.Native.Nat.{ℕ, _+_, _<_, _^_}

@@ -1,4 +1,4 @@
--- How the code reads a net: which of its trits, by the slot table.
+-- Document 01, "Modules", builder. How the code reads a net: which of its trits, by the slot table.
 use mathlib.Core.Bool.{Bool, cond}
 use mathlib.Core.List.{List}
 use Prim.Native.Nat.{ℕ, _%_}

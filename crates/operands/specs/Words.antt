@@ -1,5 +1,5 @@
--- The words of a cell's operands as `SmtBuilder::cell` prepares them: copied, extended, overwritten, and constants
--- packed.
+-- Document 01, "Modules", builder. The words of a cell's operands as `SmtBuilder::cell` prepares them: copied,
+-- extended, overwritten, and constants packed.
 use mathlib.Core.Bool.{Bool, cond}
 use mathlib.Core.List.{List, _++_, map}
 use mathlib.Core.Path.{_≡_}

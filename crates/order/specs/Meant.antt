@@ -1,5 +1,5 @@
--- What the steps of the order of work mean: each with its test, what its term says of the nets' bits; and what a
--- valuation that meets the calls of the steps says of the tests.
+-- Document 01, "Modules", order of work. What the steps of the order of work mean: each with its test, what its term
+-- says of the nets' bits; and what a valuation that meets the calls of the steps says of the tests.
 use mathlib.Core.Path.{_≡_}
 use mathlib.Core.Bool.{Bool, cond}
 use mathlib.Core.Option.{Option, none, some}

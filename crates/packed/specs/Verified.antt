@@ -1,5 +1,5 @@
--- The order of work's answers packed: below the fault number its place, or the number of call words with bit 47 set
--- where something is asked.
+-- Document 01, "Faults and what stays". The order of work's answers packed: below the fault number its place, or the
+-- number of call words with bit 47 set where something is asked.
 use mathlib.Core.Path.{_≡_}
 use mathlib.Core.Bool.{cond}
 use mathlib.Core.List.{List, [], _∷_, _++_}

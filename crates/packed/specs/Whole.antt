@@ -1,4 +1,5 @@
--- What can be taken back out of a packed answer: the number, the value, and whether anything is asked.
+-- Document 01, "Faults and what stays". What can be taken back out of a packed answer: the number, the value, and
+-- whether anything is asked.
 use mathlib.Core.Path.{_≡_}
 use Prim.Native.Nat.{ℕ, _/_, _%_, _^_}
 use Rattle.requirement.specs.declared.Verified.{Verified}

@@ -1,5 +1,5 @@
--- The answers of checker, evaluator, writer and answer reader, packed into one word of 64 bits: bits 63 to 48 the fault
--- number (0: none), bits 47 to 0 its place or what the entry says.
+-- Document 01, "Faults and what stays". The answers of checker, evaluator, writer and answer reader, packed into one
+-- word of 64 bits: bits 63 to 48 the fault number (0: none), bits 47 to 0 its place or what the entry says.
 use mathlib.Core.Path.{_≡_}
 use mathlib.Core.Bool.{cond}
 use mathlib.Core.List.{List}

@@ -1,4 +1,5 @@
--- A word of 64 bits: bits 63 to 48 the fault number (0: none), bits 47 to 0 its place or what the entry says.
+-- Document 01, "Faults and what stays". A word of 64 bits: bits 63 to 48 the fault number (0: none), bits 47 to 0 its
+-- place or what the entry says.
 use Prim.Native.Nat.{ℕ, _+_, _*_, _%_, _^_}
 use Rattle.logic.specs.declared.Fault.{Fault}
 

@@ -1,4 +1,5 @@
--- What the writer writes of a record's arguments, with a table of the places of every `gap + 1`th term.
+-- Document 01, "Examples": the script writer. What the writer writes of a record's arguments, with a table of the
+-- places of every `gap + 1`th term.
 use mathlib.Core.Bool.{cond}
 use mathlib.Core.List.{List, [], _∷_, _++_}
 use Prim.Native.Nat.{ℕ}

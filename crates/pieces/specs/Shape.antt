@@ -1,4 +1,5 @@
--- What the writer goes by: what the line of an operation's record does, and how its term is written.
+-- Document 01, "Examples": the script writer. What the writer goes by: what the line of an operation's record does, and
+-- how its term is written.
 use Prim.Native.Nat.{ℕ}
 use lib.ListN.{getD}
 use Rattle.engine.specs.Call.{Name}

@@ -1,5 +1,5 @@
--- The cells of a list without a fault take the slots from 0 to the total, one after another; so the table of the reader
--- says what stands at each.
+-- Document 01, "Words": a design list. The cells of a list without a fault take the slots from 0 to the total, one
+-- after another; so the table of the reader says what stands at each.
 use Prim.Native.Nat.{ℕ, _<_}
 use mathlib.Core.Path.{_≡_}
 use mathlib.Core.List.{List, [], _∷_}

@@ -1,4 +1,5 @@
--- What the tables of the records before say of a record: the sorts of its words and its faults.
+-- Document 01, "Faults and what stays", 19. What the tables of the records before say of a record: the sorts of its
+-- words and its faults.
 use mathlib.Core.Bool.{Bool, false, not, cond, _&&_}
 use mathlib.Core.List.{List}
 use mathlib.Core.Option.{Option, some, none}

@@ -1,4 +1,5 @@
--- What a record adds to the numbers written and to the false assertions counted.
+-- Document 01, "Examples": the evaluator. What a record adds to the numbers written and to the false assertions
+-- counted.
 use mathlib.Core.Bool.{cond}
 use mathlib.Core.List.{List}
 use Prim.Native.Nat.{ℕ}

@@ -1,4 +1,4 @@
--- A refusal of `read` has a number of at most 13 and a place of at most 16,384.
+-- Document 01, "Faults and what stays". A refusal of `read` has a number of at most 13 and a place of at most 16,384.
 use Prim.Native.Nat.{_≤_}
 use Rattle.logic.specs.declared.Fault.{Fault}
 use Rattle.design_list.specs.Read.{Read, refused, accepted}

@@ -1,5 +1,5 @@
--- The cell replacements go along with the cells: the place of the next one's #slot, and what it is to the cell at a
--- slot.
+-- Document 01, "Modules", order of work. The cell replacements go along with the cells: the place of the next one's
+-- #slot, and what it is to the cell at a slot.
 use mathlib.Core.Bool.{Bool, false, cond}
 use mathlib.Core.Option.{Option, none, some}
 use mathlib.Core.List.{List}

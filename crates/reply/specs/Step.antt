@@ -1,5 +1,5 @@
--- What the steps of the code say of the tokens: a result with the place where reading goes on stands for the tokens
--- from there.
+-- Document 01, "Examples": the answer reader. What the steps of the code say of the tokens: a result with the place
+-- where reading goes on stands for the tokens from there.
 use mathlib.Core.Bool.{Bool, cond}
 use mathlib.Core.List.{List, []}
 use Prim.Native.Nat.{ℕ}

@@ -1,4 +1,4 @@
--- How small the counts of an accepted list are.
+-- Document 01, "Faults and what stays". How small the counts of an accepted list are.
 use Prim.Native.Nat.{_≤_}
 use Rattle.builder.specs.declared.Counts.{Counts}
 use Rattle.requirement.specs.Verified.{temporaries}

@@ -1,6 +1,6 @@
--- The recorded marks and the calls: one mark for each slot, none, n or p. Both names of a marked slot are declared (the
--- writer never gives fault 2 at a mark), and no net of a slot that is marked none is: a slot's mark is that of its last
--- read, and the declared names are those that are read.
+-- Document 01, requirement 3. The recorded marks and the calls: one mark for each slot, none, n or p. Both names of a
+-- marked slot are declared (the writer never gives fault 2 at a mark), and no net of a slot that is marked none is: a
+-- slot's mark is that of its last read, and the declared names are those that are read.
 use mathlib.Core.Path.{_≡_}
 use mathlib.Core.List.{List}
 use Prim.Native.Nat.{ℕ, _≤_, _<_}

@@ -1,4 +1,5 @@
--- Turning Xs into 0 or 1 in what a cell reads: on the slots of a list now, on every slot before.
+-- Document 01, "Cell rules, over trits". Turning Xs into 0 or 1 in what a cell reads: on the slots of a list now, on
+-- every slot before.
 use mathlib.Core.List.{List}
 use mathlib.Core.List.{List·Memᴰ}
 use Prim.Native.Nat.{ℕ}

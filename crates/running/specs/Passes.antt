@@ -1,4 +1,5 @@
--- What a pass over an accepted list leaves, from running counts: the walk's work, then check.
+-- Document 01, "Modules", order of work. What a pass over an accepted list leaves, from running counts: the walk's
+-- work, then check.
 use mathlib.Core.Path.{_≡_}
 use mathlib.Core.List.{List}
 use Prim.Native.Nat.{ℕ}

@@ -1,4 +1,5 @@
--- What the writer goes by, record by record: the tables that the check leaves of a well-formed call list.
+-- Document 01, "Examples": the script writer. What the writer goes by, record by record: the tables that the check
+-- leaves of a well-formed call list.
 use mathlib.Core.Path.{_≡_}
 use mathlib.Core.Bool.{cond}
 use mathlib.Core.List.{List}

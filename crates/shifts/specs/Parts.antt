@@ -1,4 +1,5 @@
--- The parts into which the code cuts a shift, and the operands that it finds in the fields (#n #m #stride n* m*).
+-- Document 01, "Modules", builder. The parts into which the code cuts a shift, and the operands that it finds in the
+-- fields (#n #m #stride n* m*).
 use mathlib.Core.Bool.{Bool}
 use mathlib.Core.List.{List}
 use Prim.Native.Nat.{ℕ, _+_}

@@ -1,4 +1,4 @@
--- What a net replacement is, by the words of the slot table.
+-- Document 01, "Modules", order of work. What a net replacement is, by the words of the slot table.
 use mathlib.Core.Path.{_≡_}
 use mathlib.Core.Bool.{cond, _&&_}
 use mathlib.Core.List.{List}

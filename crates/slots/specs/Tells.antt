@@ -1,5 +1,5 @@
--- What the words of the slot table say of a design: which slots read their past trit, how wide each cell is, and what
--- stands at each slot.
+-- Document 01, "Reading nets". What the words of the slot table say of a design: which slots read their past trit, how
+-- wide each cell is, and what stands at each slot.
 use mathlib.Core.Path.{_≡_}
 use mathlib.Core.List.{List}
 use Prim.Native.Nat.{ℕ, _<_, _/_, _%_}

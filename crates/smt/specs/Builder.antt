@@ -1,5 +1,6 @@
--- `SmtBuilder` of smt.rs, from bv_lit to cell: each function under its own name and in the Rust's order of evaluation
--- (arguments left to right, the fields of a struct as the Rust writes them), one line for each engine call.
+-- Document 01, "Modules", builder. `SmtBuilder` of smt.rs, from bv_lit to cell: each function under its own name and in
+-- the Rust's order of evaluation (arguments left to right, the fields of a struct as the Rust writes them), one line
+-- for each engine call.
 use mathlib.Core.Bool.{Bool, true, false, cond, not}
 use mathlib.Core.List.{List, [], _∷_, _++_, map}
 use Prim.Native.Nat.{ℕ, zero, suc, _+_, _-_, max}

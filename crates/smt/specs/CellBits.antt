@@ -1,4 +1,5 @@
--- The bits of a cell's terms, of the bits of the nets: for each operation the formula that its calls spell.
+-- Document 01, "Modules", builder. The bits of a cell's terms, of the bits of the nets: for each operation the formula
+-- that its calls spell.
 use mathlib.Core.Path.{_≡_}
 use mathlib.Core.Bool.{Bool, true, false, not, cond}
 use mathlib.Core.List.{List, [], _∷_, _++_, map}

@@ -1,4 +1,5 @@
--- What a run of the builder emits: from the builder's state its result, the state after it, and the calls in order.
+-- Document 01, "Modules", builder. What a run of the builder emits: from the builder's state its result, the state
+-- after it, and the calls in order.
 use mathlib.Core.List.{List, [], _∷_, _++_}
 use Prim.Native.Nat.{ℕ, zero, suc, _+_, _*_}
 use lib.ListN.{getD, set}

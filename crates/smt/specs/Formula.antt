@@ -1,5 +1,5 @@
--- The bits that the builder's terms have, of the bits of its nets: for each function of the builder the formula that
--- its calls spell, under QF_BV's operations.
+-- Document 01, "Modules", builder. The bits that the builder's terms have, of the bits of its nets: for each function
+-- of the builder the formula that its calls spell, under QF_BV's operations.
 use mathlib.Core.Bool.{Bool, true, false, not, cond, _&&_, _||_}
 use mathlib.Core.List.{List, [], _∷_, _++_, map}
 use Prim.Native.Nat.{ℕ, _-_}

@@ -1,6 +1,6 @@
--- A run of the builder as a value: the engine calls it makes, each with what is done with the term that it gives. The
--- functions of the trait `SmtEngine` that the builder calls stand here under their own names; those of `SmtBuilder` are
--- in Builder.
+-- Document 01, "Modules", builder. A run of the builder as a value: the engine calls it makes, each with what is done
+-- with the term that it gives. The functions of the trait `SmtEngine` that the builder calls stand here under their own
+-- names; those of `SmtBuilder` are in Builder.
 use mathlib.Core.Bool.{Bool}
 use mathlib.Core.List.{List}
 use Prim.Native.Nat.{ℕ, suc, _+_, _-_}

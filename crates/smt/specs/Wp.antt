@@ -1,5 +1,6 @@
--- What holds of the result of a run of the builder, under any valuation of the terms that meets what it emits. The
--- rule of each kind of call is a weakest precondition with no state in it, so a run's parts are judged one by one.
+-- Document 01, "Modules", builder. What holds of the result of a run of the builder, under any valuation of the terms
+-- that meets what it emits. The rule of each kind of call is a weakest precondition with no state in it, so a run's
+-- parts are judged one by one.
 use mathlib.Core.Path.{_≡_}
 use mathlib.Core.List.{List}
 use Prim.Native.Nat.{ℕ, suc}

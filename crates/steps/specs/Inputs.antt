@@ -1,4 +1,4 @@
--- Which operation makes an Input.
+-- Document 01, "Modules", builder. Which operation makes an Input.
 use mathlib.Core.Bool.{Bool, true, false}
 use Rattle.cell.specs.declared.Operation.{Operation}
 use Rattle.cell.specs.declared.Operation.the-variants as O

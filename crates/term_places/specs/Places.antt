@@ -1,5 +1,5 @@
--- The places of terms: a table has that of every `gap + 1`th term's record, from which the record of a term after it is
--- counted on.
+-- Document 01, "Words": a call record. The places of terms: a table has that of every `gap + 1`th term's record, from
+-- which the record of a term after it is counted on.
 use mathlib.Core.Path.{_≡_}
 use mathlib.Core.Bool.{cond, _&&_}
 use mathlib.Core.List.{List}

@@ -1,5 +1,5 @@
--- Terms past the table of sorts: a ring has the sorts of the latest terms, and of the others the records say where
--- their sorts come from.
+-- Document 01, "Words": a call record. Terms past the table of sorts: a ring has the sorts of the latest terms, and of
+-- the others the records say where their sorts come from.
 use mathlib.Core.Bool.{Bool, cond, _&&_}
 use mathlib.Core.List.{List}
 use Prim.Native.Nat.{ℕ, zero, suc, _-_, _%_}

@@ -1,4 +1,4 @@
--- The table of sorts, record by record: it has the sort of every term read so far.
+-- Document 01, "Words": a call record. The table of sorts, record by record: it has the sort of every term read so far.
 use mathlib.Core.Path.{_≡_}
 use mathlib.Core.List.{List}
 use Prim.Native.Nat.{ℕ, _≤_}

@@ -1,4 +1,4 @@
--- The number of the term that a record makes, from the numbers written so far.
+-- Document 01, "Examples": the evaluator. The number of the term that a record makes, from the numbers written so far.
 use mathlib.Core.Bool.{cond}
 use mathlib.Core.List.{List}
 use Prim.Native.Nat.{ℕ}

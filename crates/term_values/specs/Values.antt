@@ -1,4 +1,5 @@
--- The evaluator's numbers: the number of each term, from the numbers and the sorts of its arguments.
+-- Document 01, "Examples": the evaluator. The evaluator's numbers: the number of each term, from the numbers and the
+-- sorts of its arguments.
 use mathlib.Core.Bool.{cond}
 use mathlib.Core.List.{List, [], _∷_}
 use Prim.Native.Nat.{ℕ}

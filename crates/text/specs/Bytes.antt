@@ -1,4 +1,4 @@
--- Text as bytes: ASCII texts, and numbers in decimal digits.
+-- Document 01, "Examples": the script writer. Text as bytes: ASCII texts, and numbers in decimal digits.
 use mathlib.Core.Bool.{cond}
 use mathlib.Core.List.{List, [], _∷_, _++_}
 use Prim.Native.Nat.{ℕ, zero, suc, _+_, _/_, _%_}

@@ -1,4 +1,5 @@
--- What an accepted list is: the words of its design, with its replacements and pairs at their places.
+-- Document 01, "Words": a design list. What an accepted list is: the words of its design, with its replacements and
+-- pairs at their places.
 use mathlib.Core.Path.{_≡_}
 use mathlib.Core.List.{List}
 use Prim.Native.Nat.{ℕ, _≤_}

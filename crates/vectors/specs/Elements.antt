@@ -1,5 +1,5 @@
--- The terms of a vector's elements, of one bit or one trit each, in a table of words: the argument of bv_concat and
--- tv_concat.
+-- Document 01, "Modules", builder. The terms of a vector's elements, of one bit or one trit each, in a table of words:
+-- the argument of bv_concat and tv_concat.
 use mathlib.Core.List.{List}
 use Prim.Native.Nat.{ℕ, _+_, _*_}
 use lib.ListN.{getD}

@@ -1,4 +1,5 @@
--- Whether a slot is that of a Void of the base, by the words of the slots that the reader keeps.
+-- Document 01, "Words": a design list. Whether a slot is that of a Void of the base, by the words of the slots that the
+-- reader keeps.
 use Prim.Native.Nat.{ℕ, _%_}
 use mathlib.Core.List.{List}
 use mathlib.Core.Bool.{Bool, false, cond}

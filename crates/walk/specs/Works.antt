@@ -1,4 +1,4 @@
--- What the walk leaves: the whole order of work of a design.
+-- Document 01, "Modules", order of work. What the walk leaves: the whole order of work of a design.
 use mathlib.Core.Path.{_≡_}
 use mathlib.Core.List.{List}
 use Prim.Native.Nat.{ℕ, _+_, _*_, _≤_}

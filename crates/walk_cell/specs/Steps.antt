@@ -1,4 +1,4 @@
--- The steps of one cell with its replacement.
+-- Document 01, "Modules", order of work. The steps of one cell with its replacement.
 use mathlib.Core.Bool.{Bool, cond}
 use mathlib.Core.Option.{Option}
 use mathlib.Core.List.{List, [], _∷_}

@@ -1,5 +1,5 @@
--- The equations of a design, for values of any type: trits, or the bits of an assignment. A rule says which values a
--- cell at a slot gives its outputs, of the current values of all slots.
+-- Document 01, "Reading nets". The equations of a design, for values of any type: trits, or the bits of an assignment.
+-- A rule says which values a cell at a slot gives its outputs, of the current values of all slots.
 use mathlib.Core.Path.{_≡_}
 use mathlib.Core.Bool.{true}
 use mathlib.Core.List.{List, [], _∷_, map}

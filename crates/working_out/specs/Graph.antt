@@ -1,6 +1,6 @@
--- Nodes that read nodes: the order in which the lowest ready one is always next, and the decision whether there is a
--- loop. A node is a number below N; `done` says which have their values, and at the start also which numbers are no
--- nodes.
+-- Document 01, "Reading nets". Nodes that read nodes: the order in which the lowest ready one is always next, and the
+-- decision whether there is a loop. A node is a number below N; `done` says which have their values, and at the start
+-- also which numbers are no nodes.
 use mathlib.Core.Path.{_≡_}
 use mathlib.Core.Bool.{Bool, true, not, cond, _&&_, _||_}
 use mathlib.Core.Option.{Option}

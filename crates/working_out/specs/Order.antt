@@ -1,4 +1,4 @@
--- Finite search: the lowest number below a bound that passes a test.
+-- Document 01, "Reading nets". Finite search: the lowest number below a bound that passes a test.
 use mathlib.Core.Bool.{Bool, true, false, cond}
 use mathlib.Core.Option.{Option, none, some}
 use Prim.Native.Nat.{ℕ, zero, suc}

@@ -1,5 +1,5 @@
--- A system of equations over slots, for any type of values: a slot is a source, or belongs to a node, named by its
--- first slot. Working out fills the nodes in the order of their reads.
+-- Document 01, "Reading nets". A system of equations over slots, for any type of values: a slot is a source, or belongs
+-- to a node, named by its first slot. Working out fills the nodes in the order of their reads.
 use mathlib.Core.Bool.{Bool, false, not, cond, _&&_, _||_}
 use mathlib.Core.Option.{Option}
 use mathlib.Core.List.{List, [], _∷_}

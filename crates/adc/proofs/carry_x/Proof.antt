@@ -74,16 +74,5 @@ pub carry-x-spec : {M : Type 1} → statement M
 carry-x-spec =
     tie.close
     (tie.spec
-    Inv-loop
-    μ-loop
-    loop-holds
-    (λ c κs. search needs)
-    (λ c. omega arith)
-    (λ c κs. search needs)
-    (λ c. omega arith)
-    (λ c. omega arith)
-    loop-again
-    (λ c κs. search needs)
-    same-length
-    same-length-2
-    returns)
+    Inv-loop μ-loop loop-holds (λ c κs. search needs) (λ c. omega arith) (λ c κs. search needs) (λ c. omega arith)
+    (λ c. omega arith) loop-again (λ c κs. search needs) same-length same-length-2 returns)

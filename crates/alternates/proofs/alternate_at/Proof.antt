@@ -15,4 +15,5 @@ add-place-2 c = omega (arith, product-fits (c .args .i) (c .args .n) (omega arit
 pub alternate-at-spec : {M : Type 1} → statement M
 alternate-at-spec =
     tie.close
-    (tie.spec (λ c. search needs) mul-place add-place-2 (λ c. search needs) (λ c. omega arith) (λ c. omega arith))
+    (tie.spec
+    (λ c. search needs) mul-place add-place-2 (λ c. search needs) (λ c. omega arith) (λ c. omega arith))

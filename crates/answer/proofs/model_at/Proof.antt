@@ -6,15 +6,6 @@ use Rattle.answer.proofs.ModelLaws.{model-none, model-some, nothing-tab
 use Rattle.answer.proofs.model_at.Statement.{statement}
 use Rattle.answer.proofs.model_at.Tie as tie
 
-nothing-asked-requires : tie.Need-nothing-asked-requires
-nothing-asked-requires c κs = search needs
-
-end-at-requires : tie.Need-end-at-requires
-end-at-requires c κs = search needs
-
-enum-known-e : tie.Need-enum-known-e
-enum-known-e c = search needs
-
 enum-told : tie.Need-enum-told
 enum-told c = search needs
 
@@ -32,21 +23,6 @@ returns-2 c =
     let empty = over .before in
     let none = sym (empty .before .nothing-asked .ensures) ∙ empty .if1 .taken in
     ([], [], _, rw (model-none _ _ none, over .end-at .ensures, c .enum-told .given .1), nothing-table _ _ none)
-
-slice-aggregate-expect-word : tie.Need-slice-aggregate-expect-word
-slice-aggregate-expect-word c = search needs
-
-expect-word-requires : tie.Need-expect-word-requires
-expect-word-requires c κs = search needs
-
-enum-known-e-2 : tie.Need-enum-known-e-2
-enum-known-e-2 c = search needs
-
-enum-known-first : tie.Need-enum-known-first
-enum-known-first c = search needs
-
-pairs-at-requires : tie.Need-pairs-at-requires
-pairs-at-requires c κs = search needs
 
 returns-3 : tie.Need-returns-3
 returns-3 c =
@@ -68,16 +44,5 @@ pub model-at-spec : {M : Type 1} → statement M
 model-at-spec =
     tie.close
     (tie.spec
-    nothing-asked-requires
-    end-at-requires
-    enum-known-e
-    enum-told
-    returns
-    returns-2
-    slice-aggregate-expect-word
-    expect-word-requires
-    enum-known-e-2
-    enum-known-first
-    pairs-at-requires
-    returns-3
-    returns-4)
+    (λ c κs. search needs) (λ c κs. search needs) (λ c. search needs) enum-told returns returns-2 (λ c. search needs)
+    (λ c κs. search needs) (λ c. search needs) (λ c. search needs) (λ c κs. search needs) returns-3 returns-4)

@@ -6,33 +6,6 @@ use Rattle.answer.proofs.ModelLaws.{scanned, scanned-fault}
 use Rattle.answer.proofs.pairs_at.Statement.{statement}
 use Rattle.answer.proofs.pairs_at.Tie as tie
 
-scan-entries-requires : tie.Need-scan-entries-requires
-scan-entries-requires c κs = search needs
-
-enum-known-e : tie.Need-enum-known-e
-enum-known-e c = search needs
-
-enum-known-closing : tie.Need-enum-known-closing
-enum-known-closing c = search needs
-
-slice-aggregate-expect-word : tie.Need-slice-aggregate-expect-word
-slice-aggregate-expect-word c = search needs
-
-expect-word-requires : tie.Need-expect-word-requires
-expect-word-requires c κs = search needs
-
-enum-known-e-2 : tie.Need-enum-known-e-2
-enum-known-e-2 c = search needs
-
-enum-known-last : tie.Need-enum-known-last
-enum-known-last c = search needs
-
-end-at-requires : tie.Need-end-at-requires
-end-at-requires c κs = search needs
-
-enum-known-e-3 : tie.Need-enum-known-e-3
-enum-known-e-3 c = search needs
-
 enum-told : tie.Need-enum-told
 enum-told c = search needs
 
@@ -97,17 +70,6 @@ pub pairs-at-spec : {M : Type 1} → statement M
 pairs-at-spec =
     tie.close
     (tie.spec
-    scan-entries-requires
-    enum-known-e
-    enum-known-closing
-    slice-aggregate-expect-word
-    expect-word-requires
-    enum-known-e-2
-    enum-known-last
-    end-at-requires
-    enum-known-e-3
-    enum-told
-    returns
-    returns-2
-    returns-3
-    returns-4)
+    (λ c κs. search needs) (λ c. search needs) (λ c. search needs) (λ c. search needs) (λ c κs. search needs)
+    (λ c. search needs) (λ c. search needs) (λ c κs. search needs) (λ c. search needs) enum-told returns returns-2
+    returns-3 returns-4)

@@ -8,12 +8,6 @@ use Rattle.text.specs.Names.{asked}
 use Rattle.answer.proofs.read_answer.Statement.{statement}
 use Rattle.answer.proofs.read_answer.Tie as tie
 
-bad-mark-requires : tie.Need-bad-mark-requires
-bad-mark-requires c κs = search needs
-
-enum-known-slot : tie.Need-enum-known-slot
-enum-known-slot c = search needs
-
 enum-told : tie.Need-enum-told
 enum-told c = search needs
 
@@ -24,30 +18,6 @@ returns c =
     let start = marks .before .before .before .before in
     let fine = sym (marks .bad-mark .ensures) ∙ told .enum-told .given .1 in
     read-as _ _ (start .args .trits .now) (reply-room _ _ _ fine (c .if1 .taken)) refl
-
-verdict-of-requires : tie.Need-verdict-of-requires
-verdict-of-requires c κs = search needs
-
-enum-told-2 : tie.Need-enum-told-2
-enum-told-2 c = search needs
-
-enum-known-e : tie.Need-enum-known-e
-enum-known-e c = search needs
-
-enum-known-at : tie.Need-enum-known-at
-enum-known-at c = search needs
-
-model-at-requires : tie.Need-model-at-requires
-model-at-requires c κs = search needs
-
-enum-known-e-2 : tie.Need-enum-known-e-2
-enum-known-e-2 c = search needs
-
-enum-known-first : tie.Need-enum-known-first
-enum-known-first c = search needs
-
-write-entries-requires : tie.Need-write-entries-requires
-write-entries-requires c κs = search needs
 
 returns-2 : tie.Need-returns-2
 returns-2 c =
@@ -95,9 +65,6 @@ returns-5 c =
     let model = rw (found .e2 .given .1) at (modelled .model-at .ensures) in
     read-as _ _ (start .args .trits .now) (reply-text _ _ _ fine (roomy .if1 .left) ∙ said ∙ ap satisfied model) refl
 
-same-length : tie.Need-same-length
-same-length c = search needs
-
 returns-6 : tie.Need-returns-6
 returns-6 c =
     let written = c .before .before in
@@ -119,21 +86,6 @@ pub read-answer-spec : {M : Type 1} → statement M
 read-answer-spec =
     tie.close
     (tie.spec
-    bad-mark-requires
-    enum-known-slot
-    enum-told
-    returns
-    verdict-of-requires
-    enum-told-2
-    enum-known-e
-    enum-known-at
-    model-at-requires
-    enum-known-e-2
-    enum-known-first
-    write-entries-requires
-    returns-2
-    returns-3
-    returns-4
-    returns-5
-    same-length
-    returns-6)
+    (λ c κs. search needs) (λ c. search needs) enum-told returns (λ c κs. search needs) (λ c. search needs)
+    (λ c. search needs) (λ c. search needs) (λ c κs. search needs) (λ c. search needs) (λ c. search needs)
+    (λ c κs. search needs) returns-2 returns-3 returns-4 returns-5 (λ c. search needs) returns-6)

@@ -23,12 +23,6 @@ abbrev μ-loop : tie.MeasureT-loop
 loop-holds : tie.Need-loop-holds Inv-loop μ-loop
 loop-holds c = (refl, refl)
 
-shared-slice-read-entry-at : tie.Need-shared-slice-read-entry-at Inv-loop μ-loop
-shared-slice-read-entry-at c = search needs
-
-entry-at-requires : tie.Need-entry-at-requires Inv-loop μ-loop
-entry-at-requires c κs = search needs
-
 enum-told : tie.Need-enum-told Inv-loop μ-loop
 enum-told c = search needs
 
@@ -44,18 +38,6 @@ returns c =
     let looped = tested .before in
     let entry = rw (c .enum-told .given .1) at (entered .entry-at .ensures) in
     sym (looped .loop .inv .1 ∙ put-fault _ _ (tested .loop-test .taken) _ (looped .loop .trits) entry)
-
-enum-known-number : tie.Need-enum-known-number Inv-loop μ-loop
-enum-known-number c = search needs
-
-set-byte-requires : tie.Need-set-byte-requires Inv-loop μ-loop
-set-byte-requires c κs = search needs
-
-add-slot : tie.Need-add-slot Inv-loop μ-loop
-add-slot c = search needs
-
-loop-less : tie.Need-loop-less Inv-loop μ-loop
-loop-less c = search needs
 
 loop-again : tie.Need-loop-again Inv-loop μ-loop
 loop-again c =
@@ -80,18 +62,6 @@ pub write-entries-spec : {M : Type 1} → statement M
 write-entries-spec =
     tie.close
     (tie.spec
-    Inv-loop
-    μ-loop
-    loop-holds
-    shared-slice-read-entry-at
-    entry-at-requires
-    enum-told
-    same-length
-    returns
-    enum-known-number
-    set-byte-requires
-    add-slot
-    loop-less
-    loop-again
-    same-length-2
+    Inv-loop μ-loop loop-holds (λ c. search needs) (λ c κs. search needs) enum-told same-length returns
+    (λ c. search needs) (λ c κs. search needs) (λ c. search needs) (λ c. search needs) loop-again same-length-2
     returns-2)

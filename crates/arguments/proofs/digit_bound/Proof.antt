@@ -8,20 +8,8 @@ use Rattle.arguments.proofs.digit_bound.Tie as tie
 returns : tie.Need-returns
 returns c = bound-none (c .before .args .width) (c .before .args .j) (omega arith)
 
-cast-passed : tie.Need-cast-passed
-cast-passed c = search needs
-
-mul-passed : tie.Need-mul-passed
-mul-passed c = search needs
-
 returns-2 : tie.Need-returns-2
 returns-2 c = bound-none (c .before .before .args .width) (c .before .before .args .j) (omega arith)
-
-sub-left : tie.Need-sub-left
-sub-left c = search needs
-
-shl-result : tie.Need-shl-result
-shl-result c = search needs
 
 returns-3 : tie.Need-returns-3
 returns-3 c = let start = c .before .before .before in bound-some (start .args .width) (start .args .j) (omega arith)
@@ -32,4 +20,6 @@ returns-4 c = let start = c .before .before .before in bound-all (start .args .w
 pub digit-bound-spec : {M : Type 1} → statement M
 digit-bound-spec =
     tie.close
-    (tie.spec returns cast-passed mul-passed returns-2 sub-left shl-result returns-3 returns-4)
+    (tie.spec
+    returns (λ c. search needs) (λ c. search needs) returns-2 (λ c. search needs) (λ c. search needs) returns-3
+    returns-4)

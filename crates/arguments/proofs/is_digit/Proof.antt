@@ -4,18 +4,6 @@ use borrow.Author.Needs.{needs}
 use Rattle.arguments.proofs.is_digit.Statement.{statement}
 use Rattle.arguments.proofs.is_digit.Tie as tie
 
-kind-requires : tie.Need-kind-requires
-kind-requires c κs = search needs
-
-payload-requires : tie.Need-payload-requires
-payload-requires c κs = search needs
-
-payload-requires-2 : tie.Need-payload-requires-2
-payload-requires-2 c κs = search needs
-
-digit-bound-requires : tie.Need-digit-bound-requires
-digit-bound-requires c κs = search needs
-
 returns : tie.Need-returns
 returns c =
     let at-if1 = c .before .before .before in
@@ -35,9 +23,4 @@ pub is-digit-spec : {M : Type 1} → statement M
 is-digit-spec =
     tie.close
     (tie.spec
-    kind-requires
-    payload-requires
-    payload-requires-2
-    digit-bound-requires
-    returns
-    returns-2)
+    (λ c κs. search needs) (λ c κs. search needs) (λ c κs. search needs) (λ c κs. search needs) returns returns-2)

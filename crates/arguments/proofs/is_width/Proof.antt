@@ -4,15 +4,6 @@ use borrow.Author.Needs.{needs}
 use Rattle.arguments.proofs.is_width.Statement.{statement}
 use Rattle.arguments.proofs.is_width.Tie as tie
 
-kind-requires : tie.Need-kind-requires
-kind-requires c κs = search needs
-
-payload-requires : tie.Need-payload-requires
-payload-requires c κs = search needs
-
-is-vector-requires : tie.Need-is-vector-requires
-is-vector-requires c κs = search needs
-
 returns : tie.Need-returns
 returns c =
     let at-kind = c .before .before .before in
@@ -28,4 +19,4 @@ returns-2 c = rw (← c .before .kind .ensures, ne-eqb _ _ (c .if1 .left))
 
 pub is-width-spec : {M : Type 1} → statement M
 is-width-spec =
-    tie.close (tie.spec kind-requires payload-requires is-vector-requires returns returns-2)
+    tie.close (tie.spec (λ c κs. search needs) (λ c κs. search needs) (λ c κs. search needs) returns returns-2)

@@ -7,11 +7,8 @@ use Rattle.arguments.proofs.literal_argument.Tie as tie
 returns : tie.Need-returns
 returns c = rw (eq-eqb _ _ (c .if1 .taken))
 
-sub-t3 : tie.Need-sub-t3
-sub-t3 c = search needs
-
 returns-2 : tie.Need-returns-2
 returns-2 c = rw (ne-eqb _ _ (c .if1 .left))
 
 pub literal-argument-spec : {M : Type 1} → statement M
-literal-argument-spec = tie.close (tie.spec returns sub-t3 returns-2)
+literal-argument-spec = tie.close (tie.spec returns (λ c. search needs) returns-2)

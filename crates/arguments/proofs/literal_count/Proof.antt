@@ -4,18 +4,6 @@ use borrow.Author.Needs.{needs}
 use Rattle.arguments.proofs.literal_count.Statement.{statement}
 use Rattle.arguments.proofs.literal_count.Tie as tie
 
-is-width-requires : tie.Need-is-width-requires
-is-width-requires c κs = search needs
-
-payload-requires : tie.Need-payload-requires
-payload-requires c κs = search needs
-
-add-result : tie.Need-add-result
-add-result c = search needs
-
-add-result-2 : tie.Need-add-result-2
-add-result-2 c = search needs
-
 returns : tie.Need-returns
 returns c = rw (← c .before .before .is-width .ensures, c .before .if1 .taken, ← c .payload .ensures)
 
@@ -29,10 +17,4 @@ pub literal-count-spec : {M : Type 1} → statement M
 literal-count-spec =
     tie.close
     (tie.spec
-    is-width-requires
-    payload-requires
-    add-result
-    add-result-2
-    returns
-    returns-2
-    returns-3)
+    (λ c κs. search needs) (λ c κs. search needs) (λ c. search needs) (λ c. search needs) returns returns-2 returns-3)

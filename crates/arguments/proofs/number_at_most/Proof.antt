@@ -4,12 +4,6 @@ use borrow.Author.Needs.{needs}
 use Rattle.arguments.proofs.number_at_most.Statement.{statement}
 use Rattle.arguments.proofs.number_at_most.Tie as tie
 
-kind-requires : tie.Need-kind-requires
-kind-requires c κs = search needs
-
-payload-requires : tie.Need-payload-requires
-payload-requires c κs = search needs
-
 returns : tie.Need-returns
 returns c = rw (← c .before .before .kind .ensures, eq-eqb _ _ (c .before .if1 .taken), ← c .payload .ensures)
 
@@ -17,4 +11,4 @@ returns-2 : tie.Need-returns-2
 returns-2 c = rw (← c .before .kind .ensures, ne-eqb _ _ (c .if1 .left))
 
 pub number-at-most-spec : {M : Type 1} → statement M
-number-at-most-spec = tie.close (tie.spec kind-requires payload-requires returns returns-2)
+number-at-most-spec = tie.close (tie.spec (λ c κs. search needs) (λ c κs. search needs) returns returns-2)

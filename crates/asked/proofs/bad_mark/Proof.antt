@@ -22,12 +22,6 @@ abbrev μ-loop : tie.MeasureT-loop
 loop-holds : tie.Need-loop-holds Inv-loop μ-loop
 loop-holds c = refl
 
-shared-slice-read-mark-stands : tie.Need-shared-slice-read-mark-stands Inv-loop μ-loop
-shared-slice-read-mark-stands c = search needs
-
-mark-stands-requires : tie.Need-mark-stands-requires Inv-loop μ-loop
-mark-stands-requires c κs = search needs
-
 returns : tie.Need-returns Inv-loop μ-loop
 returns c =
     let tested = c .before in
@@ -35,12 +29,6 @@ returns c =
     let looped = turn .before in
     sym (looped .loop .inv
     ∙ by-bad _ _ _ (turn .loop-test .taken) (sym (tested .mark-stands .ensures) ∙ not-true _ (c .if1 .taken)))
-
-add-slot : tie.Need-add-slot Inv-loop μ-loop
-add-slot c = search needs
-
-loop-less : tie.Need-loop-less Inv-loop μ-loop
-loop-less c = search needs
 
 loop-again : tie.Need-loop-again Inv-loop μ-loop
 loop-again c =
@@ -57,13 +45,5 @@ pub bad-mark-spec : {M : Type 1} → statement M
 bad-mark-spec =
     tie.close
     (tie.spec
-    Inv-loop
-    μ-loop
-    loop-holds
-    shared-slice-read-mark-stands
-    mark-stands-requires
-    returns
-    add-slot
-    loop-less
-    loop-again
-    returns-2)
+    Inv-loop μ-loop loop-holds (λ c. search needs) (λ c κs. search needs) returns (λ c. search needs)
+    (λ c. search needs) loop-again returns-2)

@@ -8,12 +8,6 @@ use Rattle.asked.proofs.Marks.{declares-at, letter-low, suffix-low}
 use Rattle.asked.proofs.declares_here.Statement.{statement}
 use Rattle.asked.proofs.declares_here.Tie as tie
 
-operation-at-requires : tie.Need-operation-at-requires
-operation-at-requires c κs = search needs
-
-is-declare-requires : tie.Need-is-declare-requires
-is-declare-requires c κs = search needs
-
 returns : tie.Need-returns
 returns c =
     let told = c .before in
@@ -23,12 +17,6 @@ returns c =
       declares-at (start .args .calls .now) (start .args .head),
       declares ∙ not-true _ (c .if1 .taken),
     )
-
-argument-at-requires : tie.Need-argument-at-requires
-argument-at-requires c κs = search needs
-
-low-number-requires : tie.Need-low-number-requires
-low-number-requires c κs = search needs
 
 returns-2 : tie.Need-returns-2
 returns-2 c =
@@ -45,12 +33,6 @@ returns-2 c =
       ← lettered .low-number .ensures,
       ne-eqb _ _ (c .if2 .taken),
     )
-
-argument-at-requires-2 : tie.Need-argument-at-requires-2
-argument-at-requires-2 c κs = search needs
-
-cast-if3 : tie.Need-cast-if3
-cast-if3 c = search needs
 
 returns-3 : tie.Need-returns-3
 returns-3 c =
@@ -71,12 +53,6 @@ returns-3 c =
       ← indexed .argument-at2 .ensures,
       ne-eqb _ _ (c .if3 .taken),
     )
-
-argument-at-requires-3 : tie.Need-argument-at-requires-3
-argument-at-requires-3 c κs = search needs
-
-low-number-requires-2 : tie.Need-low-number-requires-2
-low-number-requires-2 c κs = search needs
 
 returns-4 : tie.Need-returns-4
 returns-4 c =
@@ -106,15 +82,5 @@ pub declares-here-spec : {M : Type 1} → statement M
 declares-here-spec =
     tie.close
     (tie.spec
-    operation-at-requires
-    is-declare-requires
-    returns
-    argument-at-requires
-    low-number-requires
-    returns-2
-    argument-at-requires-2
-    cast-if3
-    returns-3
-    argument-at-requires-3
-    low-number-requires-2
-    returns-4)
+    (λ c κs. search needs) (λ c κs. search needs) returns (λ c κs. search needs) (λ c κs. search needs) returns-2
+    (λ c κs. search needs) (λ c. search needs) returns-3 (λ c κs. search needs) (λ c κs. search needs) returns-4)

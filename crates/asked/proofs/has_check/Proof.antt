@@ -21,18 +21,12 @@ abbrev μ-loop : tie.MeasureT-loop
 loop-holds : tie.Need-loop-holds Inv-loop μ-loop
 loop-holds c = (0, none-start _ _)
 
-checks-here-requires : tie.Need-checks-here-requires Inv-loop μ-loop
-checks-here-requires c κs = search needs
-
 returns : tie.Need-returns Inv-loop μ-loop
 returns c =
     let asked = c .before in
     let turn = asked .before in
     let check = sym (asked .checks-here .ensures) ∙ c .if1 .taken in
     sym (checked-any _ ∙ some-here (turn .before .loop .inv .1) (turn .loop-test .taken) check)
-
-next-record-requires : tie.Need-next-record-requires Inv-loop μ-loop
-next-record-requires c κs = search needs
 
 loop-less : tie.Need-loop-less Inv-loop μ-loop
 loop-less c =
@@ -62,12 +56,4 @@ pub has-check-spec : {M : Type 1} → statement M
 has-check-spec =
     tie.close
     (tie.spec
-    Inv-loop
-    μ-loop
-    loop-holds
-    checks-here-requires
-    returns
-    next-record-requires
-    loop-less
-    loop-again
-    returns-2)
+    Inv-loop μ-loop loop-holds (λ c κs. search needs) returns (λ c κs. search needs) loop-less loop-again returns-2)

@@ -21,9 +21,6 @@ abbrev μ-loop : tie.MeasureT-loop
 loop-holds : tie.Need-loop-holds Inv-loop μ-loop
 loop-holds c = (0, none-start _ _)
 
-declares-here-requires : tie.Need-declares-here-requires Inv-loop μ-loop
-declares-here-requires c κs = search needs
-
 returns : tie.Need-returns Inv-loop μ-loop
 returns c =
     let tested = c .before in
@@ -31,9 +28,6 @@ returns c =
     let looped = turn .before in
     sym (some-here (looped .loop .inv .1) (turn .loop-test .taken)
     (sym (tested .declares-here .ensures) ∙ c .if1 .taken))
-
-next-record-requires : tie.Need-next-record-requires Inv-loop μ-loop
-next-record-requires c κs = search needs
 
 loop-less : tie.Need-loop-less Inv-loop μ-loop
 loop-less c =
@@ -62,12 +56,4 @@ pub is-declared-spec : {M : Type 1} → statement M
 is-declared-spec =
     tie.close
     (tie.spec
-    Inv-loop
-    μ-loop
-    loop-holds
-    declares-here-requires
-    returns
-    next-record-requires
-    loop-less
-    loop-again
-    returns-2)
+    Inv-loop μ-loop loop-holds (λ c κs. search needs) returns (λ c κs. search needs) loop-less loop-again returns-2)

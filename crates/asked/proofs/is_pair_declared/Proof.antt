@@ -3,12 +3,6 @@ use borrow.Author.Needs.{needs}
 use Rattle.asked.proofs.is_pair_declared.Statement.{statement}
 use Rattle.asked.proofs.is_pair_declared.Tie as tie
 
-is-known-requires : tie.Need-is-known-requires
-is-known-requires c κs = search needs
-
-is-known-requires-2 : tie.Need-is-known-requires-2
-is-known-requires-2 c κs = search needs
-
 returns : tie.Need-returns
 returns c = rw (← c .before .before .is-known .ensures, c .before .if1 .taken) (c .is-known2 .ensures)
 
@@ -17,4 +11,4 @@ returns-2 c = rw (← c .before .is-known .ensures, c .if1 .left)
 
 pub is-pair-declared-spec : {M : Type 1} → statement M
 is-pair-declared-spec =
-    tie.close (tie.spec is-known-requires is-known-requires-2 returns returns-2)
+    tie.close (tie.spec (λ c κs. search needs) (λ c κs. search needs) returns returns-2)

@@ -4,14 +4,8 @@ use borrow.Author.Tests.{eq-eqb, ne-eqb}
 use Rattle.asked.proofs.mark_stands.Statement.{statement}
 use Rattle.asked.proofs.mark_stands.Tie as tie
 
-is-pair-declared-requires : tie.Need-is-pair-declared-requires
-is-pair-declared-requires c κs = search needs
-
 returns : tie.Need-returns
 returns c = rw (eq-eqb _ _ (c .before .if1 .taken)) (c .is-pair-declared .ensures)
-
-is-pair-declared-requires-2 : tie.Need-is-pair-declared-requires-2
-is-pair-declared-requires-2 c κs = search needs
 
 returns-2 : tie.Need-returns-2
 returns-2 c =
@@ -23,4 +17,5 @@ returns-3 c = rw (ne-eqb _ _ (c .before .if1 .left), ne-eqb _ _ (c .if2 .left))
 pub mark-stands-spec : {M : Type 1} → statement M
 mark-stands-spec =
     tie.close
-    (tie.spec is-pair-declared-requires returns is-pair-declared-requires-2 returns-2 returns-3)
+    (tie.spec
+    (λ c κs. search needs) returns (λ c κs. search needs) returns-2 returns-3)

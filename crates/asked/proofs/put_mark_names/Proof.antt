@@ -9,23 +9,11 @@ use Rattle.asked.proofs.Ending.{spaced-both}
 use Rattle.asked.proofs.put_mark_names.Statement.{statement}
 use Rattle.asked.proofs.put_mark_names.Tie as tie
 
-put-spaced-pair-requires : tie.Need-put-spaced-pair-requires
-put-spaced-pair-requires c κs = search needs
-
-same-length : tie.Need-same-length
-same-length c = search needs
-
 returns : tie.Need-returns
 returns c =
     let w = c .before .before in
     let t = w .before .before in
     rw (eq-eqb _ 1 (t .if1 .taken), spaced-both call.n) (w .put-spaced-pair .ensures)
-
-put-spaced-pair-requires-2 : tie.Need-put-spaced-pair-requires-2
-put-spaced-pair-requires-2 c κs = search needs
-
-same-length-2 : tie.Need-same-length-2
-same-length-2 c = search needs
 
 returns-2 : tie.Need-returns-2
 returns-2 c =
@@ -42,10 +30,4 @@ pub put-mark-names-spec : {M : Type 1} → statement M
 put-mark-names-spec =
     tie.close
     (tie.spec
-    put-spaced-pair-requires
-    same-length
-    returns
-    put-spaced-pair-requires-2
-    same-length-2
-    returns-2
-    returns-3)
+    (λ c κs. search needs) (λ c. search needs) returns (λ c κs. search needs) (λ c. search needs) returns-2 returns-3)

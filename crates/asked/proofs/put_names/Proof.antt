@@ -23,18 +23,6 @@ abbrev μ-loop : tie.MeasureT-loop
 loop-holds : tie.Need-loop-holds Inv-loop μ-loop
 loop-holds c = ([], refl, names-start _ _, wrote-none _ _ (omega arith))
 
-shared-slice-read-put-mark-names : tie.Need-shared-slice-read-put-mark-names Inv-loop μ-loop
-shared-slice-read-put-mark-names c = search needs
-
-put-mark-names-requires : tie.Need-put-mark-names-requires Inv-loop μ-loop
-put-mark-names-requires c κs = search needs
-
-add-slot : tie.Need-add-slot Inv-loop μ-loop
-add-slot c = search needs
-
-loop-less : tie.Need-loop-less Inv-loop μ-loop
-loop-less c = search needs
-
 loop-again : tie.Need-loop-again Inv-loop μ-loop
 loop-again c =
     let written = c .before .before in
@@ -60,13 +48,5 @@ pub put-names-spec : {M : Type 1} → statement M
 put-names-spec =
     tie.close
     (tie.spec
-    Inv-loop
-    μ-loop
-    loop-holds
-    shared-slice-read-put-mark-names
-    put-mark-names-requires
-    add-slot
-    loop-less
-    loop-again
-    same-length
-    returns)
+    Inv-loop μ-loop loop-holds (λ c. search needs) (λ c κs. search needs) (λ c. search needs) (λ c. search needs)
+    loop-again same-length returns)

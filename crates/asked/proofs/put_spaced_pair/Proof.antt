@@ -4,15 +4,6 @@ use Rattle.engine.proofs.EmitLaws.{wrote-then}
 use Rattle.asked.proofs.put_spaced_pair.Statement.{statement}
 use Rattle.asked.proofs.put_spaced_pair.Tie as tie
 
-put-byte-requires : tie.Need-put-byte-requires
-put-byte-requires c κs = search needs
-
-put-pair-requires : tie.Need-put-pair-requires
-put-pair-requires c κs = search needs
-
-same-length : tie.Need-same-length
-same-length c = search needs
-
 returns : tie.Need-returns
 returns c =
     let named = c .before .before in
@@ -22,4 +13,4 @@ returns c =
     wrote-then (spaced .put-byte .ensures) (named .put-pair .ensures) short
 
 pub put-spaced-pair-spec : {M : Type 1} → statement M
-put-spaced-pair-spec = tie.close (tie.spec put-byte-requires put-pair-requires same-length returns)
+put-spaced-pair-spec = tie.close (tie.spec (λ c κs. search needs) (λ c κs. search needs) (λ c. search needs) returns)

@@ -15,4 +15,5 @@ returns c =
 pub assert-eq-spec : {M : Type 1} → statement M
 assert-eq-spec =
     tie.close
-    (tie.spec (λ c κs. search needs) (λ c κs. search needs) (λ c κs. search needs) (λ c. search needs) returns)
+    (tie.spec
+    (λ c κs. search needs) (λ c κs. search needs) (λ c κs. search needs) (λ c. search needs) returns)

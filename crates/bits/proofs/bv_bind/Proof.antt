@@ -16,4 +16,5 @@ returns c =
 pub bv-bind-spec : {M : Type 1} → statement M
 bv-bind-spec =
     tie.close
-    (tie.spec (λ c κs. search needs) (λ c κs. search needs) (λ c κs. search needs) (λ c. search needs) returns)
+    (tie.spec
+    (λ c κs. search needs) (λ c κs. search needs) (λ c κs. search needs) (λ c. search needs) returns)

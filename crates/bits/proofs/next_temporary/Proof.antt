@@ -11,4 +11,5 @@ returns c =
 pub next-temporary-spec : {M : Type 1} → statement M
 next-temporary-spec =
     tie.close
-    (tie.spec (λ c κs. search needs) returns)
+    (tie.spec
+    (λ c κs. search needs) returns)

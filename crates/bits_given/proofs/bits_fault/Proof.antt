@@ -21,18 +21,12 @@ abbrev μ-loop : tie.MeasureT-loop
 loop-holds : tie.Need-loop-holds Inv-loop μ-loop
 loop-holds c = let args = c .before .before .args in bits-start (args .calls .now) (args .bits .now)
 
-wrong-bits-requires : tie.Need-wrong-bits-requires Inv-loop μ-loop
-wrong-bits-requires c κs = search needs
-
 returns : tie.Need-returns Inv-loop μ-loop
 returns c =
     let inside = c .before .before in
     let state = inside .before .before .loop in
     let wrong = sym (c .before .wrong-bits .ensures) ∙ c .if2 .taken in
     sym (ap wrongAs (bits-here (state .inv) (inside .if1 .taken) wrong))
-
-next-requires : tie.Need-next-requires Inv-loop μ-loop
-next-requires c κs = search needs
 
 loop-less : tie.Need-loop-less Inv-loop μ-loop
 loop-less c =
@@ -70,12 +64,4 @@ pub bits-fault-spec : {M : Type 1} → statement M
 bits-fault-spec =
     tie.close
     (tie.spec
-    Inv-loop
-    μ-loop
-    loop-holds
-    wrong-bits-requires
-    returns
-    next-requires
-    loop-less
-    loop-again
-    returns-2)
+    Inv-loop μ-loop loop-holds (λ c κs. search needs) returns (λ c κs. search needs) loop-less loop-again returns-2)

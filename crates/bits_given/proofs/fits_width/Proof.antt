@@ -9,9 +9,6 @@ use borrow.Author.Needs.{needs}
 use Rattle.bits_given.proofs.fits_width.Statement.{statement}
 use Rattle.bits_given.proofs.fits_width.Tie as tie
 
-shl-result : tie.Need-shl-result
-shl-result c = search needs
-
 returns : tie.Need-returns
 returns c =
     let width = c .before .args .width in
@@ -25,4 +22,4 @@ returns-2 c =
     (lt-of-lt-of-le low (pow-mono {i = 64} {j = args .width} (c .if1 .left))))
 
 pub fits-width-spec : {M : Type 1} → statement M
-fits-width-spec = tie.close (tie.spec shl-result returns returns-2)
+fits-width-spec = tie.close (tie.spec (λ c. search needs) returns returns-2)

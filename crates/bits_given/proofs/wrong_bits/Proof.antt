@@ -7,24 +7,6 @@ use borrow.Author.Needs.{needs}
 use Rattle.bits_given.proofs.wrong_bits.Statement.{statement}
 use Rattle.bits_given.proofs.wrong_bits.Tie as tie
 
-operation-at-requires : tie.Need-operation-at-requires
-operation-at-requires c κs = search needs
-
-is-declare-requires : tie.Need-is-declare-requires
-is-declare-requires c κs = search needs
-
-mul-fits-width : tie.Need-mul-fits-width
-mul-fits-width c = search needs
-
-shared-slice-read-fits-width : tie.Need-shared-slice-read-fits-width
-shared-slice-read-fits-width c = search needs
-
-argument-at-requires : tie.Need-argument-at-requires
-argument-at-requires c κs = search needs
-
-fits-width-requires : tie.Need-fits-width-requires
-fits-width-requires c κs = search needs
-
 returns : tie.Need-returns
 returns c =
     let fit = c .before in
@@ -80,13 +62,5 @@ pub wrong-bits-spec : {M : Type 1} → statement M
 wrong-bits-spec =
     tie.close
     (tie.spec
-    operation-at-requires
-    is-declare-requires
-    mul-fits-width
-    shared-slice-read-fits-width
-    argument-at-requires
-    fits-width-requires
-    returns
-    returns-2
-    returns-3
-    returns-4)
+    (λ c κs. search needs) (λ c κs. search needs) (λ c. search needs) (λ c. search needs) (λ c κs. search needs)
+    (λ c κs. search needs) returns returns-2 returns-3 returns-4)

@@ -5,12 +5,6 @@ use Rattle.bitvec.proofs.Lemmas.{wrapped, word-bvadd}
 use Rattle.bitvec.proofs.bvadd.Statement.{statement}
 use Rattle.bitvec.proofs.bvadd.Tie as tie
 
-wrapping-add-u64-requires : tie.Need-wrapping-add-u64-requires
-wrapping-add-u64-requires c κs = search needs
-
-reduce-requires : tie.Need-reduce-requires
-reduce-requires c κs = search needs
-
 returns : tie.Need-returns
 returns c =
     let sum = c .before in
@@ -19,4 +13,4 @@ returns c =
     ∙ wrapped _ _ _ _ (sum .wrapping-add-u64 .ensures) (λ _ _. word-bvadd (a .width) (a .s) (a .t))
 
 pub bvadd-spec : {M : Type 1} → statement M
-bvadd-spec = tie.close (tie.spec wrapping-add-u64-requires reduce-requires returns)
+bvadd-spec = tie.close (tie.spec (λ c κs. search needs) (λ c κs. search needs) returns)

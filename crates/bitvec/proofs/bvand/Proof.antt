@@ -5,11 +5,8 @@ use Rattle.bitvec.proofs.Lemmas.{exact, word-bvand}
 use Rattle.bitvec.proofs.bvand.Statement.{statement}
 use Rattle.bitvec.proofs.bvand.Tie as tie
 
-reduce-requires : tie.Need-reduce-requires
-reduce-requires c κs = search needs
-
 returns : tie.Need-returns
 returns c = let a = c .before .args in c .reduce .ensures ∙ exact _ _ _ (λ _ _. word-bvand (a .width) (a .s) (a .t))
 
 pub bvand-spec : {M : Type 1} → statement M
-bvand-spec = tie.close (tie.spec reduce-requires returns)
+bvand-spec = tie.close (tie.spec (λ c κs. search needs) returns)

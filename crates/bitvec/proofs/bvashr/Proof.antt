@@ -7,21 +7,6 @@ use Rattle.bitvec.proofs.Lemmas.{shifted-complement, word-bvashr}
 use Rattle.bitvec.proofs.bvashr.Statement.{statement}
 use Rattle.bitvec.proofs.bvashr.Tie as tie
 
-msb-requires : tie.Need-msb-requires
-msb-requires c κs = search needs
-
-bvnot-requires : tie.Need-bvnot-requires
-bvnot-requires c κs = search needs
-
-bvlshr-requires : tie.Need-bvlshr-requires
-bvlshr-requires c κs = search needs
-
-bvnot-requires-2 : tie.Need-bvnot-requires-2
-bvnot-requires-2 c κs = search needs
-
-bvlshr-requires-2 : tie.Need-bvlshr-requires-2
-bvlshr-requires-2 c κs = search needs
-
 returns : tie.Need-returns
 returns c =
     let shifted = c .before in
@@ -42,4 +27,5 @@ returns-2 c =
 
 pub bvashr-spec : {M : Type 1} → statement M
 bvashr-spec = tie.close (tie.spec
-    msb-requires bvnot-requires bvlshr-requires bvnot-requires-2 bvlshr-requires-2 returns returns-2)
+    (λ c κs. search needs) (λ c κs. search needs) (λ c κs. search needs) (λ c κs. search needs)
+    (λ c κs. search needs) returns returns-2)

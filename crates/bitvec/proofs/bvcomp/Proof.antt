@@ -6,9 +6,6 @@ use Rattle.bitvec.proofs.Lemmas.{word-bvcomp}
 use Rattle.bitvec.proofs.bvcomp.Statement.{statement}
 use Rattle.bitvec.proofs.bvcomp.Tie as tie
 
-equal-requires : tie.Need-equal-requires
-equal-requires c κs = search needs
-
 returns : tie.Need-returns
 returns c =
     let test = c .before in
@@ -22,4 +19,4 @@ returns-2 c =
     ap bit (sym (c .if1 .left) ∙ test .equal .ensures) ∙ word-bvcomp (a .width) (a .s) (a .t)
 
 pub bvcomp-spec : {M : Type 1} → statement M
-bvcomp-spec = tie.close (tie.spec equal-requires returns returns-2)
+bvcomp-spec = tie.close (tie.spec (λ c κs. search needs) returns returns-2)

@@ -5,15 +5,6 @@ use Rattle.bitvec.proofs.Lemmas.{word-bvlshr, word-bvlshr-out}
 use Rattle.bitvec.proofs.bvlshr.Statement.{statement}
 use Rattle.bitvec.proofs.bvlshr.Tie as tie
 
-reduce-requires : tie.Need-reduce-requires
-reduce-requires c κs = search needs
-
-reduce-requires-2 : tie.Need-reduce-requires-2
-reduce-requires-2 c κs = search needs
-
-shr-result : tie.Need-shr-result
-shr-result c = search needs
-
 returns : tie.Need-returns
 returns c =
     let amount = c .before .before in
@@ -27,4 +18,4 @@ returns-2 c =
     word-bvlshr-out (a .width) (a .s) (a .t) (rw (amount .reduce .ensures) at (c .if1 .left))
 
 pub bvlshr-spec : {M : Type 1} → statement M
-bvlshr-spec = tie.close (tie.spec reduce-requires reduce-requires-2 shr-result returns returns-2)
+bvlshr-spec = tie.close (tie.spec (λ c κs. search needs) (λ c κs. search needs) (λ c. search needs) returns returns-2)

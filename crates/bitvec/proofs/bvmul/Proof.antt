@@ -5,12 +5,6 @@ use Rattle.bitvec.proofs.Lemmas.{wrapped, word-bvmul}
 use Rattle.bitvec.proofs.bvmul.Statement.{statement}
 use Rattle.bitvec.proofs.bvmul.Tie as tie
 
-wrapping-mul-requires : tie.Need-wrapping-mul-requires
-wrapping-mul-requires c κs = search needs
-
-reduce-requires : tie.Need-reduce-requires
-reduce-requires c κs = search needs
-
 returns : tie.Need-returns
 returns c =
     let product = c .before in
@@ -19,4 +13,4 @@ returns c =
     ∙ wrapped _ _ _ _ (product .wrapping-mul .ensures) (λ _ _. word-bvmul (a .width) (a .s) (a .t))
 
 pub bvmul-spec : {M : Type 1} → statement M
-bvmul-spec = tie.close (tie.spec wrapping-mul-requires reduce-requires returns)
+bvmul-spec = tie.close (tie.spec (λ c κs. search needs) (λ c κs. search needs) returns)

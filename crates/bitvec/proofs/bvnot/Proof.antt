@@ -6,13 +6,10 @@ use Rattle.bitvec.proofs.Lemmas.{exact, word-bvnot}
 use Rattle.bitvec.proofs.bvnot.Statement.{statement}
 use Rattle.bitvec.proofs.bvnot.Tie as tie
 
-reduce-requires : tie.Need-reduce-requires
-reduce-requires c κs = search needs
-
 returns : tie.Need-returns
 returns c =
     let a = c .before .args in
     c .reduce .ensures ∙ exact _ _ _ (λ _ small. word-bvnot (a .width) (a .s) small (omega arith))
 
 pub bvnot-spec : {M : Type 1} → statement M
-bvnot-spec = tie.close (tie.spec reduce-requires returns)
+bvnot-spec = tie.close (tie.spec (λ c κs. search needs) returns)

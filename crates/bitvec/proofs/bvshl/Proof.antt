@@ -6,15 +6,6 @@ use Rattle.bitvec.proofs.Lemmas.{word-bvshl, word-bvshl-out}
 use Rattle.bitvec.proofs.bvshl.Statement.{statement}
 use Rattle.bitvec.proofs.bvshl.Tie as tie
 
-reduce-requires : tie.Need-reduce-requires
-reduce-requires c κs = search needs
-
-shl-reduce : tie.Need-shl-reduce
-shl-reduce c = search needs
-
-reduce-requires-2 : tie.Need-reduce-requires-2
-reduce-requires-2 c κs = search needs
-
 returns : tie.Need-returns
 returns c =
     let amount = c .before .before in
@@ -28,4 +19,4 @@ returns-2 c =
     word-bvshl-out (a .width) (a .s) (a .t) (rw (amount .reduce .ensures) at (c .if1 .left))
 
 pub bvshl-spec : {M : Type 1} → statement M
-bvshl-spec = tie.close (tie.spec reduce-requires shl-reduce reduce-requires-2 returns returns-2)
+bvshl-spec = tie.close (tie.spec (λ c κs. search needs) (λ c. search needs) (λ c κs. search needs) returns returns-2)

@@ -7,15 +7,6 @@ use Rattle.bitvec.proofs.Lemmas.{word-bvslt}
 use Rattle.bitvec.proofs.bvslt.Statement.{statement}
 use Rattle.bitvec.proofs.bvslt.Tie as tie
 
-msb-requires : tie.Need-msb-requires
-msb-requires c κs = search needs
-
-msb-requires-2 : tie.Need-msb-requires-2
-msb-requires-2 c κs = search needs
-
-bvult-requires : tie.Need-bvult-requires
-bvult-requires c κs = search needs
-
 returns : tie.Need-returns
 returns c =
     let test = c .before in
@@ -33,4 +24,4 @@ returns-2 c =
     sign ∙ word-bvslt (a .width) (a .s) (a .t) _ _ false sign (signs .msb2 .ensures) (c .if1 .left)
 
 pub bvslt-spec : {M : Type 1} → statement M
-bvslt-spec = tie.close (tie.spec msb-requires msb-requires-2 bvult-requires returns returns-2)
+bvslt-spec = tie.close (tie.spec (λ c κs. search needs) (λ c κs. search needs) (λ c κs. search needs) returns returns-2)

@@ -4,16 +4,10 @@ use Rattle.bitvec.proofs.Lemmas.{word-bvult}
 use Rattle.bitvec.proofs.bvult.Statement.{statement}
 use Rattle.bitvec.proofs.bvult.Tie as tie
 
-reduce-requires : tie.Need-reduce-requires
-reduce-requires c κs = search needs
-
-reduce-requires-2 : tie.Need-reduce-requires-2
-reduce-requires-2 c κs = search needs
-
 returns : tie.Need-returns
 returns c =
     let a = c .before .before .args in
     rw (c .before .reduce .ensures, c .reduce2 .ensures) (word-bvult (a .width) (a .s) (a .t))
 
 pub bvult-spec : {M : Type 1} → statement M
-bvult-spec = tie.close (tie.spec reduce-requires reduce-requires-2 returns)
+bvult-spec = tie.close (tie.spec (λ c κs. search needs) (λ c κs. search needs) returns)

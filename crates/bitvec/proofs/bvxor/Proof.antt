@@ -5,11 +5,8 @@ use Rattle.bitvec.proofs.Lemmas.{exact, word-bvxor}
 use Rattle.bitvec.proofs.bvxor.Statement.{statement}
 use Rattle.bitvec.proofs.bvxor.Tie as tie
 
-reduce-requires : tie.Need-reduce-requires
-reduce-requires c κs = search needs
-
 returns : tie.Need-returns
 returns c = let a = c .before .args in c .reduce .ensures ∙ exact _ _ _ (λ _ _. word-bvxor (a .width) (a .s) (a .t))
 
 pub bvxor-spec : {M : Type 1} → statement M
-bvxor-spec = tie.close (tie.spec reduce-requires returns)
+bvxor-spec = tie.close (tie.spec (λ c κs. search needs) returns)

@@ -15,23 +15,11 @@ returns-2 : tie.Need-returns-2
 unfolding concatAt
 returns-2 c = rw (le-leb _ _ (c .before .if1 .left), lt-leb _ _ (c .if2 .taken))
 
-add-if3 : tie.Need-add-if3
-add-if3 c = search needs
-
 returns-3 : tie.Need-returns-3
 unfolding concatAt
 returns-3 c =
     let second = c .before in
     rw (le-leb _ _ (second .before .if1 .left), le-leb _ _ (second .if2 .left), lt-leb _ _ (c .if3 .taken))
-
-reduce-requires : tie.Need-reduce-requires
-reduce-requires c κs = search needs
-
-shl-result : tie.Need-shl-result
-shl-result c = search needs
-
-reduce-requires-2 : tie.Need-reduce-requires-2
-reduce-requires-2 c κs = search needs
 
 returns-4 : tie.Need-returns-4
 unfolding concatAt
@@ -48,4 +36,5 @@ returns-4 c =
 
 pub concat-spec : {M : Type 1} → statement M
 concat-spec = tie.close (tie.spec
-    returns returns-2 add-if3 returns-3 reduce-requires shl-result reduce-requires-2 returns-4)
+    returns returns-2 (λ c. search needs) returns-3 (λ c κs. search needs) (λ c. search needs) (λ c κs. search needs)
+    returns-4)

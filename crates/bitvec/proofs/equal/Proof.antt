@@ -12,12 +12,6 @@ returns c = sym (holds-none _ _ (too-narrow _ (c .if1 .taken)))
 returns-2 : tie.Need-returns-2
 returns-2 c = sym (holds-none _ _ (too-wide _ (c .if2 .taken)))
 
-reduce-requires : tie.Need-reduce-requires
-reduce-requires c κs = search needs
-
-reduce-requires-2 : tie.Need-reduce-requires-2
-reduce-requires-2 c κs = search needs
-
 returns-3 : tie.Need-returns-3
 returns-3 c =
     let wide = c .before .before in
@@ -27,4 +21,4 @@ returns-3 c =
     (word-equal (a .width) (a .s) (a .t) (narrow .if1 .left) (wide .if2 .left))
 
 pub equal-spec : {M : Type 1} → statement M
-equal-spec = tie.close (tie.spec returns returns-2 reduce-requires reduce-requires-2 returns-3)
+equal-spec = tie.close (tie.spec returns returns-2 (λ c κs. search needs) (λ c κs. search needs) returns-3)

@@ -26,15 +26,6 @@ returns-3 c =
     let a = c .before .before .before .args in
     rw (le-leb (a .width) 64 (omega arith), lt-ltb (a .i) (a .width) (omega arith), lt-leb (a .j) (a .i) (omega arith))
 
-add-reduce : tie.Need-add-reduce
-add-reduce c = search needs
-
-shr-reduce : tie.Need-shr-reduce
-shr-reduce c = search needs
-
-reduce-requires : tie.Need-reduce-requires
-reduce-requires c κs = search needs
-
 returns-4 : tie.Need-returns-4
 unfolding extractAt
 returns-4 c =
@@ -47,4 +38,5 @@ returns-4 c =
     (c .reduce .ensures ∙ word-extract (a .width) (a .i) (a .j) (a .s) small inside ordered)
 
 pub extract-spec : {M : Type 1} → statement M
-extract-spec = tie.close (tie.spec returns returns-2 returns-3 add-reduce shr-reduce reduce-requires returns-4)
+extract-spec = tie.close (tie.spec
+    returns returns-2 returns-3 (λ c. search needs) (λ c. search needs) (λ c κs. search needs) returns-4)

@@ -12,12 +12,6 @@ returns c = sym (holds-none _ _ (too-narrow _ (c .if1 .taken)))
 returns-2 : tie.Need-returns-2
 returns-2 c = sym (holds-none _ _ (too-wide _ (c .if2 .taken)))
 
-cast-result : tie.Need-cast-result
-cast-result c = search needs
-
-shr-result : tie.Need-shr-result
-shr-result c = search needs
-
 returns-3 : tie.Need-returns-3
 returns-3 c =
     let narrow = c .before in
@@ -25,4 +19,4 @@ returns-3 c =
     sym (holds-width _ _ (narrow .if1 .left) (c .if2 .left) ∙ word-msb (a .width) (a .s) (narrow .if1 .left))
 
 pub msb-spec : {M : Type 1} → statement M
-msb-spec = tie.close (tie.spec returns returns-2 cast-result shr-result returns-3)
+msb-spec = tie.close (tie.spec returns returns-2 (λ c. search needs) (λ c. search needs) returns-3)

@@ -10,9 +10,6 @@ use Rattle.bitvec.proofs.Lemmas.{whole}
 use Rattle.bitvec.proofs.reduce.Statement.{statement}
 use Rattle.bitvec.proofs.reduce.Tie as tie
 
-shl-result : tie.Need-shl-result
-shl-result c = search needs
-
 rem-result : tie.Need-rem-result
 rem-result c = rw (one-shl _ (c .if1 .taken)) (pow-pos (c .before .args .width))
 
@@ -26,4 +23,4 @@ returns-3 : tie.Need-returns-3
 returns-3 c = sym (at-none _ _ (too-wide _ (omega arith)))
 
 pub reduce-spec : {M : Type 1} → statement M
-reduce-spec = tie.close (tie.spec shl-result rem-result returns returns-2 returns-3)
+reduce-spec = tie.close (tie.spec (λ c. search needs) rem-result returns returns-2 returns-3)

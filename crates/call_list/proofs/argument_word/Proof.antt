@@ -7,12 +7,6 @@ use Rattle.call_list.proofs.RecordsLaws.{word-counted}
 use Rattle.call_list.proofs.argument_word.Statement.{statement}
 use Rattle.call_list.proofs.argument_word.Tie as tie
 
-argument-place-requires : tie.Need-argument-place-requires
-argument-place-requires c κs = search needs
-
-word-at-requires : tie.Need-word-at-requires
-word-at-requires c κs = search needs
-
 returns : tie.Need-returns
 returns c =
     let placed = c .before in
@@ -23,4 +17,4 @@ returns c =
     (word-counted w (start .args .at + 1 + start .args .i) short)
 
 pub argument-word-spec : {M : Type 1} → statement M
-argument-word-spec = tie.close (tie.spec argument-place-requires word-at-requires returns)
+argument-word-spec = tie.close (tie.spec (λ c κs. search needs) (λ c κs. search needs) returns)

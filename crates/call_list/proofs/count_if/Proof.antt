@@ -4,9 +4,6 @@ use native.Mathlib.Omega.{arith}
 use Rattle.call_list.proofs.count_if.Statement.{statement}
 use Rattle.call_list.proofs.count_if.Tie as tie
 
-counted-sum-requires : tie.Need-counted-sum-requires
-counted-sum-requires c κs = search needs
-
 returns : tie.Need-returns
 returns c = rw (c .before .if1 .taken) (c .counted-sum .ensures)
 
@@ -14,4 +11,4 @@ returns-2 : tie.Need-returns-2
 returns-2 c = rw (c .if1 .left) (omega arith)
 
 pub count-if-spec : {M : Type 1} → statement M
-count-if-spec = tie.close (tie.spec counted-sum-requires returns returns-2)
+count-if-spec = tie.close (tie.spec (λ c κs. search needs) returns returns-2)

@@ -5,21 +5,6 @@ use native.Mathlib.Omega.{arith}
 use Rattle.call_list.proofs.digit.Statement.{statement}
 use Rattle.call_list.proofs.digit.Tie as tie
 
-add-if1 : tie.Need-add-if1
-add-if1 c = search needs
-
-count-at-requires : tie.Need-count-at-requires
-count-at-requires c κs = search needs
-
-add-argument-at : tie.Need-add-argument-at
-add-argument-at c = search needs
-
-argument-at-requires : tie.Need-argument-at-requires
-argument-at-requires c κs = search needs
-
-cast-result : tie.Need-cast-result
-cast-result c = search needs
-
 returns : tie.Need-returns
 returns c =
     let counted = c .before .before in
@@ -31,4 +16,6 @@ returns-2 c = (rw (← c .before .count-at .ensures, le-ltb _ _ (c .if1 .left)),
 pub digit-spec : {M : Type 1} → statement M
 digit-spec =
     tie.close
-    (tie.spec add-if1 count-at-requires add-argument-at argument-at-requires cast-result returns returns-2)
+    (tie.spec
+    (λ c. search needs) (λ c κs. search needs) (λ c. search needs) (λ c κs. search needs) (λ c. search needs) returns
+    returns-2)

@@ -3,14 +3,8 @@ use borrow.Author.Needs.{needs}
 use Rattle.call_list.proofs.operation_at.Statement.{statement}
 use Rattle.call_list.proofs.operation_at.Tie as tie
 
-operation-number-requires : tie.Need-operation-number-requires
-operation-number-requires c κs = search needs
-
-operation-of-requires : tie.Need-operation-of-requires
-operation-of-requires c κs = search needs
-
 returns : tie.Need-returns
 returns c = rw (← c .before .operation-number .ensures, ← c .operation-of .ensures)
 
 pub operation-at-spec : {M : Type 1} → statement M
-operation-at-spec = tie.close (tie.spec operation-number-requires operation-of-requires returns)
+operation-at-spec = tie.close (tie.spec (λ c κs. search needs) (λ c κs. search needs) returns)

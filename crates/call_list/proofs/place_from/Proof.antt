@@ -21,12 +21,6 @@ abbrev μ-loop : tie.MeasureT-loop
 loop-holds : tie.Need-loop-holds Inv-loop μ-loop
 loop-holds c = (length (c .before .args .calls .now), omega arith, refl)
 
-operation-at-requires : tie.Need-operation-at-requires Inv-loop μ-loop
-operation-at-requires c κs = search needs
-
-makes-term-requires : tie.Need-makes-term-requires Inv-loop μ-loop
-makes-term-requires c κs = search needs
-
 returns : tie.Need-returns Inv-loop μ-loop
 returns c =
     let made = c .before .before in
@@ -38,12 +32,6 @@ returns c =
     ∙ c .before .if1 .taken in
     sym (inv .2
     ∙ place-here w (state .at) (state .more) (turn .loop-test .taken) (inv .0) (omega arith) makes (c .if2 .taken))
-
-sub-more : tie.Need-sub-more Inv-loop μ-loop
-sub-more c = search needs
-
-next-record-requires : tie.Need-next-record-requires Inv-loop μ-loop
-next-record-requires c κs = search needs
 
 loop-less : tie.Need-loop-less Inv-loop μ-loop
 loop-less c = omega arith
@@ -65,9 +53,6 @@ loop-again c =
           (c .before .if2 .left)
           ∙ ap (λ (k : ℕ). termPlace (inv .0 - 1) w k (state .more - 1)) (sym next),
     )
-
-next-record-requires-2 : tie.Need-next-record-requires-2 Inv-loop μ-loop
-next-record-requires-2 c κs = search needs
 
 loop-less-2 : tie.Need-loop-less-2 Inv-loop μ-loop
 loop-less-2 c = omega arith
@@ -101,17 +86,5 @@ pub place-from-spec : {M : Type 1} → statement M
 place-from-spec =
     tie.close
     (tie.spec
-    Inv-loop
-    μ-loop
-    loop-holds
-    operation-at-requires
-    makes-term-requires
-    returns
-    sub-more
-    next-record-requires
-    loop-less
-    loop-again
-    next-record-requires-2
-    loop-less-2
-    loop-again-2
-    returns-2)
+    Inv-loop μ-loop loop-holds (λ c κs. search needs) (λ c κs. search needs) returns (λ c. search needs)
+    (λ c κs. search needs) loop-less loop-again (λ c κs. search needs) loop-less-2 loop-again-2 returns-2)

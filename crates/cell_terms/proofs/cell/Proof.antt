@@ -144,17 +144,17 @@ returns-13 c =
 pub cell-spec : {M : Type 1} → statement M
 cell-spec =
     tie.close
-    (tie.spec (λ c. search needs) (λ c κs. search needs) (λ c. search needs) (λ c κs. search needs)
-    (λ c. search needs) (λ c κs. search needs) (λ c. search needs) (λ c κs. search needs)
-    (λ c. search needs) (λ c κs. search needs) (λ c. search needs) (λ c κs. search needs)
-    (λ c. search needs) (λ c κs. search needs) (λ c. search needs) (λ c κs. search needs)
-    (λ c. search needs) (λ c κs. search needs) (λ c. search needs) (λ c κs. search needs)
-    (λ c. search needs) (λ c κs. search needs) (λ c. search needs) (λ c κs. search needs)
-    (λ c. search needs) (λ c κs. search needs) returns returns-2 (λ c. search needs) (λ c. search needs)
-    (λ c. search needs) returns-3 returns-4 (λ c. search needs) (λ c. search needs) (λ c. search needs)
-    returns-5 (λ c. search needs) (λ c. search needs) (λ c. search needs) returns-6 (λ c. search needs)
-    (λ c. search needs) (λ c. search needs) returns-7 (λ c. search needs) (λ c. search needs)
-    (λ c. search needs) returns-8 (λ c. search needs) (λ c. search needs) (λ c. search needs) returns-9
-    (λ c. search needs) (λ c. search needs) (λ c. search needs) returns-10 (λ c. search needs)
-    (λ c. search needs) (λ c. search needs) returns-11 (λ c. search needs) (λ c. search needs)
-    (λ c. search needs) returns-12 (λ c. search needs) (λ c. search needs) (λ c. search needs) returns-13)
+    (tie.spec
+    (λ c. search needs) (λ c κs. search needs) (λ c. search needs) (λ c κs. search needs) (λ c. search needs)
+    (λ c κs. search needs) (λ c. search needs) (λ c κs. search needs) (λ c. search needs) (λ c κs. search needs)
+    (λ c. search needs) (λ c κs. search needs) (λ c. search needs) (λ c κs. search needs) (λ c. search needs)
+    (λ c κs. search needs) (λ c. search needs) (λ c κs. search needs) (λ c. search needs) (λ c κs. search needs)
+    (λ c. search needs) (λ c κs. search needs) (λ c. search needs) (λ c κs. search needs) (λ c. search needs)
+    (λ c κs. search needs) returns returns-2 (λ c. search needs) (λ c. search needs) (λ c. search needs) returns-3
+    returns-4 (λ c. search needs) (λ c. search needs) (λ c. search needs) returns-5 (λ c. search needs)
+    (λ c. search needs) (λ c. search needs) returns-6 (λ c. search needs) (λ c. search needs) (λ c. search needs)
+    returns-7 (λ c. search needs) (λ c. search needs) (λ c. search needs) returns-8 (λ c. search needs)
+    (λ c. search needs) (λ c. search needs) returns-9 (λ c. search needs) (λ c. search needs) (λ c. search needs)
+    returns-10 (λ c. search needs) (λ c. search needs) (λ c. search needs) returns-11 (λ c. search needs)
+    (λ c. search needs) (λ c. search needs) returns-12 (λ c. search needs) (λ c. search needs) (λ c. search needs)
+    returns-13)

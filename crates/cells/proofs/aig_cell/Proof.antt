@@ -45,5 +45,6 @@ returns c =
 pub aig-cell-spec : {M : Type 1} → statement M
 aig-cell-spec =
     tie.close
-    (tie.spec (λ c κs. search needs) (λ c κs. search needs) (λ c κs. search needs) same-length same-length-2
-    same-length-3 returns)
+    (tie.spec
+    (λ c κs. search needs) (λ c κs. search needs) (λ c κs. search needs) same-length same-length-2 same-length-3
+    returns)

@@ -16,4 +16,5 @@ returns c =
 pub io-buf-cell-spec : {M : Type 1} → statement M
 io-buf-cell-spec =
     tie.close
-    (tie.spec (λ c κs. search needs) (λ c. search needs) (λ c. search needs) (λ c. search needs) returns)
+    (tie.spec
+    (λ c κs. search needs) (λ c. search needs) (λ c. search needs) (λ c. search needs) returns)

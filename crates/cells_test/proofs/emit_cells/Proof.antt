@@ -18,13 +18,10 @@ loop-again c =
     let at-emit = c .before .before .before .before .before .before .before .before in
     search (needs, at-emit .emit-cell .kept)
 
-same-length : tie.Need-same-length Inv-loop μ-loop
-same-length c = search needs
-
 pub emit-cells-spec : {M : Type 1} → statement M
 emit-cells-spec =
     tie.close
     (tie.spec
     Inv-loop μ-loop (λ c. (refl, refl, refl)) (λ c κs. search needs) (λ c κs. search needs) (λ c κs. search needs)
-    (λ c. search needs) (λ c. omega arith) loop-again same-length (λ c. search needs) (λ c. search needs)
+    (λ c. search needs) (λ c. omega arith) loop-again (λ c. search needs) (λ c. search needs) (λ c. search needs)
     (λ c. search needs))

@@ -56,12 +56,6 @@ returns c =
     let inv = c .before .before .before .loop .inv in
     checked-wrong (checked-fault (inv .5) (c .before .if1 .taken) (c .if2 .taken))
 
-record-fault-requires : tie.Need-record-fault-requires Inv-loop μ-loop
-record-fault-requires c κs = search needs
-
-enum-known-place : tie.Need-enum-known-place Inv-loop μ-loop
-enum-known-place c = search needs
-
 same-length-6 : tie.Need-same-length-6 Inv-loop μ-loop
 same-length-6 c =
     let asked = c .before .before .before in
@@ -130,27 +124,6 @@ returns-2 c =
 
 enum-told : tie.Need-enum-told Inv-loop μ-loop
 enum-told c = search needs
-
-note-sort-requires : tie.Need-note-sort-requires Inv-loop μ-loop
-note-sort-requires c κs = search needs
-
-note-place-requires : tie.Need-note-place-requires Inv-loop μ-loop
-note-place-requires c κs = search needs
-
-note-name-requires : tie.Need-note-name-requires Inv-loop μ-loop
-note-name-requires c κs = search needs
-
-note-top-requires : tie.Need-note-top-requires Inv-loop μ-loop
-note-top-requires c κs = search needs
-
-operation-at-requires : tie.Need-operation-at-requires Inv-loop μ-loop
-operation-at-requires c κs = search needs
-
-is-check-requires : tie.Need-is-check-requires Inv-loop μ-loop
-is-check-requires c κs = search needs
-
-next-requires : tie.Need-next-requires Inv-loop μ-loop
-next-requires c κs = search needs
 
 loop-less : tie.Need-loop-less Inv-loop μ-loop
 loop-less c =
@@ -246,36 +219,8 @@ pub check-records-spec : {M : Type 1} → statement M
 check-records-spec =
     tie.close
     (tie.spec
-    Inv-loop
-    μ-loop
-    loop-holds
-    same-length
-    same-length-2
-    same-length-3
-    same-length-4
-    same-length-5
-    returns
-    record-fault-requires
-    enum-known-place
-    same-length-6
-    same-length-7
-    same-length-8
-    same-length-9
-    same-length-10
-    returns-2
-    enum-told
-    note-sort-requires
-    note-place-requires
-    note-name-requires
-    note-top-requires
-    operation-at-requires
-    is-check-requires
-    next-requires
-    loop-less
-    loop-again
-    same-length-11
-    same-length-12
-    same-length-13
-    same-length-14
-    same-length-15
-    returns-3)
+    Inv-loop μ-loop loop-holds same-length same-length-2 same-length-3 same-length-4 same-length-5 returns
+    (λ c κs. search needs) (λ c. search needs) same-length-6 same-length-7 same-length-8 same-length-9 same-length-10
+    returns-2 enum-told (λ c κs. search needs) (λ c κs. search needs) (λ c κs. search needs) (λ c κs. search needs)
+    (λ c κs. search needs) (λ c κs. search needs) (λ c κs. search needs) loop-less loop-again same-length-11
+    same-length-12 same-length-13 same-length-14 same-length-15 returns-3)

@@ -19,4 +19,5 @@ returns c =
 pub bv-no-x-spec : {M : Type 1} → statement M
 bv-no-x-spec =
     tie.close
-    (tie.spec (λ c κs. search needs) (λ c κs. search needs) (λ c κs. search needs) (λ c. search needs) returns)
+    (tie.spec
+    (λ c κs. search needs) (λ c κs. search needs) (λ c κs. search needs) (λ c. search needs) returns)

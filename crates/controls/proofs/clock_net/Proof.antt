@@ -53,5 +53,6 @@ returns c =
 pub clock-net-spec : {M : Type 1} → statement M
 clock-net-spec =
     tie.close
-    (tie.spec (λ c κs. search needs) (λ c κs. search needs) (λ c κs. search needs) (λ c κs. search needs)
+    (tie.spec
+    (λ c κs. search needs) (λ c κs. search needs) (λ c κs. search needs) (λ c κs. search needs)
     (λ c κs. search needs) (λ c κs. search needs) same-length same-length-2 same-length-3 returns)

@@ -12,4 +12,5 @@ returns c =
 pub control-of-spec : {M : Type 1} → statement M
 control-of-spec =
     tie.close
-    (tie.spec (λ c κs. search needs) (λ c κs. search needs) returns)
+    (tie.spec
+    (λ c κs. search needs) (λ c κs. search needs) returns)

@@ -9,4 +9,5 @@ returns c = rw (c .is-always-inactive .ensures)
 pub has-clear-spec : {M : Type 1} → statement M
 has-clear-spec =
     tie.close
-    (tie.spec (λ c κs. search needs) returns)
+    (tie.spec
+    (λ c κs. search needs) returns)

@@ -20,4 +20,5 @@ returns-3 c =
 pub is-always-inactive-spec : {M : Type 1} → statement M
 is-always-inactive-spec =
     tie.close
-    (tie.spec returns returns-2 returns-3)
+    (tie.spec
+    returns returns-2 returns-3)

@@ -64,5 +64,5 @@ pub counts-spec : {M : Type 1} → statement M
 counts-spec =
     tie.close
     (tie.spec
-    (λ c. search needs) (λ c κs. search needs) (λ c. search needs) (λ c. search needs) add-slots slots-fit slots-count
-    count-read-requires (λ c κs. search needs) returns returns-2)
+    (λ c. search needs) (λ c κs. search needs) (λ c. search needs) (λ c. search needs) add-slots slots-fit
+    slots-count count-read-requires (λ c κs. search needs) returns returns-2)

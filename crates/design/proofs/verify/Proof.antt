@@ -55,6 +55,5 @@ pub verify-spec : {M : Type 1} → statement M
 verify-spec =
     tie.close
     (tie.spec
-    (λ c. search needs) (λ c κs. search needs) (λ c. search needs) (λ c. search needs) add-slots slots-fit slots-count
-    verify-read-requires returns
-    (λ c. search needs) (λ c. search needs) (λ c. search needs))
+    (λ c. search needs) (λ c κs. search needs) (λ c. search needs) (λ c. search needs) add-slots slots-fit
+    slots-count verify-read-requires returns (λ c. search needs) (λ c. search needs) (λ c. search needs))

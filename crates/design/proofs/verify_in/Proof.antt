@@ -65,6 +65,6 @@ verify-in-spec =
     tie.close
     (tie.spec
     (λ c κs. search needs) (λ c κs. search needs) (λ c. search needs) (λ c. search needs) slots-fit marks-count
-    (λ c κs. search needs) (λ c κs. search needs) again (λ c κs. search needs)
-    (λ c. search needs) (λ c. search needs) (λ c. search needs) short
-    (λ c. search needs) (λ c. search needs) (λ c. search needs) (λ c. search needs) (λ c. search needs) answers)
+    (λ c κs. search needs) (λ c κs. search needs) again (λ c κs. search needs) (λ c. search needs)
+    (λ c. search needs) (λ c. search needs) short (λ c. search needs) (λ c. search needs) (λ c. search needs)
+    (λ c. search needs) (λ c. search needs) answers)

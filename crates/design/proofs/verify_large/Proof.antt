@@ -39,5 +39,5 @@ pub verify-large-spec : {M : Type 1} → statement M
 verify-large-spec =
     tie.close
     (tie.spec
-    (λ c. search needs) names-fit names-count marks-fit marks-count (λ c. search needs) tables
-    (λ c. search needs) (λ c. search needs) (λ c. search needs))
+    (λ c. search needs) names-fit names-count marks-fit marks-count (λ c. search needs) tables (λ c. search needs)
+    (λ c. search needs) (λ c. search needs))

@@ -38,5 +38,5 @@ pub verify-small-spec : {M : Type 1} → statement M
 verify-small-spec =
     tie.close
     (tie.spec
-    (λ c. search needs) names-fit names-count marks-fit marks-count (λ c. search needs) tables
-    (λ c. search needs) (λ c. search needs) (λ c. search needs))
+    (λ c. search needs) names-fit names-count marks-fit marks-count (λ c. search needs) tables (λ c. search needs)
+    (λ c. search needs) (λ c. search needs))

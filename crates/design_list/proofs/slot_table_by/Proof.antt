@@ -62,5 +62,4 @@ slot-table-by-spec =
     tie.close
     (tie.spec
     (λ c κs. search needs) (λ c. search needs) (λ c. search needs) add-if1 add-room (λ c. search needs) returns
-    (λ c. search needs) copy-requires (λ c. search needs) returns-2 (λ c. search needs) (λ c. search needs)
-    returns-3)
+    (λ c. search needs) copy-requires (λ c. search needs) returns-2 (λ c. search needs) (λ c. search needs) returns-3)

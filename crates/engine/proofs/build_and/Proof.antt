@@ -5,21 +5,6 @@ use Rattle.engine.proofs.EmitLaws.{wrote-then, and-head}
 use Rattle.engine.proofs.build_and.Statement.{statement}
 use Rattle.engine.proofs.build_and.Tie as tie
 
-cast-head-word : tie.Need-cast-head-word
-cast-head-word c = search needs
-
-head-word-requires : tie.Need-head-word-requires
-head-word-requires c κs = search needs
-
-push-requires : tie.Need-push-requires
-push-requires c κs = search needs
-
-term-words-requires : tie.Need-term-words-requires
-term-words-requires c κs = search needs
-
-same-length : tie.Need-same-length
-same-length c = search needs
-
 returns : tie.Need-returns
 returns c =
     let arguments = c .before .before in
@@ -32,9 +17,5 @@ pub build-and-spec : {M : Type 1} → statement M
 build-and-spec =
     tie.close
     (tie.spec
-    cast-head-word
-    head-word-requires
-    push-requires
-    term-words-requires
-    same-length
+    (λ c. search needs) (λ c κs. search needs) (λ c κs. search needs) (λ c κs. search needs) (λ c. search needs)
     returns)

@@ -3,21 +3,6 @@ use borrow.Author.Needs.{needs}
 use Rattle.engine.proofs.build_bitvec_ite.Statement.{statement}
 use Rattle.engine.proofs.build_bitvec_ite.Tie as tie
 
-term-word-requires : tie.Need-term-word-requires
-term-word-requires c κs = search needs
-
-term-word-requires-2 : tie.Need-term-word-requires-2
-term-word-requires-2 c κs = search needs
-
-term-word-requires-3 : tie.Need-term-word-requires-3
-term-word-requires-3 c κs = search needs
-
-record3-requires : tie.Need-record3-requires
-record3-requires c κs = search needs
-
-same-length : tie.Need-same-length
-same-length c = search needs
-
 returns : tie.Need-returns
 returns c =
     let made = c .before .before in
@@ -29,9 +14,5 @@ pub build-bitvec-ite-spec : {M : Type 1} → statement M
 build-bitvec-ite-spec =
     tie.close
     (tie.spec
-    term-word-requires
-    term-word-requires-2
-    term-word-requires-3
-    record3-requires
-    same-length
+    (λ c κs. search needs) (λ c κs. search needs) (λ c κs. search needs) (λ c κs. search needs) (λ c. search needs)
     returns)

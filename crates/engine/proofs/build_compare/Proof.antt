@@ -3,21 +3,6 @@ use borrow.Author.Needs.{needs}
 use Rattle.engine.proofs.build_compare.Statement.{statement}
 use Rattle.engine.proofs.build_compare.Tie as tie
 
-compare-number-requires : tie.Need-compare-number-requires
-compare-number-requires c κs = search needs
-
-term-word-requires : tie.Need-term-word-requires
-term-word-requires c κs = search needs
-
-term-word-requires-2 : tie.Need-term-word-requires-2
-term-word-requires-2 c κs = search needs
-
-record2-requires : tie.Need-record2-requires
-record2-requires c κs = search needs
-
-same-length : tie.Need-same-length
-same-length c = search needs
-
 returns : tie.Need-returns
 returns c =
     let made = c .before .before in
@@ -29,9 +14,5 @@ pub build-compare-spec : {M : Type 1} → statement M
 build-compare-spec =
     tie.close
     (tie.spec
-    compare-number-requires
-    term-word-requires
-    term-word-requires-2
-    record2-requires
-    same-length
+    (λ c κs. search needs) (λ c κs. search needs) (λ c κs. search needs) (λ c κs. search needs) (λ c. search needs)
     returns)

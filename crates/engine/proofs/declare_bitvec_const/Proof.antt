@@ -5,39 +5,6 @@ use Rattle.engine.proofs.EmitLaws.{wrote-then}
 use Rattle.engine.proofs.declare_bitvec_const.Statement.{statement}
 use Rattle.engine.proofs.declare_bitvec_const.Tie as tie
 
-head-word-requires : tie.Need-head-word-requires
-head-word-requires c κs = search needs
-
-push-requires : tie.Need-push-requires
-push-requires c κs = search needs
-
-letter-number-requires : tie.Need-letter-number-requires
-letter-number-requires c κs = search needs
-
-number-word-requires : tie.Need-number-word-requires
-number-word-requires c κs = search needs
-
-number-word-requires-2 : tie.Need-number-word-requires-2
-number-word-requires-2 c κs = search needs
-
-push2-requires : tie.Need-push2-requires
-push2-requires c κs = search needs
-
-suffix-number-requires : tie.Need-suffix-number-requires
-suffix-number-requires c κs = search needs
-
-number-word-requires-3 : tie.Need-number-word-requires-3
-number-word-requires-3 c κs = search needs
-
-number-word-requires-4 : tie.Need-number-word-requires-4
-number-word-requires-4 c κs = search needs
-
-push2-requires-2 : tie.Need-push2-requires-2
-push2-requires-2 c κs = search needs
-
-same-length : tie.Need-same-length
-same-length c = search needs
-
 returns : tie.Need-returns
 returns c =
     let tail = c .before .before in
@@ -65,15 +32,6 @@ pub declare-bitvec-const-spec : {M : Type 1} → statement M
 declare-bitvec-const-spec =
     tie.close
     (tie.spec
-    head-word-requires
-    push-requires
-    letter-number-requires
-    number-word-requires
-    number-word-requires-2
-    push2-requires
-    suffix-number-requires
-    number-word-requires-3
-    number-word-requires-4
-    push2-requires-2
-    same-length
-    returns)
+    (λ c κs. search needs) (λ c κs. search needs) (λ c κs. search needs) (λ c κs. search needs)
+    (λ c κs. search needs) (λ c κs. search needs) (λ c κs. search needs) (λ c κs. search needs)
+    (λ c κs. search needs) (λ c κs. search needs) (λ c. search needs) returns)

@@ -28,12 +28,6 @@ loop-holds c = (omega arith, refl, ([], wrote-none _ _ (omega arith), refl))
 cast-number-word : tie.Need-cast-number-word Inv-loop μ-loop
 cast-number-word c = omega arith
 
-number-word-requires : tie.Need-number-word-requires Inv-loop μ-loop
-number-word-requires c κs = search needs
-
-push-requires : tie.Need-push-requires Inv-loop μ-loop
-push-requires c κs = search needs
-
 sub-left : tie.Need-sub-left Inv-loop μ-loop
 sub-left c = omega arith
 
@@ -73,14 +67,5 @@ pub digit-words-spec : {M : Type 1} → statement M
 digit-words-spec =
     tie.close
     (tie.spec
-    Inv-loop
-    μ-loop
-    loop-holds
-    cast-number-word
-    number-word-requires
-    push-requires
-    sub-left
-    loop-less
-    loop-again
-    same-length
-    returns)
+    Inv-loop μ-loop loop-holds cast-number-word (λ c κs. search needs) (λ c κs. search needs) sub-left loop-less
+    loop-again same-length returns)

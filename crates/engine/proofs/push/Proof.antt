@@ -6,22 +6,10 @@ use Rattle.engine.specs.Emit.{overwrite}
 use Rattle.engine.proofs.push.Statement.{statement}
 use Rattle.engine.proofs.push.Tie as tie
 
-put-requires : tie.Need-put-requires
-put-requires c κs = search needs
-
-add-result : tie.Need-add-result
-add-result c = search needs
-
-same-length : tie.Need-same-length
-same-length c = search needs
-
 returns : tie.Need-returns
 unfolding overwrite
 returns c =
     record { words = c .before .before .before .put .ensures; count = omega arith }
-
-same-length-2 : tie.Need-same-length-2
-same-length-2 c = search needs
 
 returns-2 : tie.Need-returns-2
 unfolding overwrite
@@ -30,4 +18,5 @@ returns-2 c =
 
 pub push-spec : {M : Type 1} → statement M
 push-spec =
-    tie.close (tie.spec put-requires add-result same-length returns same-length-2 returns-2)
+    tie.close (tie.spec
+    (λ c κs. search needs) (λ c. search needs) (λ c. search needs) returns (λ c. search needs) returns-2)

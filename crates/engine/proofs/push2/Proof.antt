@@ -5,15 +5,6 @@ use Rattle.engine.proofs.EmitLaws.{wrote-then}
 use Rattle.engine.proofs.push2.Statement.{statement}
 use Rattle.engine.proofs.push2.Tie as tie
 
-push-requires : tie.Need-push-requires
-push-requires c κs = search needs
-
-push-requires-2 : tie.Need-push-requires-2
-push-requires-2 c κs = search needs
-
-same-length : tie.Need-same-length
-same-length c = search needs
-
 returns : tie.Need-returns
 returns c =
     let second = c .before .before in
@@ -21,4 +12,4 @@ returns c =
     wrote-then (first .push .ensures) (second .push2 .ensures) (omega arith)
 
 pub push2-spec : {M : Type 1} → statement M
-push2-spec = tie.close (tie.spec push-requires push-requires-2 same-length returns)
+push2-spec = tie.close (tie.spec (λ c κs. search needs) (λ c κs. search needs) (λ c. search needs) returns)

@@ -5,18 +5,6 @@ use Rattle.engine.proofs.EmitLaws.{wrote-then}
 use Rattle.engine.proofs.record2.Statement.{statement}
 use Rattle.engine.proofs.record2.Tie as tie
 
-head-word-requires : tie.Need-head-word-requires
-head-word-requires c κs = search needs
-
-push-requires : tie.Need-push-requires
-push-requires c κs = search needs
-
-push2-requires : tie.Need-push2-requires
-push2-requires c κs = search needs
-
-same-length : tie.Need-same-length
-same-length c = search needs
-
 returns : tie.Need-returns
 returns c =
     let arguments = c .before .before in
@@ -26,4 +14,5 @@ returns c =
 
 pub record2-spec : {M : Type 1} → statement M
 record2-spec =
-    tie.close (tie.spec head-word-requires push-requires push2-requires same-length returns)
+    tie.close (tie.spec
+    (λ c κs. search needs) (λ c κs. search needs) (λ c κs. search needs) (λ c. search needs) returns)

@@ -5,18 +5,6 @@ use Rattle.engine.proofs.EmitLaws.{wrote-then}
 use Rattle.engine.proofs.record3.Statement.{statement}
 use Rattle.engine.proofs.record3.Tie as tie
 
-head-word-requires : tie.Need-head-word-requires
-head-word-requires c κs = search needs
-
-push2-requires : tie.Need-push2-requires
-push2-requires c κs = search needs
-
-push2-requires-2 : tie.Need-push2-requires-2
-push2-requires-2 c κs = search needs
-
-same-length : tie.Need-same-length
-same-length c = search needs
-
 returns : tie.Need-returns
 returns c =
     let rest = c .before .before in
@@ -25,4 +13,5 @@ returns c =
 
 pub record3-spec : {M : Type 1} → statement M
 record3-spec =
-    tie.close (tie.spec head-word-requires push2-requires push2-requires-2 same-length returns)
+    tie.close (tie.spec
+    (λ c κs. search needs) (λ c κs. search needs) (λ c κs. search needs) (λ c. search needs) returns)

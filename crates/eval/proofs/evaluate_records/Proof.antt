@@ -27,24 +27,6 @@ loop-holds c =
     let start = entry .before .before .before in
     (refl, refl, evaluated-start (start .args .recent .now) (start .pre))
 
-operation-at-requires : tie.Need-operation-at-requires Inv-loop μ-loop
-operation-at-requires c κs = search needs
-
-argument-at-requires : tie.Need-argument-at-requires Inv-loop μ-loop
-argument-at-requires c κs = search needs
-
-cast-number-at : tie.Need-cast-number-at Inv-loop μ-loop
-cast-number-at c = search needs
-
-number-at-requires : tie.Need-number-at-requires Inv-loop μ-loop
-number-at-requires c κs = search needs
-
-number-at-requires-2 : tie.Need-number-at-requires-2 Inv-loop μ-loop
-number-at-requires-2 c κs = search needs
-
-false-of-requires : tie.Need-false-of-requires Inv-loop μ-loop
-false-of-requires c κs = search needs
-
 add-falses : tie.Need-add-falses Inv-loop μ-loop
 add-falses c =
     let read = c .before .before in
@@ -62,15 +44,6 @@ add-falses c =
       false-low (opFrom (told .operation-at .result)) (read .number-at .result),
       start,
     )
-
-write-value-requires : tie.Need-write-value-requires Inv-loop μ-loop
-write-value-requires c κs = search needs
-
-note-recent-requires : tie.Need-note-recent-requires Inv-loop μ-loop
-note-recent-requires c κs = search needs
-
-next-requires : tie.Need-next-requires Inv-loop μ-loop
-next-requires c κs = search needs
 
 loop-less : tie.Need-loop-less Inv-loop μ-loop
 loop-less c =
@@ -140,21 +113,6 @@ pub evaluate-records-spec : {M : Type 1} → statement M
 evaluate-records-spec =
     tie.close
     (tie.spec
-    Inv-loop
-    μ-loop
-    loop-holds
-    operation-at-requires
-    argument-at-requires
-    cast-number-at
-    number-at-requires
-    number-at-requires-2
-    false-of-requires
-    add-falses
-    write-value-requires
-    note-recent-requires
-    next-requires
-    loop-less
-    loop-again
-    same-length
-    same-length-2
-    returns)
+    Inv-loop μ-loop loop-holds (λ c κs. search needs) (λ c κs. search needs) (λ c. search needs)
+    (λ c κs. search needs) (λ c κs. search needs) (λ c κs. search needs) add-falses (λ c κs. search needs)
+    (λ c κs. search needs) (λ c κs. search needs) loop-less loop-again same-length same-length-2 returns)

@@ -26,6 +26,6 @@ returns c =
 pub clear-value-spec : {M : Type 1} → statement M
 clear-value-spec =
     tie.close
-    (tie.spec (λ c κs. search needs) (λ c κs. search needs) (λ c. search needs) (λ c κs. search needs) (λ c κs.
-    search needs)
+    (tie.spec
+    (λ c κs. search needs) (λ c κs. search needs) (λ c. search needs) (λ c κs. search needs) (λ c κs. search needs)
     (λ c. search needs) returns)

@@ -56,5 +56,6 @@ returns c =
 pub clocked-spec : {M : Type 1} → statement M
 clocked-spec =
     tie.close
-    (tie.spec (λ c κs. search needs) (λ c κs. search needs) (λ c κs. search needs) (λ c κs. search needs)
+    (tie.spec
+    (λ c κs. search needs) (λ c κs. search needs) (λ c κs. search needs) (λ c κs. search needs)
     (λ c κs. search needs) (λ c κs. search needs) same-length same-length-2 same-length-3 returns)

@@ -18,4 +18,5 @@ returns c =
 pub reset-to-spec : {M : Type 1} → statement M
 reset-to-spec =
     tie.close
-    (tie.spec (λ c κs. search needs) (λ c κs. search needs) (λ c. search needs) returns)
+    (tie.spec
+    (λ c κs. search needs) (λ c κs. search needs) (λ c. search needs) returns)

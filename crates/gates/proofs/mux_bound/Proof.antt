@@ -34,5 +34,6 @@ returns c =
 pub mux-bound-spec : {M : Type 1} → statement M
 mux-bound-spec =
     tie.close
-    (tie.spec (λ c κs. search needs) (λ c κs. search needs) (λ c κs. search needs) (λ c κs. search needs)
+    (tie.spec
+    (λ c κs. search needs) (λ c κs. search needs) (λ c κs. search needs) (λ c κs. search needs)
     (λ c κs. search needs) same-length returns)

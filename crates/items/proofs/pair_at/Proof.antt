@@ -74,5 +74,4 @@ pair-at-spec =
     tie.close
     (tie.spec
     (λ c κs. search needs) (λ c. search needs) (λ c. search needs) (λ c κs. search needs) (λ c. search needs)
-    (λ c. search needs) (λ c κs. search needs) (λ c κs. search needs) add-from returns returns-2 returns-3
-    returns-4)
+    (λ c. search needs) (λ c κs. search needs) (λ c κs. search needs) add-from returns returns-2 returns-3 returns-4)

@@ -20,8 +20,4 @@ pub sort-here-spec : {M : Type 1} → statement M
 sort-here-spec =
     tie.close
     (tie.spec
-    (λ c. search needs)
-    cast-result
-    returns
-    (λ c κs. search needs)
-    returns-2)
+    (λ c. search needs) cast-result returns (λ c κs. search needs) returns-2)

@@ -27,9 +27,6 @@ returns-4 c =
       eq-eqb _ _ (c .if4 .taken),
     )
 
-sub-t7 : tie.Need-sub-t7
-sub-t7 c = search needs
-
 returns-5 : tie.Need-returns-5
 returns-5 c =
     let third = c .before in
@@ -42,4 +39,4 @@ returns-5 c =
     )
 
 pub driver-of-spec : {M : Type 1} → statement M
-driver-of-spec = tie.close (tie.spec returns returns-2 returns-3 returns-4 sub-t7 returns-5)
+driver-of-spec = tie.close (tie.spec returns returns-2 returns-3 returns-4 (λ c. search needs) returns-5)

@@ -18,15 +18,6 @@ abbrev μ-loop : tie.MeasureT-loop
 loop-holds : tie.Need-loop-holds Inv-loop μ-loop
 loop-holds c = (refl, λ k l. absurd (omega arith))
 
-slice-write-names : tie.Need-slice-write-names Inv-loop μ-loop
-slice-write-names c = search needs
-
-add-at : tie.Need-add-at Inv-loop μ-loop
-add-at c = search needs
-
-loop-less : tie.Need-loop-less Inv-loop μ-loop
-loop-less c = search needs
-
 loop-again : tie.Need-loop-again Inv-loop μ-loop
 loop-again c =
     let turn = c .before .loop in
@@ -41,4 +32,6 @@ returns c = let end = c .before .loop in zeros-all (end .names) (end .at) (c .lo
 pub clear-names-spec : {M : Type 1} → statement M
 clear-names-spec =
     tie.close
-    (tie.spec Inv-loop μ-loop loop-holds slice-write-names add-at loop-less loop-again same-length returns)
+    (tie.spec
+    Inv-loop μ-loop loop-holds (λ c. search needs) (λ c. search needs) (λ c. search needs) loop-again same-length
+    returns)

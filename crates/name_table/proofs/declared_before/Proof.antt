@@ -33,9 +33,6 @@ returns c =
     let end = min (args .end) (length w) in
     sym (inv .2 ∙ declared-end w end (args .letter) (args .index) (args .suffix) (inv .0) (state .at) (omega arith))
 
-declares-at-requires : tie.Need-declares-at-requires Inv-loop μ-loop
-declares-at-requires c κs = search needs
-
 returns-2 : tie.Need-returns-2 Inv-loop μ-loop
 returns-2 c =
     let turn = c .before .before .before in
@@ -48,9 +45,6 @@ returns-2 c =
     sym (inv .2
     ∙ declared-here w end (args .letter) (args .index) (args .suffix) (inv .0) (state .at) (omega arith) (omega arith)
     found)
-
-next-record-requires : tie.Need-next-record-requires Inv-loop μ-loop
-next-record-requires c κs = search needs
 
 loop-less : tie.Need-loop-less Inv-loop μ-loop
 loop-less c = omega arith
@@ -88,13 +82,5 @@ pub declared-before-spec : {M : Type 1} → statement M
 declared-before-spec =
     tie.close
     (tie.spec
-    Inv-loop
-    μ-loop
-    loop-holds
-    returns
-    declares-at-requires
-    returns-2
-    next-record-requires
-    loop-less
-    loop-again
+    Inv-loop μ-loop loop-holds returns (λ c κs. search needs) returns-2 (λ c κs. search needs) loop-less loop-again
     returns-3)

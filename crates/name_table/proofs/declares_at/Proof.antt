@@ -5,21 +5,6 @@ use Rattle.name_table.proofs.NamedLaws.{declares-words}
 use Rattle.name_table.proofs.declares_at.Statement.{statement}
 use Rattle.name_table.proofs.declares_at.Tie as tie
 
-operation-at-requires : tie.Need-operation-at-requires
-operation-at-requires c κs = search needs
-
-is-declare-requires : tie.Need-is-declare-requires
-is-declare-requires c κs = search needs
-
-argument-word-requires : tie.Need-argument-word-requires
-argument-word-requires c κs = search needs
-
-argument-word-requires-2 : tie.Need-argument-word-requires-2
-argument-word-requires-2 c κs = search needs
-
-argument-word-requires-3 : tie.Need-argument-word-requires-3
-argument-word-requires-3 c κs = search needs
-
 returns : tie.Need-returns
 returns c =
     let at-if2 = c .before .before .before in
@@ -77,12 +62,5 @@ pub declares-at-spec : {M : Type 1} → statement M
 declares-at-spec =
     tie.close
     (tie.spec
-    operation-at-requires
-    is-declare-requires
-    argument-word-requires
-    argument-word-requires-2
-    argument-word-requires-3
-    returns
-    returns-2
-    returns-3
-    returns-4)
+    (λ c κs. search needs) (λ c κs. search needs) (λ c κs. search needs) (λ c κs. search needs)
+    (λ c κs. search needs) returns returns-2 returns-3 returns-4)

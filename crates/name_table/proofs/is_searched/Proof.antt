@@ -4,21 +4,6 @@ use borrow.Author.Tests.{lt-ltb, le-ltb}
 use Rattle.name_table.proofs.is_searched.Statement.{statement}
 use Rattle.name_table.proofs.is_searched.Tie as tie
 
-payload-requires : tie.Need-payload-requires
-payload-requires c κs = search needs
-
-payload-requires-2 : tie.Need-payload-requires-2
-payload-requires-2 c κs = search needs
-
-payload-requires-3 : tie.Need-payload-requires-3
-payload-requires-3 c κs = search needs
-
-top-of-requires : tie.Need-top-of-requires
-top-of-requires c κs = search needs
-
-declared-before-requires : tie.Need-declared-before-requires
-declared-before-requires c κs = search needs
-
 returns : tie.Need-returns
 returns c =
     let at-top = c .before .before in
@@ -52,10 +37,5 @@ pub is-searched-spec : {M : Type 1} → statement M
 is-searched-spec =
     tie.close
     (tie.spec
-    payload-requires
-    payload-requires-2
-    payload-requires-3
-    top-of-requires
-    declared-before-requires
-    returns
-    returns-2)
+    (λ c κs. search needs) (λ c κs. search needs) (λ c κs. search needs) (λ c κs. search needs)
+    (λ c κs. search needs) returns returns-2)

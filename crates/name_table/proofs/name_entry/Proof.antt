@@ -7,15 +7,6 @@ use Rattle.name_table.specs.Names.{slotOf}
 use Rattle.name_table.proofs.name_entry.Statement.{statement}
 use Rattle.name_table.proofs.name_entry.Tie as tie
 
-cast-name-slot : tie.Need-cast-name-slot
-cast-name-slot c = search needs
-
-name-slot-requires : tie.Need-name-slot-requires
-name-slot-requires c κs = search needs
-
-shared-slice-read-result : tie.Need-shared-slice-read-result
-shared-slice-read-result c = search needs
-
 cast-result : tie.Need-cast-result
 cast-result c =
     let found = c .before .before in
@@ -54,10 +45,4 @@ pub name-entry-spec : {M : Type 1} → statement M
 name-entry-spec =
     tie.close
     (tie.spec
-    cast-name-slot
-    name-slot-requires
-    shared-slice-read-result
-    cast-result
-    returns
-    returns-2
-    returns-3)
+    (λ c. search needs) (λ c κs. search needs) (λ c. search needs) cast-result returns returns-2 returns-3)

@@ -4,27 +4,6 @@ use borrow.Author.Needs.{needs}
 use Rattle.name_table.proofs.name_known.Statement.{statement}
 use Rattle.name_table.proofs.name_known.Tie as tie
 
-spells-name-requires : tie.Need-spells-name-requires
-spells-name-requires c κs = search needs
-
-payload-requires : tie.Need-payload-requires
-payload-requires c κs = search needs
-
-payload-requires-2 : tie.Need-payload-requires-2
-payload-requires-2 c κs = search needs
-
-cast-name-entry : tie.Need-cast-name-entry
-cast-name-entry c = search needs
-
-payload-requires-3 : tie.Need-payload-requires-3
-payload-requires-3 c κs = search needs
-
-name-entry-requires : tie.Need-name-entry-requires
-name-entry-requires c κs = search needs
-
-is-searched-requires : tie.Need-is-searched-requires
-is-searched-requires c κs = search needs
-
 returns : tie.Need-returns
 returns c =
     let at-payload3 = c .before .before .before in
@@ -71,13 +50,5 @@ pub name-known-spec : {M : Type 1} → statement M
 name-known-spec =
     tie.close
     (tie.spec
-    spells-name-requires
-    payload-requires
-    payload-requires-2
-    cast-name-entry
-    payload-requires-3
-    name-entry-requires
-    is-searched-requires
-    returns
-    returns-2
-    returns-3)
+    (λ c κs. search needs) (λ c κs. search needs) (λ c κs. search needs) (λ c. search needs) (λ c κs. search needs)
+    (λ c κs. search needs) (λ c κs. search needs) returns returns-2 returns-3)

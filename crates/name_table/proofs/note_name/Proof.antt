@@ -4,30 +4,6 @@ use borrow.Author.Needs.{needs}
 use Rattle.name_table.proofs.note_name.Statement.{statement}
 use Rattle.name_table.proofs.note_name.Tie as tie
 
-operation-at-requires : tie.Need-operation-at-requires
-operation-at-requires c κs = search needs
-
-is-declare-requires : tie.Need-is-declare-requires
-is-declare-requires c κs = search needs
-
-argument-at-requires : tie.Need-argument-at-requires
-argument-at-requires c κs = search needs
-
-argument-at-requires-2 : tie.Need-argument-at-requires-2
-argument-at-requires-2 c κs = search needs
-
-argument-at-requires-3 : tie.Need-argument-at-requires-3
-argument-at-requires-3 c κs = search needs
-
-name-slot-requires : tie.Need-name-slot-requires
-name-slot-requires c κs = search needs
-
-put-byte-requires : tie.Need-put-byte-requires
-put-byte-requires c κs = search needs
-
-same-length : tie.Need-same-length
-same-length c = search needs
-
 returns : tie.Need-returns
 returns c =
     let mid3 = c .before .before .before in
@@ -61,13 +37,5 @@ pub note-name-spec : {M : Type 1} → statement M
 note-name-spec =
     tie.close
     (tie.spec
-    operation-at-requires
-    is-declare-requires
-    argument-at-requires
-    argument-at-requires-2
-    argument-at-requires-3
-    name-slot-requires
-    put-byte-requires
-    same-length
-    returns
-    returns-2)
+    (λ c κs. search needs) (λ c κs. search needs) (λ c κs. search needs) (λ c κs. search needs)
+    (λ c κs. search needs) (λ c κs. search needs) (λ c κs. search needs) (λ c. search needs) returns returns-2)

@@ -7,45 +7,6 @@ use Rattle.call_list.specs.Literal.{payloads}
 use Rattle.name_table.proofs.note_top.Statement.{statement}
 use Rattle.name_table.proofs.note_top.Tie as tie
 
-operation-at-requires : tie.Need-operation-at-requires
-operation-at-requires c κs = search needs
-
-is-declare-requires : tie.Need-is-declare-requires
-is-declare-requires c κs = search needs
-
-argument-at-requires : tie.Need-argument-at-requires
-argument-at-requires c κs = search needs
-
-argument-at-requires-2 : tie.Need-argument-at-requires-2
-argument-at-requires-2 c κs = search needs
-
-add-top : tie.Need-add-top
-add-top c = search needs
-
-argument-at-requires-3 : tie.Need-argument-at-requires-3
-argument-at-requires-3 c κs = search needs
-
-top-of-requires : tie.Need-top-of-requires
-top-of-requires c κs = search needs
-
-cast-put : tie.Need-cast-put
-cast-put c = search needs
-
-mul-put : tie.Need-mul-put
-mul-put c = search needs
-
-cast-put-2 : tie.Need-cast-put-2
-cast-put-2 c = search needs
-
-add-put : tie.Need-add-put
-add-put c = search needs
-
-put-requires : tie.Need-put-requires
-put-requires c κs = search needs
-
-same-length : tie.Need-same-length
-same-length c = search needs
-
 returns : tie.Need-returns
 returns c =
     let put = c .before .before in
@@ -71,9 +32,6 @@ returns c =
       lt-ltb _ _ (tested .if2 .taken),
       put .put .ensures,
     )
-
-same-length-2 : tie.Need-same-length-2
-same-length-2 c = search needs
 
 returns-2 : tie.Need-returns-2
 returns-2 c =
@@ -105,20 +63,6 @@ pub note-top-spec : {M : Type 1} → statement M
 note-top-spec =
     tie.close
     (tie.spec
-    operation-at-requires
-    is-declare-requires
-    argument-at-requires
-    argument-at-requires-2
-    add-top
-    argument-at-requires-3
-    top-of-requires
-    cast-put
-    mul-put
-    cast-put-2
-    add-put
-    put-requires
-    same-length
-    returns
-    same-length-2
-    returns-2
-    returns-3)
+    (λ c κs. search needs) (λ c κs. search needs) (λ c κs. search needs) (λ c κs. search needs) (λ c. search needs)
+    (λ c κs. search needs) (λ c κs. search needs) (λ c. search needs) (λ c. search needs) (λ c. search needs)
+    (λ c. search needs) (λ c κs. search needs) (λ c. search needs) returns (λ c. search needs) returns-2 returns-3)

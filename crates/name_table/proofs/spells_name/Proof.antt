@@ -4,15 +4,6 @@ use borrow.Author.Needs.{needs}
 use Rattle.name_table.proofs.spells_name.Statement.{statement}
 use Rattle.name_table.proofs.spells_name.Tie as tie
 
-number-at-most-requires : tie.Need-number-at-most-requires
-number-at-most-requires c κs = search needs
-
-number-at-most-requires-2 : tie.Need-number-at-most-requires-2
-number-at-most-requires-2 c κs = search needs
-
-kind-requires : tie.Need-kind-requires
-kind-requires c κs = search needs
-
 returns : tie.Need-returns
 returns c =
     let at-if1 = c .before .before .before in
@@ -45,9 +36,4 @@ pub spells-name-spec : {M : Type 1} → statement M
 spells-name-spec =
     tie.close
     (tie.spec
-    number-at-most-requires
-    number-at-most-requires-2
-    kind-requires
-    returns
-    returns-2
-    returns-3)
+    (λ c κs. search needs) (λ c κs. search needs) (λ c κs. search needs) returns returns-2 returns-3)

@@ -17,4 +17,5 @@ returns c = omega (arith, c .offset-of .ensures)
 pub place-of-spec : {M : Type 1} → statement M
 place-of-spec =
     tie.close
-    (tie.spec (λ c. search needs) (λ c. search needs) (λ c κs. search needs) add-result returns)
+    (tie.spec
+    (λ c. search needs) (λ c. search needs) (λ c κs. search needs) add-result returns)

@@ -11,4 +11,5 @@ returns-2 c = sym (set-out _ _ _ (c .if1 .left))
 pub put-mark-spec : {M : Type 1} → statement M
 put-mark-spec =
     tie.close
-    (tie.spec (λ c. search needs) (λ c. search needs) (λ c. search needs) (λ c. search needs) returns-2)
+    (tie.spec
+    (λ c. search needs) (λ c. search needs) (λ c. search needs) (λ c. search needs) returns-2)

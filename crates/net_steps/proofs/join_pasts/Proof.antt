@@ -47,5 +47,6 @@ returns c =
 pub join-pasts-spec : {M : Type 1} → statement M
 join-pasts-spec =
     tie.close
-    (tie.spec (λ c κs. search needs) (λ c κs. search needs) (λ c κs. search needs) (λ c κs. search needs) same-length
+    (tie.spec
+    (λ c κs. search needs) (λ c κs. search needs) (λ c κs. search needs) (λ c κs. search needs) same-length
     same-length-2 same-length-3 returns)

@@ -48,5 +48,6 @@ returns c =
 pub replace-void-net-spec : {M : Type 1} → statement M
 replace-void-net-spec =
     tie.close
-    (tie.spec (λ c κs. search needs) (λ c κs. search needs) (λ c κs. search needs) (λ c κs. search needs) same-length
+    (tie.spec
+    (λ c κs. search needs) (λ c κs. search needs) (λ c κs. search needs) (λ c κs. search needs) same-length
     same-length-2 same-length-3 returns)

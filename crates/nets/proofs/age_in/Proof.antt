@@ -41,5 +41,6 @@ returns-4 c =
 pub age-in-spec : {M : Type 1} → statement M
 age-in-spec =
     tie.close
-    (tie.spec (λ c κs. search needs) (λ c. search needs) (λ c. search needs) (λ c. search needs)
-    (λ c κs. search needs) returns (λ c. search needs) returns-2 returns-3 returns-4)
+    (tie.spec
+    (λ c κs. search needs) (λ c. search needs) (λ c. search needs) (λ c. search needs) (λ c κs. search needs) returns
+    (λ c. search needs) returns-2 returns-3 returns-4)

@@ -17,4 +17,5 @@ returns c =
 pub tv-zero-spec : {M : Type 1} → statement M
 tv-zero-spec =
     tie.close
-    (tie.spec (λ c κs. search needs) (λ c. search needs) returns)
+    (tie.spec
+    (λ c κs. search needs) (λ c. search needs) returns)

@@ -26,4 +26,5 @@ returns c =
 pub concat-undef-spec : {M : Type 1} → statement M
 concat-undef-spec =
     tie.close
-    (tie.spec (λ c κs. search needs) (λ c κs. search needs) (λ c κs. search needs) (λ c. search needs) returns)
+    (tie.spec
+    (λ c κs. search needs) (λ c κs. search needs) (λ c κs. search needs) (λ c. search needs) returns)

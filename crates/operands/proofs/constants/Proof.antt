@@ -97,5 +97,5 @@ constants-spec =
     tie.close
     (tie.spec
     Inv-loop μ-loop (λ c κs. search needs) loop-holds (λ c. search needs) (λ c. search needs) (λ c. search needs)
-    (λ c κs. search needs)
-    mul-x (λ c κs. search needs) add-x mul-y (λ c κs. search needs) add-y (λ c. search needs) loop-again returns)
+    (λ c κs. search needs) mul-x (λ c κs. search needs) add-x mul-y (λ c κs. search needs) add-y (λ c. search needs)
+    loop-again returns)

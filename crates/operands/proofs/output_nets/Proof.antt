@@ -57,5 +57,4 @@ output-nets-spec =
     tie.close
     (tie.spec
     Inv-loop μ-loop loop-holds (λ c. search needs) (λ c κs. search needs) (λ c κs. search needs) (λ c. search needs)
-    (λ c. search needs)
-    loop-again same-length returns)
+    (λ c. search needs) loop-again same-length returns)

@@ -39,5 +39,5 @@ pub shift-width-spec : {M : Type 1} → statement M
 shift-width-spec =
     tie.close
     (tie.spec
-    (λ c κs. search needs) (λ c. search needs) (λ c. search needs) (λ c. search needs) value-wider (λ c. search needs)
-    amount-wider too-wide)
+    (λ c κs. search needs) (λ c. search needs) (λ c. search needs) (λ c. search needs) value-wider
+    (λ c. search needs) amount-wider too-wide)

@@ -52,6 +52,6 @@ pub told-spec : {M : Type 1} → statement M
 told-spec =
     tie.close
     (tie.spec
-    (λ c κs. search needs) (λ c. search needs) (λ c κs. search needs) (λ c. search needs)
-    nothing-fits (λ c κs. search needs) (λ c. search needs) asked-fits (λ c κs. search needs) returns
-    (λ c. search needs) returns-2 (λ c. search needs) returns-3)
+    (λ c κs. search needs) (λ c. search needs) (λ c κs. search needs) (λ c. search needs) nothing-fits
+    (λ c κs. search needs) (λ c. search needs) asked-fits (λ c κs. search needs) returns (λ c. search needs)
+    returns-2 (λ c. search needs) returns-3)

@@ -19,5 +19,6 @@ stored c = sizes-packed _ _ (c .before .before .checked2 .given .1) (c .if1 .lef
 pub packed-check-spec : {M : Type 1} → statement M
 packed-check-spec =
     tie.close
-    (tie.spec (λ c. search needs) (λ c κs. search needs) (λ c. search needs) (λ c κs. search needs) short
-    (λ c. search needs) (λ c. search needs) malformed (λ c. search needs) stored)
+    (tie.spec
+    (λ c. search needs) (λ c κs. search needs) (λ c. search needs) (λ c κs. search needs) short (λ c. search needs)
+    (λ c. search needs) malformed (λ c. search needs) stored)

@@ -10,4 +10,5 @@ returns c = script-packed _ _ _ _ (c .packed-written .ensures) (c .before .befor
 pub script-spec : {M : Type 1} → statement M
 script-spec =
     tie.close
-    (tie.spec (λ c κs. search needs) (λ c κs. search needs) (λ c. search needs) returns)
+    (tie.spec
+    (λ c κs. search needs) (λ c κs. search needs) (λ c. search needs) returns)

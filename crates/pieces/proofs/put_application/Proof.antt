@@ -4,21 +4,6 @@ use Rattle.engine.proofs.EmitLaws.{wrote-then}
 use Rattle.pieces.proofs.put_application.Statement.{statement}
 use Rattle.pieces.proofs.put_application.Tie as tie
 
-put-byte-requires : tie.Need-put-byte-requires
-put-byte-requires c κs = search needs
-
-put-operation-requires : tie.Need-put-operation-requires
-put-operation-requires c κs = search needs
-
-put-arguments-requires : tie.Need-put-arguments-requires
-put-arguments-requires c κs = search needs
-
-put-byte-requires-2 : tie.Need-put-byte-requires-2
-put-byte-requires-2 c κs = search needs
-
-same-length : tie.Need-same-length
-same-length c = search needs
-
 returns : tie.Need-returns
 returns c =
     let closed = c .before .before in
@@ -35,9 +20,5 @@ pub put-application-spec : {M : Type 1} → statement M
 put-application-spec =
     tie.close
     (tie.spec
-    put-byte-requires
-    put-operation-requires
-    put-arguments-requires
-    put-byte-requires-2
-    same-length
+    (λ c κs. search needs) (λ c κs. search needs) (λ c κs. search needs) (λ c κs. search needs) (λ c. search needs)
     returns)

@@ -4,15 +4,6 @@ use Rattle.engine.proofs.EmitLaws.{wrote-then}
 use Rattle.pieces.proofs.put_argument.Statement.{statement}
 use Rattle.pieces.proofs.put_argument.Tie as tie
 
-put-byte-requires : tie.Need-put-byte-requires
-put-byte-requires c κs = search needs
-
-put-reference-requires : tie.Need-put-reference-requires
-put-reference-requires c κs = search needs
-
-same-length : tie.Need-same-length
-same-length c = search needs
-
 returns : tie.Need-returns
 returns c =
     let written = c .before .before in
@@ -24,4 +15,4 @@ returns c =
 
 pub put-argument-spec : {M : Type 1} → statement M
 put-argument-spec =
-    tie.close (tie.spec put-byte-requires put-reference-requires same-length returns)
+    tie.close (tie.spec (λ c κs. search needs) (λ c κs. search needs) (λ c. search needs) returns)

@@ -6,23 +6,11 @@ use native.Mathlib.Omega.{arith}
 use Rattle.pieces.proofs.put_suffix.Statement.{statement}
 use Rattle.pieces.proofs.put_suffix.Tie as tie
 
-put-byte-requires : tie.Need-put-byte-requires
-put-byte-requires c κs = search needs
-
-same-length : tie.Need-same-length
-same-length c = search needs
-
 returns : tie.Need-returns
 returns c =
     let w = c .before .before in
     let t = w .before .before in
     rw (t .if1 .taken) (w .put-byte .ensures)
-
-put-byte-requires-2 : tie.Need-put-byte-requires-2
-put-byte-requires-2 c κs = search needs
-
-same-length-2 : tie.Need-same-length-2
-same-length-2 c = search needs
 
 returns-2 : tie.Need-returns-2
 returns-2 c =
@@ -37,10 +25,4 @@ pub put-suffix-spec : {M : Type 1} → statement M
 put-suffix-spec =
     tie.close
     (tie.spec
-    put-byte-requires
-    same-length
-    returns
-    put-byte-requires-2
-    same-length-2
-    returns-2
-    returns-3)
+    (λ c κs. search needs) (λ c. search needs) returns (λ c κs. search needs) (λ c. search needs) returns-2 returns-3)

@@ -54,23 +54,7 @@ pub put-list-spec : {M : Type 1} → statement M
 put-list-spec =
     tie.close
     (tie.spec
-    (λ c κs. search needs)
-    (λ c. search needs)
-    (λ c. search needs)
-    (λ c κs. search needs)
-    (λ c. search needs)
-    (λ c κs. search needs)
-    (λ c. search needs)
-    (λ c. search needs)
-    (λ c. search needs)
-    nothing-requires
-    (λ c. search needs)
-    (λ c. search needs)
-    (λ c. search needs)
-    asked-requires
-    (λ c. search needs)
-    refuses
-    (λ c. search needs)
-    tells-nothing
-    (λ c. search needs)
-    asks)
+    (λ c κs. search needs) (λ c. search needs) (λ c. search needs) (λ c κs. search needs) (λ c. search needs)
+    (λ c κs. search needs) (λ c. search needs) (λ c. search needs) (λ c. search needs) nothing-requires
+    (λ c. search needs) (λ c. search needs) (λ c. search needs) asked-requires (λ c. search needs) refuses
+    (λ c. search needs) tells-nothing (λ c. search needs) asks)

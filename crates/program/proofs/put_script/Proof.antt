@@ -30,13 +30,5 @@ pub put-script-spec : {M : Type 1} → statement M
 put-script-spec =
     tie.close
     (tie.spec
-    calls-count
-    marks-count
-    (λ c κs. search needs)
-    (λ c. search needs)
-    (λ c. search needs)
-    (λ c κs. search needs)
-    (λ c. search needs)
-    returns
-    (λ c. search needs)
-    returns-2)
+    calls-count marks-count (λ c κs. search needs) (λ c. search needs) (λ c. search needs) (λ c κs. search needs)
+    (λ c. search needs) returns (λ c. search needs) returns-2)

@@ -3,21 +3,6 @@ use borrow.Author.Needs.{needs}
 use Rattle.record_faults.proofs.declares_again.Statement.{statement}
 use Rattle.record_faults.proofs.declares_again.Tie as tie
 
-is-declare-requires : tie.Need-is-declare-requires
-is-declare-requires c κs = search needs
-
-argument-word-requires : tie.Need-argument-word-requires
-argument-word-requires c κs = search needs
-
-argument-word-requires-2 : tie.Need-argument-word-requires-2
-argument-word-requires-2 c κs = search needs
-
-argument-word-requires-3 : tie.Need-argument-word-requires-3
-argument-word-requires-3 c κs = search needs
-
-name-known-requires : tie.Need-name-known-requires
-name-known-requires c κs = search needs
-
 returns : tie.Need-returns
 returns c =
     let at-argument-word = c .before .before .before in
@@ -45,10 +30,5 @@ pub declares-again-spec : {M : Type 1} → statement M
 declares-again-spec =
     tie.close
     (tie.spec
-    is-declare-requires
-    argument-word-requires
-    argument-word-requires-2
-    argument-word-requires-3
-    name-known-requires
-    returns
-    returns-2)
+    (λ c κs. search needs) (λ c κs. search needs) (λ c κs. search needs) (λ c κs. search needs)
+    (λ c κs. search needs) returns returns-2)

@@ -9,27 +9,12 @@ use Rattle.record_faults.proofs.FaultsLaws.{head-inside}
 use Rattle.record_faults.proofs.head_stands.Statement.{statement}
 use Rattle.record_faults.proofs.head_stands.Tie as tie
 
-word-at-requires : tie.Need-word-at-requires
-word-at-requires c κs = search needs
-
-kind-requires : tie.Need-kind-requires
-kind-requires c κs = search needs
-
 sub-if2 : tie.Need-sub-if2
 sub-if2 c =
     let at-kind = c .before in
     let args = at-kind .before .before .before .before .before .args in
     let head = sym (ap kindOf (at-kind .before .word-at .ensures)) ∙ sym (at-kind .kind .ensures) ∙ c .if1 .taken in
     le-of-lt (head-inside (args .calls .now) (args .at) head)
-
-argument-word-requires : tie.Need-argument-word-requires
-argument-word-requires c κs = search needs
-
-count-fits-requires : tie.Need-count-fits-requires
-count-fits-requires c κs = search needs
-
-declares-again-requires : tie.Need-declares-again-requires
-declares-again-requires c κs = search needs
 
 returns : tie.Need-returns
 returns c =
@@ -120,14 +105,5 @@ pub head-stands-spec : {M : Type 1} → statement M
 head-stands-spec =
     tie.close
     (tie.spec
-    word-at-requires
-    kind-requires
-    sub-if2
-    argument-word-requires
-    count-fits-requires
-    declares-again-requires
-    returns
-    returns-2
-    returns-3
-    returns-4
-    returns-5)
+    (λ c κs. search needs) (λ c κs. search needs) sub-if2 (λ c κs. search needs) (λ c κs. search needs)
+    (λ c κs. search needs) returns returns-2 returns-3 returns-4 returns-5)

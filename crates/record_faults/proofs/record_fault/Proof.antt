@@ -6,18 +6,6 @@ use Rattle.record_faults.proofs.FaultsLaws.{head-whole}
 use Rattle.record_faults.proofs.record_fault.Statement.{statement}
 use Rattle.record_faults.proofs.record_fault.Tie as tie
 
-operation-at-requires : tie.Need-operation-at-requires
-operation-at-requires c κs = search needs
-
-count-at-requires : tie.Need-count-at-requires
-count-at-requires c κs = search needs
-
-head-stands-requires : tie.Need-head-stands-requires
-head-stands-requires c κs = search needs
-
-cast-wrong-from : tie.Need-cast-wrong-from
-cast-wrong-from c = search needs
-
 wrong-from-requires : tie.Need-wrong-from-requires
 wrong-from-requires c κs =
     let head = c .before in
@@ -41,10 +29,5 @@ pub record-fault-spec : {M : Type 1} → statement M
 record-fault-spec =
     tie.close
     (tie.spec
-    operation-at-requires
-    count-at-requires
-    head-stands-requires
-    cast-wrong-from
-    wrong-from-requires
-    returns
-    returns-2)
+    (λ c κs. search needs) (λ c κs. search needs) (λ c κs. search needs) (λ c. search needs) wrong-from-requires
+    returns returns-2)

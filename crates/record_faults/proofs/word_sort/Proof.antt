@@ -4,18 +4,6 @@ use borrow.Author.Needs.{needs}
 use Rattle.record_faults.proofs.word_sort.Statement.{statement}
 use Rattle.record_faults.proofs.word_sort.Tie as tie
 
-kind-requires : tie.Need-kind-requires
-kind-requires c κs = search needs
-
-payload-requires : tie.Need-payload-requires
-payload-requires c κs = search needs
-
-cast-if2 : tie.Need-cast-if2
-cast-if2 c = search needs
-
-term-sort-requires : tie.Need-term-sort-requires
-term-sort-requires c κs = search needs
-
 returns : tie.Need-returns
 returns c =
     let at-if1 = c .before .before .before in
@@ -46,10 +34,5 @@ pub word-sort-spec : {M : Type 1} → statement M
 word-sort-spec =
     tie.close
     (tie.spec
-    kind-requires
-    payload-requires
-    cast-if2
-    term-sort-requires
-    returns
-    returns-2
+    (λ c κs. search needs) (λ c κs. search needs) (λ c. search needs) (λ c κs. search needs) returns returns-2
     returns-3)

@@ -26,15 +26,6 @@ Inv-loop calls sorts recent places gap terms at operation n first before₀ sort
 abbrev μ-loop : tie.MeasureT-loop
 μ-loop calls sorts recent places gap terms at operation n first before₀ sort-before₀ i₀ before sort-before i = n - i
 
-argument-word-requires : tie.Need-argument-word-requires Inv-loop μ-loop
-argument-word-requires c κs = search needs
-
-word-at-requires : tie.Need-word-at-requires Inv-loop μ-loop
-word-at-requires c κs = search needs
-
-word-sort-requires : tie.Need-word-sort-requires Inv-loop μ-loop
-word-sort-requires c κs = search needs
-
 loop-holds : tie.Need-loop-holds Inv-loop μ-loop
 loop-holds c =
     let args = c .before .before .before .before .before .before .before .args in
@@ -45,21 +36,6 @@ loop-holds c =
       c .word-sort .ensures,
       ap (firstFailing (standsBy sort w (args .terms) (args .at)) 0) (let e : args .n ≡ args .n - 0 = omega arith in e),
     )
-
-argument-word-requires-2 : tie.Need-argument-word-requires-2 Inv-loop μ-loop
-argument-word-requires-2 c κs = search needs
-
-word-sort-requires-2 : tie.Need-word-sort-requires-2 Inv-loop μ-loop
-word-sort-requires-2 c κs = search needs
-
-argument-requires : tie.Need-argument-requires Inv-loop μ-loop
-argument-requires c κs = search needs
-
-admitted-requires : tie.Need-admitted-requires Inv-loop μ-loop
-admitted-requires c κs = search needs
-
-add-i : tie.Need-add-i Inv-loop μ-loop
-add-i c = search needs
 
 loop-less : tie.Need-loop-less Inv-loop μ-loop
 loop-less c = omega arith
@@ -90,9 +66,6 @@ loop-again c =
           ∙ ap (firstFailing test (state .i + 1))
           (let e : args .n - state .i - 1 ≡ args .n - (state .i + 1) = omega arith in e),
     )
-
-argument-place-requires : tie.Need-argument-place-requires Inv-loop μ-loop
-argument-place-requires c κs = search needs
 
 returns : tie.Need-returns Inv-loop μ-loop
 returns c =
@@ -132,19 +105,6 @@ pub wrong-from-spec : {M : Type 1} → statement M
 wrong-from-spec =
     tie.close
     (tie.spec
-    Inv-loop
-    μ-loop
-    argument-word-requires
-    word-at-requires
-    word-sort-requires
-    loop-holds
-    argument-word-requires-2
-    word-sort-requires-2
-    argument-requires
-    admitted-requires
-    add-i
-    loop-less
-    loop-again
-    argument-place-requires
-    returns
-    returns-2)
+    Inv-loop μ-loop (λ c κs. search needs) (λ c κs. search needs) (λ c κs. search needs) loop-holds
+    (λ c κs. search needs) (λ c κs. search needs) (λ c κs. search needs) (λ c κs. search needs) (λ c. search needs)
+    loop-less loop-again (λ c κs. search needs) returns returns-2)

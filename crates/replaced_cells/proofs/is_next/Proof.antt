@@ -17,4 +17,5 @@ returns-2 c = rw (le-ltb _ _ (c .if1 .left))
 pub is-next-spec : {M : Type 1} → statement M
 is-next-spec =
     tie.close
-    (tie.spec (λ c κs. search needs) (λ c κs. search needs) returns returns-2)
+    (tie.spec
+    (λ c κs. search needs) (λ c κs. search needs) returns returns-2)

@@ -30,5 +30,6 @@ returns-2 c =
 pub op-at-spec : {M : Type 1} → statement M
 op-at-spec =
     tie.close
-    (tie.spec (λ c κs. search needs) (λ c κs. search needs) (λ c κs. search needs) (λ c. search needs)
-    (λ c. search needs) returns returns-2)
+    (tie.spec
+    (λ c κs. search needs) (λ c κs. search needs) (λ c κs. search needs) (λ c. search needs) (λ c. search needs)
+    returns returns-2)

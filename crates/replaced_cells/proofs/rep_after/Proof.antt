@@ -27,4 +27,5 @@ returns-2 c =
 pub rep-after-spec : {M : Type 1} → statement M
 rep-after-spec =
     tie.close
-    (tie.spec (λ c κs. search needs) add-next-at (λ c κs. search needs) returns returns-2)
+    (tie.spec
+    (λ c κs. search needs) add-next-at (λ c κs. search needs) returns returns-2)

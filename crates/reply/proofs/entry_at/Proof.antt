@@ -5,22 +5,13 @@ use Rattle.reply.specs.Step.{entryOf}
 use Rattle.reply.proofs.entry_at.Statement.{statement}
 use Rattle.reply.proofs.entry_at.Tie as tie
 
-trit-at-requires : tie.Need-trit-at-requires
-trit-at-requires c κs = search needs
-
 returns : tie.Need-returns
 unfolding entryOf
 returns c = rw (eq-eqb _ _ (c .before .if1 .taken), c .trit-at .ensures)
 
-trit-at-requires-2 : tie.Need-trit-at-requires-2
-trit-at-requires-2 c κs = search needs
-
 returns-2 : tie.Need-returns-2
 unfolding entryOf
 returns-2 c = rw (ne-eqb _ _ (c .before .before .if1 .left), eq-eqb _ _ (c .before .if2 .taken), c .trit-at2 .ensures)
-
-readback-number-requires : tie.Need-readback-number-requires
-readback-number-requires c κs = search needs
 
 returns-3 : tie.Need-returns-3
 unfolding entryOf
@@ -31,9 +22,4 @@ pub entry-at-spec : {M : Type 1} → statement M
 entry-at-spec =
     tie.close
     (tie.spec
-    trit-at-requires
-    returns
-    trit-at-requires-2
-    returns-2
-    readback-number-requires
-    returns-3)
+    (λ c κs. search needs) returns (λ c κs. search needs) returns-2 (λ c κs. search needs) returns-3)

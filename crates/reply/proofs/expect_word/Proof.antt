@@ -4,14 +4,8 @@ use Rattle.tokens.proofs.Laws.{found-end, found-token, found-inside}
 use Rattle.reply.proofs.expect_word.Statement.{statement}
 use Rattle.reply.proofs.expect_word.Tie as tie
 
-next-token-requires : tie.Need-next-token-requires
-next-token-requires c κs = search needs
-
 enum-told : tie.Need-enum-told
 enum-told c = search needs
-
-enum-known-start : tie.Need-enum-known-start
-enum-known-start c = search needs
 
 token-is-requires : tie.Need-token-is-requires
 token-is-requires c κs = found-inside (c .before .before .before .next-token .ensures) (c .before .start .given .1)
@@ -41,10 +35,4 @@ pub expect-word-spec : {M : Type 1} → statement M
 expect-word-spec =
     tie.close
     (tie.spec
-    next-token-requires
-    enum-told
-    enum-known-start
-    token-is-requires
-    returns
-    returns-2
-    returns-3)
+    (λ c κs. search needs) enum-told (λ c. search needs) token-is-requires returns returns-2 returns-3)

@@ -4,48 +4,6 @@ use Rattle.reply.specs.Reply.{pairSpelled}
 use Rattle.reply.proofs.pair_at.Statement.{statement}
 use Rattle.reply.proofs.pair_at.Tie as tie
 
-slice-aggregate-expect-word : tie.Need-slice-aggregate-expect-word
-slice-aggregate-expect-word c = search needs
-
-expect-word-requires : tie.Need-expect-word-requires
-expect-word-requires c κs = search needs
-
-enum-known-e : tie.Need-enum-known-e
-enum-known-e c = search needs
-
-enum-known-named : tie.Need-enum-known-named
-enum-known-named c = search needs
-
-expect-name-requires : tie.Need-expect-name-requires
-expect-name-requires c κs = search needs
-
-enum-known-e-2 : tie.Need-enum-known-e-2
-enum-known-e-2 c = search needs
-
-enum-known-valued : tie.Need-enum-known-valued
-enum-known-valued c = search needs
-
-value-at-requires : tie.Need-value-at-requires
-value-at-requires c κs = search needs
-
-enum-known-e-3 : tie.Need-enum-known-e-3
-enum-known-e-3 c = search needs
-
-enum-known-bit : tie.Need-enum-known-bit
-enum-known-bit c = search needs
-
-slice-aggregate-expect-word-2 : tie.Need-slice-aggregate-expect-word-2
-slice-aggregate-expect-word-2 c = search needs
-
-expect-word-requires-2 : tie.Need-expect-word-requires-2
-expect-word-requires-2 c κs = search needs
-
-enum-known-e-4 : tie.Need-enum-known-e-4
-enum-known-e-4 c = search needs
-
-enum-known-next : tie.Need-enum-known-next
-enum-known-next c = search needs
-
 returns : tie.Need-returns
 unfolding pairSpelled
 returns c =
@@ -136,22 +94,7 @@ pub pair-at-spec : {M : Type 1} → statement M
 pair-at-spec =
     tie.close
     (tie.spec
-    slice-aggregate-expect-word
-    expect-word-requires
-    enum-known-e
-    enum-known-named
-    expect-name-requires
-    enum-known-e-2
-    enum-known-valued
-    value-at-requires
-    enum-known-e-3
-    enum-known-bit
-    slice-aggregate-expect-word-2
-    expect-word-requires-2
-    enum-known-e-4
-    enum-known-next
-    returns
-    returns-2
-    returns-3
-    returns-4
-    returns-5)
+    (λ c. search needs) (λ c κs. search needs) (λ c. search needs) (λ c. search needs) (λ c κs. search needs)
+    (λ c. search needs) (λ c. search needs) (λ c κs. search needs) (λ c. search needs) (λ c. search needs)
+    (λ c. search needs) (λ c κs. search needs) (λ c. search needs) (λ c. search needs) returns returns-2 returns-3
+    returns-4 returns-5)

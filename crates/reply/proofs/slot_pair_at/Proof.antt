@@ -10,12 +10,6 @@ use Rattle.reply.specs.Step.{slotPair}
 use Rattle.reply.proofs.slot_pair_at.Statement.{statement}
 use Rattle.reply.proofs.slot_pair_at.Tie as tie
 
-slice-aggregate-put-name : tie.Need-slice-aggregate-put-name
-slice-aggregate-put-name c = search needs
-
-put-name-requires : tie.Need-put-name-requires
-put-name-requires c κs = search needs
-
 array-share-prefix-name : tie.Need-array-share-prefix-name
 array-share-prefix-name c =
     let spelled = c .before in
@@ -32,9 +26,6 @@ slice-aggregate-pair-at c =
     spelling-length (start .args .letter) (start .args .slot) (start .args .suffix) (start .fits .slot .fits) in
     sym (length-take-le _ _ (start-inside (spelled .put-name .ensures) (omega arith) (omega arith)))
 
-pair-at-requires : tie.Need-pair-at-requires
-pair-at-requires c κs = search needs
-
 returns : tie.Need-returns
 unfolding slotPair
 returns c =
@@ -48,9 +39,5 @@ pub slot-pair-at-spec : {M : Type 1} → statement M
 slot-pair-at-spec =
     tie.close
     (tie.spec
-    slice-aggregate-put-name
-    put-name-requires
-    array-share-prefix-name
-    slice-aggregate-pair-at
-    pair-at-requires
+    (λ c. search needs) (λ c κs. search needs) array-share-prefix-name slice-aggregate-pair-at (λ c κs. search needs)
     returns)

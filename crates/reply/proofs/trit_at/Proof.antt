@@ -6,30 +6,6 @@ use Rattle.reply.specs.Step.{bitResult, slotPair, trit}
 use Rattle.reply.proofs.trit_at.Statement.{statement}
 use Rattle.reply.proofs.trit_at.Tie as tie
 
-slot-pair-at-requires : tie.Need-slot-pair-at-requires
-slot-pair-at-requires c κs = search needs
-
-enum-known-e : tie.Need-enum-known-e
-enum-known-e c = search needs
-
-enum-known-x : tie.Need-enum-known-x
-enum-known-x c = search needs
-
-slot-pair-at-requires-2 : tie.Need-slot-pair-at-requires-2
-slot-pair-at-requires-2 c κs = search needs
-
-enum-known-e-2 : tie.Need-enum-known-e-2
-enum-known-e-2 c = search needs
-
-enum-known-y : tie.Need-enum-known-y
-enum-known-y c = search needs
-
-trit-of-bits-requires : tie.Need-trit-of-bits-requires
-trit-of-bits-requires c κs = search needs
-
-readback-number-requires : tie.Need-readback-number-requires
-readback-number-requires c κs = search needs
-
 returns : tie.Need-returns
 unfolding trit
 returns c =
@@ -84,14 +60,5 @@ pub trit-at-spec : {M : Type 1} → statement M
 trit-at-spec =
     tie.close
     (tie.spec
-    slot-pair-at-requires
-    enum-known-e
-    enum-known-x
-    slot-pair-at-requires-2
-    enum-known-e-2
-    enum-known-y
-    trit-of-bits-requires
-    readback-number-requires
-    returns
-    returns-2
-    returns-3)
+    (λ c κs. search needs) (λ c. search needs) (λ c. search needs) (λ c κs. search needs) (λ c. search needs)
+    (λ c. search needs) (λ c κs. search needs) (λ c κs. search needs) returns returns-2 returns-3)

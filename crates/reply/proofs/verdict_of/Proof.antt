@@ -6,17 +6,8 @@ use Rattle.reply.proofs.StepLaws.{tokens-start}
 use Rattle.reply.proofs.verdict_of.Statement.{statement}
 use Rattle.reply.proofs.verdict_of.Tie as tie
 
-next-token-requires : tie.Need-next-token-requires
-next-token-requires c κs = search needs
-
 enum-told : tie.Need-enum-told
 enum-told c = search needs
-
-enum-known-start : tie.Need-enum-known-start
-enum-known-start c = search needs
-
-slice-aggregate-token-is : tie.Need-slice-aggregate-token-is
-slice-aggregate-token-is c = search needs
 
 token-is-requires : tie.Need-token-is-requires
 token-is-requires c κs =
@@ -34,9 +25,6 @@ returns c =
       ← first .token-is .ensures,
       c .if1 .taken,
     )
-
-slice-aggregate-token-is-2 : tie.Need-slice-aggregate-token-is-2
-slice-aggregate-token-is-2 c = search needs
 
 token-is-requires-2 : tie.Need-token-is-requires-2
 token-is-requires-2 c κs =
@@ -58,9 +46,6 @@ returns-2 c =
       ← second .token-is2 .ensures,
       c .if2 .taken,
     )
-
-slice-aggregate-token-is-3 : tie.Need-slice-aggregate-token-is-3
-slice-aggregate-token-is-3 c = search needs
 
 token-is-requires-3 : tie.Need-token-is-requires-3
 token-is-requires-3 c κs =
@@ -115,17 +100,6 @@ pub verdict-of-spec : {M : Type 1} → statement M
 verdict-of-spec =
     tie.close
     (tie.spec
-    next-token-requires
-    enum-told
-    enum-known-start
-    slice-aggregate-token-is
-    token-is-requires
-    returns
-    slice-aggregate-token-is-2
-    token-is-requires-2
-    returns-2
-    slice-aggregate-token-is-3
-    token-is-requires-3
-    returns-3
-    returns-4
+    (λ c κs. search needs) enum-told (λ c. search needs) (λ c. search needs) token-is-requires returns
+    (λ c. search needs) token-is-requires-2 returns-2 (λ c. search needs) token-is-requires-3 returns-3 returns-4
     returns-5)

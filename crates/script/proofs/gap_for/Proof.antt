@@ -4,14 +4,8 @@ use borrow.Author.Tests.{le-leb, lt-leb}
 use Rattle.script.proofs.gap_for.Statement.{statement}
 use Rattle.script.proofs.gap_for.Tie as tie
 
-terms-in-requires : tie.Need-terms-in-requires
-terms-in-requires c κs = search needs
-
 returns : tie.Need-returns
 returns c = rw (← c .before .terms-in .ensures, le-leb _ _ (c .if1 .taken))
-
-gap-of-requires : tie.Need-gap-of-requires
-gap-of-requires c κs = search needs
 
 returns-2 : tie.Need-returns-2
 returns-2 c =
@@ -19,4 +13,4 @@ returns-2 c =
     rw (← long .before .terms-in .ensures, lt-leb _ _ (long .if1 .left), c .gap-of .ensures)
 
 pub gap-for-spec : {M : Type 1} → statement M
-gap-for-spec = tie.close (tie.spec terms-in-requires returns gap-of-requires returns-2)
+gap-for-spec = tie.close (tie.spec (λ c κs. search needs) returns (λ c κs. search needs) returns-2)

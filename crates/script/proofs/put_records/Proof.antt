@@ -41,15 +41,6 @@ loop-holds c =
       rw lines-start (wrote-none _ _ (omega arith)),
     )
 
-put-record-requires : tie.Need-put-record-requires Inv-loop μ-loop
-put-record-requires c κs = search needs
-
-note-recent-requires : tie.Need-note-recent-requires Inv-loop μ-loop
-note-recent-requires c κs = search needs
-
-next-requires : tie.Need-next-requires Inv-loop μ-loop
-next-requires c κs = search needs
-
 loop-less : tie.Need-loop-less Inv-loop μ-loop
 loop-less c =
     let noted = c .before .before .before in
@@ -103,14 +94,5 @@ pub put-records-spec : {M : Type 1} → statement M
 put-records-spec =
     tie.close
     (tie.spec
-    Inv-loop
-    μ-loop
-    loop-holds
-    put-record-requires
-    note-recent-requires
-    next-requires
-    loop-less
-    loop-again
-    same-length
-    same-length-2
-    returns)
+    Inv-loop μ-loop loop-holds (λ c κs. search needs) (λ c κs. search needs) (λ c κs. search needs) loop-less
+    loop-again same-length same-length-2 returns)

@@ -6,18 +6,6 @@ use borrow.Author.Needs.{needs}
 use Rattle.script.proofs.put_script.Statement.{statement}
 use Rattle.script.proofs.put_script.Tie as tie
 
-slice-aggregate-put-bytes : tie.Need-slice-aggregate-put-bytes
-slice-aggregate-put-bytes c = search needs
-
-put-bytes-requires : tie.Need-put-bytes-requires
-put-bytes-requires c κs = search needs
-
-put-records-requires : tie.Need-put-records-requires
-put-records-requires c κs = search needs
-
-put-ending-requires : tie.Need-put-ending-requires
-put-ending-requires c κs = search needs
-
 same-length : tie.Need-same-length
 same-length c =
     let ended = c .before .before in
@@ -25,9 +13,6 @@ same-length c =
     let lined = ringed .before .before .before in
     let headed = lined .before .before .before .before .before in
     ended .put-ending .kept .0 ∙ lined .put-records .kept .0 ∙ headed .put-bytes .kept .0
-
-same-length-2 : tie.Need-same-length-2
-same-length-2 c = search needs
 
 returns : tie.Need-returns
 unfolding script
@@ -47,10 +32,5 @@ pub put-script-spec : {M : Type 1} → statement M
 put-script-spec =
     tie.close
     (tie.spec
-    slice-aggregate-put-bytes
-    put-bytes-requires
-    put-records-requires
-    put-ending-requires
-    same-length
-    same-length-2
-    returns)
+    (λ c. search needs) (λ c κs. search needs) (λ c κs. search needs) (λ c κs. search needs) same-length
+    (λ c. search needs) returns)

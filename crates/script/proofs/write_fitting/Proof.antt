@@ -10,12 +10,6 @@ use Rattle.script.proofs.WrittenLaws.{room-short, room-enough, whole-te
 use Rattle.script.proofs.write_fitting.Statement.{statement}
 use Rattle.script.proofs.write_fitting.Tie as tie
 
-script-length-requires : tie.Need-script-length-requires
-script-length-requires c κs = search needs
-
-same-length : tie.Need-same-length
-same-length c = search needs
-
 returns : tie.Need-returns
 returns c =
     let count = c .before .before .before in
@@ -27,15 +21,6 @@ returns c =
     let short = start .good .1 .1 .1 .1 .1 .1 .0 in
     let counted = count .script-length .ensures in
     record { answers = sym (room-short text room _ (omega arith) counted (c .if1 .taken)); writes = refl }
-
-put-script-requires : tie.Need-put-script-requires
-put-script-requires c κs = search needs
-
-same-length-2 : tie.Need-same-length-2
-same-length-2 c = search needs
-
-same-length-3 : tie.Need-same-length-3
-same-length-3 c = search needs
 
 returns-2 : tie.Need-returns-2
 returns-2 c =
@@ -62,10 +47,5 @@ pub write-fitting-spec : {M : Type 1} → statement M
 write-fitting-spec =
     tie.close
     (tie.spec
-    script-length-requires
-    same-length
-    returns
-    put-script-requires
-    same-length-2
-    same-length-3
+    (λ c κs. search needs) (λ c. search needs) returns (λ c κs. search needs) (λ c. search needs) (λ c. search needs)
     returns-2)

@@ -7,17 +7,8 @@ use Rattle.script.proofs.WrittenLaws.{marked-bad, marked-fine}
 use Rattle.script.proofs.write_marked.Statement.{statement}
 use Rattle.script.proofs.write_marked.Tie as tie
 
-bad-mark-requires : tie.Need-bad-mark-requires
-bad-mark-requires c κs = search needs
-
-enum-known-slot : tie.Need-enum-known-slot
-enum-known-slot c = search needs
-
 enum-told : tie.Need-enum-told
 enum-told c = search needs
-
-write-fitting-requires : tie.Need-write-fitting-requires
-write-fitting-requires c κs = search needs
 
 returns : tie.Need-returns
 returns c =
@@ -31,12 +22,6 @@ returns c =
     (start .args .recorded .now) in
     let bad = sym same ∙ sym (marks .bad-mark .ensures) ∙ told .slot .given .1 in
     record { answers = sym (marked-bad _ _ _ bad); writes = refl }
-
-same-length : tie.Need-same-length
-same-length c = search needs
-
-same-length-2 : tie.Need-same-length-2
-same-length-2 c = search needs
 
 returns-2 : tie.Need-returns-2
 returns-2 c =
@@ -60,11 +45,5 @@ pub write-marked-spec : {M : Type 1} → statement M
 write-marked-spec =
     tie.close
     (tie.spec
-    bad-mark-requires
-    enum-known-slot
-    enum-told
-    write-fitting-requires
-    returns
-    same-length
-    same-length-2
-    returns-2)
+    (λ c κs. search needs) (λ c. search needs) enum-told (λ c κs. search needs) returns (λ c. search needs)
+    (λ c. search needs) returns-2)

@@ -6,12 +6,6 @@ use Rattle.script.proofs.WrittenLaws.{has-tables, written-formed, writt
 use Rattle.script.proofs.write_script_by.Statement.{statement}
 use Rattle.script.proofs.write_script_by.Tie as tie
 
-check-by-requires : tie.Need-check-by-requires
-check-by-requires c κs = search needs
-
-enum-known-place : tie.Need-enum-known-place
-enum-known-place c = search needs
-
 enum-told : tie.Need-enum-told
 enum-told c = search needs
 
@@ -24,18 +18,6 @@ write-marked-requires c κs =
     let checked = sorted .before .before .before in
     has-tables (rw (told .enum-told .given .1) at (checked .check-by .ensures))
 
-same-length : tie.Need-same-length
-same-length c = search needs
-
-same-length-2 : tie.Need-same-length-2
-same-length-2 c = search needs
-
-same-length-3 : tie.Need-same-length-3
-same-length-3 c = search needs
-
-same-length-4 : tie.Need-same-length-4
-same-length-4 c = search needs
-
 returns : tie.Need-returns
 returns c =
     let told = c .before in
@@ -46,21 +28,6 @@ returns c =
       answers = sym (written-malformed _ _ _ (sym (checked .check-by .ensures .is) ∙ told .place .given .1));
       writes = refl;
     }
-
-same-length-5 : tie.Need-same-length-5
-same-length-5 c = search needs
-
-same-length-6 : tie.Need-same-length-6
-same-length-6 c = search needs
-
-same-length-7 : tie.Need-same-length-7
-same-length-7 c = search needs
-
-same-length-8 : tie.Need-same-length-8
-same-length-8 c = search needs
-
-same-length-9 : tie.Need-same-length-9
-same-length-9 c = search needs
 
 returns-2 : tie.Need-returns-2
 returns-2 c =
@@ -81,18 +48,6 @@ pub write-script-by-spec : {M : Type 1} → statement M
 write-script-by-spec =
     tie.close
     (tie.spec
-    check-by-requires
-    enum-known-place
-    enum-told
-    write-marked-requires
-    same-length
-    same-length-2
-    same-length-3
-    same-length-4
-    returns
-    same-length-5
-    same-length-6
-    same-length-7
-    same-length-8
-    same-length-9
-    returns-2)
+    (λ c κs. search needs) (λ c. search needs) enum-told write-marked-requires (λ c. search needs)
+    (λ c. search needs) (λ c. search needs) (λ c. search needs) returns (λ c. search needs) (λ c. search needs)
+    (λ c. search needs) (λ c. search needs) (λ c. search needs) returns-2)

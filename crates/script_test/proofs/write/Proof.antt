@@ -9,12 +9,6 @@ use lib.Seq.{length-take-le, length-front}
 use Rattle.script_test.proofs.write.Statement.{statement}
 use Rattle.script_test.proofs.write.Tie as tie
 
-large-buffer-requires : tie.Need-large-buffer-requires
-large-buffer-requires c κs = search needs
-
-array-borrow-prefix-text : tie.Need-array-borrow-prefix-text
-array-borrow-prefix-text c = search needs
-
 slice-aggregate-write-script : tie.Need-slice-aggregate-write-script
 slice-aggregate-write-script c =
     let roomy = c .before in
@@ -23,9 +17,6 @@ slice-aggregate-write-script c =
     let whole : length (made .large-buffer .result) ≡ 65536 = search needs in
     let fits : start .args .room ≤ length (made .large-buffer .result) = omega arith in
     sym (length-take-le _ _ fits)
-
-write-script-requires : tie.Need-write-script-requires
-write-script-requires c κs = search needs
 
 slice-aggregate-print-script : tie.Need-slice-aggregate-print-script
 slice-aggregate-print-script c =
@@ -36,24 +27,9 @@ slice-aggregate-print-script c =
     sym (length-front (made .large-buffer .result) (written .write-script .last .1 .1 .0) (start .args .room)
     (written .write-script .kept .1 .1 .0) ∙ whole)
 
-print-script-requires : tie.Need-print-script-requires
-print-script-requires c κs = search needs
-
-returns : tie.Need-returns
-returns c = search needs
-
-returns-2 : tie.Need-returns-2
-returns-2 c = search needs
-
 pub write-spec : {M : Type 1} → statement M
 write-spec =
     tie.close
     (tie.spec
-    large-buffer-requires
-    array-borrow-prefix-text
-    slice-aggregate-write-script
-    write-script-requires
-    slice-aggregate-print-script
-    print-script-requires
-    returns
-    returns-2)
+    (λ c κs. search needs) (λ c. search needs) slice-aggregate-write-script (λ c κs. search needs)
+    slice-aggregate-print-script (λ c κs. search needs) (λ c. search needs) (λ c. search needs))

@@ -46,5 +46,6 @@ returns c =
 pub prepare-at-spec : {M : Type 1} → statement M
 prepare-at-spec =
     tie.close
-    (tie.spec (λ c κs. search needs) (λ c κs. search needs) (λ c κs. search needs) same-length same-length-2
-    same-length-3 returns)
+    (tie.spec
+    (λ c κs. search needs) (λ c κs. search needs) (λ c κs. search needs) same-length same-length-2 same-length-3
+    returns)

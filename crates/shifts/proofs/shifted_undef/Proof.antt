@@ -33,6 +33,6 @@ returns c =
 pub shifted-undef-spec : {M : Type 1} → statement M
 shifted-undef-spec =
     tie.close
-    (tie.spec (λ c κs. search needs) (λ c. search needs) (λ c κs. search needs) (λ c. search needs)
-    (λ c. search needs) (λ c κs. search needs) (λ c κs. search needs) same-length (λ c. search needs)
-    (λ c. search needs) returns)
+    (tie.spec
+    (λ c κs. search needs) (λ c. search needs) (λ c κs. search needs) (λ c. search needs) (λ c. search needs)
+    (λ c κs. search needs) (λ c κs. search needs) same-length (λ c. search needs) (λ c. search needs) returns)

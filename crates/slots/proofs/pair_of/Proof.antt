@@ -38,4 +38,5 @@ returns-4 c =
 pub pair-of-spec : {M : Type 1} → statement M
 pair-of-spec =
     tie.close
-    (tie.spec returns (λ c κs. search needs) (λ c κs. search needs) returns-2 returns-3 returns-4)
+    (tie.spec
+    returns (λ c κs. search needs) (λ c κs. search needs) returns-2 returns-3 returns-4)

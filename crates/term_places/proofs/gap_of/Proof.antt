@@ -7,14 +7,8 @@ use Rattle.term_places.proofs.gap_of.Tie as tie
 returns : tie.Need-returns
 returns c = rw (eq-eqb _ _ (c .if1 .taken))
 
-div-result : tie.Need-div-result
-div-result c = search needs
-
-cast-result : tie.Need-cast-result
-cast-result c = search needs
-
 returns-2 : tie.Need-returns-2
 returns-2 c = rw (ne-eqb _ _ (c .if1 .left))
 
 pub gap-of-spec : {M : Type 1} → statement M
-gap-of-spec = tie.close (tie.spec returns div-result cast-result returns-2)
+gap-of-spec = tie.close (tie.spec returns (λ c. search needs) (λ c. search needs) returns-2)

@@ -4,30 +4,6 @@ use borrow.Author.Tests.{eq-eqb, ne-eqb}
 use Rattle.term_places.proofs.note_place.Statement.{statement}
 use Rattle.term_places.proofs.note_place.Tie as tie
 
-operation-at-requires : tie.Need-operation-at-requires
-operation-at-requires c κs = search needs
-
-makes-term-requires : tie.Need-makes-term-requires
-makes-term-requires c κs = search needs
-
-add-step : tie.Need-add-step
-add-step c = search needs
-
-rem-if2 : tie.Need-rem-if2
-rem-if2 c = search needs
-
-div-put : tie.Need-div-put
-div-put c = search needs
-
-cast-put : tie.Need-cast-put
-cast-put c = search needs
-
-put-requires : tie.Need-put-requires
-put-requires c κs = search needs
-
-same-length : tie.Need-same-length
-same-length c = search needs
-
 returns : tie.Need-returns
 returns c =
     let put = c .before .before in
@@ -58,14 +34,5 @@ pub note-place-spec : {M : Type 1} → statement M
 note-place-spec =
     tie.close
     (tie.spec
-    operation-at-requires
-    makes-term-requires
-    add-step
-    rem-if2
-    div-put
-    cast-put
-    put-requires
-    same-length
-    returns
-    returns-2
-    returns-3)
+    (λ c κs. search needs) (λ c κs. search needs) (λ c. search needs) (λ c. search needs) (λ c. search needs)
+    (λ c. search needs) (λ c κs. search needs) (λ c. search needs) returns returns-2 returns-3)

@@ -4,19 +4,10 @@ use borrow.Author.Needs.{needs}
 use Rattle.term_table.proofs.earlier_origin.Statement.{statement}
 use Rattle.term_table.proofs.earlier_origin.Tie as tie
 
-enum-known-origin : tie.Need-enum-known-origin
-enum-known-origin c = search needs
-
-enum-known-origin-2 : tie.Need-enum-known-origin-2
-enum-known-origin-2 c = search needs
-
 returns : tie.Need-returns
 returns c =
     let at-origin2 = c .before .before .before in
     rw (at-origin2 .origin2 .given .1, lt-ltb _ _ (c .if1 .taken))
-
-enum-known-origin-3 : tie.Need-enum-known-origin-3
-enum-known-origin-3 c = search needs
 
 returns-2 : tie.Need-returns-2
 returns-2 c =
@@ -45,12 +36,5 @@ pub earlier-origin-spec : {M : Type 1} → statement M
 earlier-origin-spec =
     tie.close
     (tie.spec
-    enum-known-origin
-    enum-known-origin-2
-    returns
-    enum-known-origin-3
-    returns-2
-    returns-3
-    returns-4
-    returns-5
+    (λ c. search needs) (λ c. search needs) returns (λ c. search needs) returns-2 returns-3 returns-4 returns-5
     returns-6)

@@ -4,9 +4,6 @@ use borrow.Author.Tests.{lt-ltb, le-ltb}
 use Rattle.term_table.proofs.is_recent.Statement.{statement}
 use Rattle.term_table.proofs.is_recent.Tie as tie
 
-sub-result : tie.Need-sub-result
-sub-result c = search needs
-
 returns : tie.Need-returns
 returns c = rw (lt-ltb _ _ (c .if1 .taken))
 
@@ -17,6 +14,4 @@ pub is-recent-spec : {M : Type 1} → statement M
 is-recent-spec =
     tie.close
     (tie.spec
-    sub-result
-    returns
-    returns-2)
+    (λ c. search needs) returns returns-2)

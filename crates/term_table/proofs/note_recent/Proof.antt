@@ -7,15 +7,6 @@ use Rattle.term_table.proofs.NearLaws.{record-low}
 use Rattle.term_table.proofs.note_recent.Statement.{statement}
 use Rattle.term_table.proofs.note_recent.Tie as tie
 
-operation-at-requires : tie.Need-operation-at-requires
-operation-at-requires c κs = search needs
-
-makes-term-requires : tie.Need-makes-term-requires
-makes-term-requires c κs = search needs
-
-sort-at-requires : tie.Need-sort-at-requires
-sort-at-requires c κs = search needs
-
 put-recent-requires : tie.Need-put-recent-requires
 put-recent-requires c κs =
     let args = c .before .before .before .before .before .before .before .before .before .before .before .args in
@@ -23,9 +14,6 @@ put-recent-requires c κs =
     record-low (args .sorts .now) (args .recent .now) (args .places .now) (args .gap) (args .calls .now)
     (args .terms) (args .at) in
     omega (arith, low, c .before .sort-at .ensures)
-
-same-length : tie.Need-same-length
-same-length c = search needs
 
 returns : tie.Need-returns
 returns c =
@@ -50,11 +38,5 @@ pub note-recent-spec : {M : Type 1} → statement M
 note-recent-spec =
     tie.close
     (tie.spec
-    operation-at-requires
-    makes-term-requires
-    sort-at-requires
-    put-recent-requires
-    same-length
-    returns
-    returns-2
-    returns-3)
+    (λ c κs. search needs) (λ c κs. search needs) (λ c κs. search needs) put-recent-requires (λ c. search needs)
+    returns returns-2 returns-3)

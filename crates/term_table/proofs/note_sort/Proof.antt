@@ -5,15 +5,6 @@ use Rattle.term_table.proofs.NearLaws.{record-low}
 use Rattle.term_table.proofs.note_sort.Statement.{statement}
 use Rattle.term_table.proofs.note_sort.Tie as tie
 
-operation-at-requires : tie.Need-operation-at-requires
-operation-at-requires c κs = search needs
-
-makes-term-requires : tie.Need-makes-term-requires
-makes-term-requires c κs = search needs
-
-sort-at-requires : tie.Need-sort-at-requires
-sort-at-requires c κs = search needs
-
 put-byte-requires : tie.Need-put-byte-requires
 put-byte-requires c κs =
     let args = c .before .before .before .before .before .before .before .before .before .before .before .args in
@@ -30,12 +21,6 @@ put-recent-requires c κs =
     record-low (args .sorts .now) (args .recent .now) (args .places .now) (args .gap) (args .calls .now)
     (args .terms) (args .at) in
     omega (arith, low, sorted .sort-at .ensures)
-
-same-length : tie.Need-same-length
-same-length c = search needs
-
-same-length-2 : tie.Need-same-length-2
-same-length-2 c = search needs
 
 returns : tie.Need-returns
 returns c =
@@ -70,12 +55,5 @@ pub note-sort-spec : {M : Type 1} → statement M
 note-sort-spec =
     tie.close
     (tie.spec
-    operation-at-requires
-    makes-term-requires
-    sort-at-requires
-    put-byte-requires
-    put-recent-requires
-    same-length
-    same-length-2
-    returns
-    returns-2)
+    (λ c κs. search needs) (λ c κs. search needs) (λ c κs. search needs) put-byte-requires put-recent-requires
+    (λ c. search needs) (λ c. search needs) returns returns-2)

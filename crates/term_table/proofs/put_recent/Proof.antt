@@ -11,15 +11,6 @@ use Rattle.term_table.proofs.put_recent.Tie as tie
 returns : tie.Need-returns
 returns c = rw (le-leb _ _ (c .before .if1 .taken)) (sym (set-out _ _ _ (omega (arith, c .if2 .taken))))
 
-rem-slot : tie.Need-rem-slot
-rem-slot c = search needs
-
-put-byte-requires : tie.Need-put-byte-requires
-put-byte-requires c κs = search needs
-
-same-length : tie.Need-same-length
-same-length c = search needs
-
 returns-2 : tie.Need-returns-2
 returns-2 c =
     let put = c .before .before in
@@ -33,9 +24,4 @@ pub put-recent-spec : {M : Type 1} → statement M
 put-recent-spec =
     tie.close
     (tie.spec
-    returns
-    rem-slot
-    put-byte-requires
-    same-length
-    returns-2
-    returns-3)
+    returns (λ c. search needs) (λ c κs. search needs) (λ c. search needs) returns-2 returns-3)

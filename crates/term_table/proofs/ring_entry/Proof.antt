@@ -9,12 +9,6 @@ use Rattle.term_table.proofs.ring_entry.Tie as tie
 returns : tie.Need-returns
 returns c = sym (List·getD-eq-default (c .before .before .args .recent .now) 0 (omega (arith, c .if1 .taken)))
 
-rem-entry : tie.Need-rem-entry
-rem-entry c = search needs
-
-entry-requires : tie.Need-entry-requires
-entry-requires c κs = search needs
-
 returns-2 : tie.Need-returns-2
 returns-2 c = c .entry .ensures
 
@@ -22,7 +16,4 @@ pub ring-entry-spec : {M : Type 1} → statement M
 ring-entry-spec =
     tie.close
     (tie.spec
-    returns
-    rem-entry
-    entry-requires
-    returns-2)
+    returns (λ c. search needs) (λ c κs. search needs) returns-2)

@@ -4,17 +4,8 @@ use borrow.Author.Tests.{lt-ltb, le-ltb}
 use Rattle.term_table.proofs.term_origin.Statement.{statement}
 use Rattle.term_table.proofs.term_origin.Tie as tie
 
-entry-requires : tie.Need-entry-requires
-entry-requires c κs = search needs
-
 returns : tie.Need-returns
 returns c = rw (lt-ltb _ _ (c .before .if1 .taken), c .entry .ensures)
-
-is-recent-requires : tie.Need-is-recent-requires
-is-recent-requires c κs = search needs
-
-ring-entry-requires : tie.Need-ring-entry-requires
-ring-entry-requires c κs = search needs
 
 returns-2 : tie.Need-returns-2
 returns-2 c =
@@ -25,15 +16,6 @@ returns-2 c =
       c .before .if2 .taken,
       c .ring-entry .ensures,
     )
-
-near-place-requires : tie.Need-near-place-requires
-near-place-requires c κs = search needs
-
-origin-at-requires : tie.Need-origin-at-requires
-origin-at-requires c κs = search needs
-
-earlier-origin-requires : tie.Need-earlier-origin-requires
-earlier-origin-requires c κs = search needs
 
 returns-3 : tie.Need-returns-3
 returns-3 c =
@@ -52,12 +34,5 @@ pub term-origin-spec : {M : Type 1} → statement M
 term-origin-spec =
     tie.close
     (tie.spec
-    entry-requires
-    returns
-    is-recent-requires
-    ring-entry-requires
-    returns-2
-    near-place-requires
-    origin-at-requires
-    earlier-origin-requires
-    returns-3)
+    (λ c κs. search needs) returns (λ c κs. search needs) (λ c κs. search needs) returns-2 (λ c κs. search needs)
+    (λ c κs. search needs) (λ c κs. search needs) returns-3)

@@ -13,15 +13,9 @@ use Rattle.term_table.proofs.NearLaws.{near-below, via-given}
 use Rattle.term_table.proofs.term_sort.Statement.{statement}
 use Rattle.term_table.proofs.term_sort.Tie as tie
 
-shared-slice-read-capped-sum : tie.Need-shared-slice-read-capped-sum
-shared-slice-read-capped-sum c = search needs
-
 cast-capped-sum : tie.Need-cast-capped-sum
 cast-capped-sum c =
     omega (arith, c .shared-slice-known5 .given (c .before .before .before .before .before .before .args .term))
-
-capped-sum-requires : tie.Need-capped-sum-requires
-capped-sum-requires c κs = search needs
 
 returns : tie.Need-returns
 returns c =
@@ -40,9 +34,6 @@ returns c =
     (let z : 0 + getD (args .sorts .now) (args .term) 0 ≡ getD (args .sorts .now) (args .term) 0 = omega arith in z)
     ∙ sym (via-given known below (args .term) given)
 
-sort-through-requires : tie.Need-sort-through-requires
-sort-through-requires c κs = search needs
-
 returns-2 : tie.Need-returns-2
 returns-2 c = c .sort-through .ensures
 
@@ -50,9 +41,4 @@ pub term-sort-spec : {M : Type 1} → statement M
 term-sort-spec =
     tie.close
     (tie.spec
-    shared-slice-read-capped-sum
-    cast-capped-sum
-    capped-sum-requires
-    returns
-    sort-through-requires
-    returns-2)
+    (λ c. search needs) cast-capped-sum (λ c κs. search needs) returns (λ c κs. search needs) returns-2)

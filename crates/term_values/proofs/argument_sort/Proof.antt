@@ -4,15 +4,6 @@ use borrow.Author.Tests.{lt-ltb, le-ltb}
 use Rattle.term_values.proofs.argument_sort.Statement.{statement}
 use Rattle.term_values.proofs.argument_sort.Tie as tie
 
-argument-at-requires : tie.Need-argument-at-requires
-argument-at-requires c κs = search needs
-
-cast-if1 : tie.Need-cast-if1
-cast-if1 c = search needs
-
-term-sort-requires : tie.Need-term-sort-requires
-term-sort-requires c κs = search needs
-
 returns : tie.Need-returns
 returns c = rw (← c .before .before .argument-at .ensures, lt-ltb _ _ (c .before .if1 .taken), c .term-sort .ensures)
 
@@ -23,8 +14,4 @@ pub argument-sort-spec : {M : Type 1} → statement M
 argument-sort-spec =
     tie.close
     (tie.spec
-    argument-at-requires
-    cast-if1
-    term-sort-requires
-    returns
-    returns-2)
+    (λ c κs. search needs) (λ c. search needs) (λ c κs. search needs) returns returns-2)

@@ -6,57 +6,6 @@ use Rattle.term_values.proofs.binary_value.Tie as tie
 enum-told : tie.Need-enum-told
 enum-told c = search needs
 
-bvand-requires : tie.Need-bvand-requires
-bvand-requires c κs = search needs
-
-enum-told-2 : tie.Need-enum-told-2
-enum-told-2 c = search needs
-
-bvor-requires : tie.Need-bvor-requires
-bvor-requires c κs = search needs
-
-enum-told-3 : tie.Need-enum-told-3
-enum-told-3 c = search needs
-
-bvxor-requires : tie.Need-bvxor-requires
-bvxor-requires c κs = search needs
-
-enum-told-4 : tie.Need-enum-told-4
-enum-told-4 c = search needs
-
-bvadd-requires : tie.Need-bvadd-requires
-bvadd-requires c κs = search needs
-
-enum-told-5 : tie.Need-enum-told-5
-enum-told-5 c = search needs
-
-bvcomp-requires : tie.Need-bvcomp-requires
-bvcomp-requires c κs = search needs
-
-enum-told-6 : tie.Need-enum-told-6
-enum-told-6 c = search needs
-
-bvshl-requires : tie.Need-bvshl-requires
-bvshl-requires c κs = search needs
-
-enum-told-7 : tie.Need-enum-told-7
-enum-told-7 c = search needs
-
-bvlshr-requires : tie.Need-bvlshr-requires
-bvlshr-requires c κs = search needs
-
-enum-told-8 : tie.Need-enum-told-8
-enum-told-8 c = search needs
-
-bvashr-requires : tie.Need-bvashr-requires
-bvashr-requires c κs = search needs
-
-enum-told-9 : tie.Need-enum-told-9
-enum-told-9 c = search needs
-
-bvmul-requires : tie.Need-bvmul-requires
-bvmul-requires c κs = search needs
-
 returns : tie.Need-returns
 returns c = rw (c .before .enum-told .given .1, c .bvand .ensures)
 
@@ -88,30 +37,8 @@ pub binary-value-spec : {M : Type 1} → statement M
 binary-value-spec =
     tie.close
     (tie.spec
-    enum-told
-    bvand-requires
-    enum-told-2
-    bvor-requires
-    enum-told-3
-    bvxor-requires
-    enum-told-4
-    bvadd-requires
-    enum-told-5
-    bvcomp-requires
-    enum-told-6
-    bvshl-requires
-    enum-told-7
-    bvlshr-requires
-    enum-told-8
-    bvashr-requires
-    enum-told-9
-    bvmul-requires
-    returns
-    returns-2
-    returns-3
-    returns-4
-    returns-5
-    returns-6
-    returns-7
-    returns-8
-    returns-9)
+    enum-told (λ c κs. search needs) (λ c. search needs) (λ c κs. search needs) (λ c. search needs)
+    (λ c κs. search needs) (λ c. search needs) (λ c κs. search needs) (λ c. search needs) (λ c κs. search needs)
+    (λ c. search needs) (λ c κs. search needs) (λ c. search needs) (λ c κs. search needs) (λ c. search needs)
+    (λ c κs. search needs) (λ c. search needs) (λ c κs. search needs) returns returns-2 returns-3 returns-4 returns-5
+    returns-6 returns-7 returns-8 returns-9)

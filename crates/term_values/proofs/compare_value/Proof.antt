@@ -6,15 +6,6 @@ use Rattle.term_values.proofs.compare_value.Tie as tie
 enum-told : tie.Need-enum-told
 enum-told c = search needs
 
-bvult-requires : tie.Need-bvult-requires
-bvult-requires c κs = search needs
-
-enum-told-2 : tie.Need-enum-told-2
-enum-told-2 c = search needs
-
-bvslt-requires : tie.Need-bvslt-requires
-bvslt-requires c κs = search needs
-
 returns : tie.Need-returns
 returns c = rw (c .before .enum-told .given .1, c .bvult .ensures)
 
@@ -23,4 +14,4 @@ returns-2 c = rw (c .before .enum-told2 .given .1, c .bvslt .ensures)
 
 pub compare-value-spec : {M : Type 1} → statement M
 compare-value-spec =
-    tie.close (tie.spec enum-told bvult-requires enum-told-2 bvslt-requires returns returns-2)
+    tie.close (tie.spec enum-told (λ c κs. search needs) (λ c. search needs) (λ c κs. search needs) returns returns-2)

@@ -3,21 +3,6 @@ use borrow.Author.Needs.{needs}
 use Rattle.term_values.proofs.concat_value.Statement.{statement}
 use Rattle.term_values.proofs.concat_value.Tie as tie
 
-argument-sort-requires : tie.Need-argument-sort-requires
-argument-sort-requires c κs = search needs
-
-argument-sort-requires-2 : tie.Need-argument-sort-requires-2
-argument-sort-requires-2 c κs = search needs
-
-argument-value-requires : tie.Need-argument-value-requires
-argument-value-requires c κs = search needs
-
-argument-value-requires-2 : tie.Need-argument-value-requires-2
-argument-value-requires-2 c κs = search needs
-
-concat-requires : tie.Need-concat-requires
-concat-requires c κs = search needs
-
 returns : tie.Need-returns
 returns c =
     let low = c .before in
@@ -35,9 +20,5 @@ pub concat-value-spec : {M : Type 1} → statement M
 concat-value-spec =
     tie.close
     (tie.spec
-    argument-sort-requires
-    argument-sort-requires-2
-    argument-value-requires
-    argument-value-requires-2
-    concat-requires
-    returns)
+    (λ c κs. search needs) (λ c κs. search needs) (λ c κs. search needs) (λ c κs. search needs)
+    (λ c κs. search needs) returns)

@@ -20,12 +20,6 @@ abbrev μ-loop : tie.MeasureT-loop
 loop-holds : tie.Need-loop-holds Inv-loop μ-loop
 loop-holds c = (omega arith, decimal-length 19 (c .args .n) (omega arith))
 
-add-count : tie.Need-add-count Inv-loop μ-loop
-add-count c = search needs
-
-loop-less : tie.Need-loop-less Inv-loop μ-loop
-loop-less c = search needs
-
 loop-again : tie.Need-loop-again Inv-loop μ-loop
 loop-again c =
     let looped = c .before in
@@ -33,32 +27,20 @@ loop-again c =
     let four = length-above (looped .loop .left) (omega arith) in
     (omega (arith, inv .0, four), inv .1)
 
-add-result : tie.Need-add-result Inv-loop μ-loop
-add-result c = search needs
-
 returns : tie.Need-returns Inv-loop μ-loop
 returns c =
     let inv = c .before .before .loop .inv in
     omega (arith, inv .0, length-one _ (c .if1 .taken))
-
-add-result-2 : tie.Need-add-result-2 Inv-loop μ-loop
-add-result-2 c = search needs
 
 returns-2 : tie.Need-returns-2 Inv-loop μ-loop
 returns-2 c =
     let inv = c .before .before .before .loop .inv in
     omega (arith, inv .0, length-two _ (c .before .if1 .left) (c .if2 .taken))
 
-add-result-3 : tie.Need-add-result-3 Inv-loop μ-loop
-add-result-3 c = search needs
-
 returns-3 : tie.Need-returns-3 Inv-loop μ-loop
 returns-3 c =
     let inv = c .before .before .before .before .loop .inv in
     omega (arith, inv .0, length-three _ (c .before .if2 .left) (c .if3 .taken))
-
-add-result-4 : tie.Need-add-result-4 Inv-loop μ-loop
-add-result-4 c = search needs
 
 returns-4 : tie.Need-returns-4 Inv-loop μ-loop
 returns-4 c =
@@ -70,17 +52,5 @@ pub digit-count-spec : {M : Type 1} → statement M
 digit-count-spec =
     tie.close
     (tie.spec
-    Inv-loop
-    μ-loop
-    loop-holds
-    add-count
-    loop-less
-    loop-again
-    add-result
-    returns
-    add-result-2
-    returns-2
-    add-result-3
-    returns-3
-    add-result-4
-    returns-4)
+    Inv-loop μ-loop loop-holds (λ c. search needs) (λ c. search needs) loop-again (λ c. search needs) returns
+    (λ c. search needs) returns-2 (λ c. search needs) returns-3 (λ c. search needs) returns-4)

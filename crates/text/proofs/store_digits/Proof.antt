@@ -12,41 +12,17 @@ Inv-loop text₀ at n count left₀ end₀ text left end = Stored text₀ at n t
 abbrev μ-loop : tie.MeasureT-loop
 μ-loop text₀ at n count left₀ end₀ text left end = left
 
-add-end : tie.Need-add-end Inv-loop μ-loop
-add-end c = search needs
-
 loop-holds : tie.Need-loop-holds Inv-loop μ-loop
 loop-holds c = stored-none _ _ _ _ (c .before .pre .0)
 
 sub-end : tie.Need-sub-end Inv-loop μ-loop
 sub-end c = stored-before (c .before .loop .inv) (c .loop-test .taken)
 
-add-set-byte : tie.Need-add-set-byte Inv-loop μ-loop
-add-set-byte c = search needs
-
-cast-set-byte : tie.Need-cast-set-byte Inv-loop μ-loop
-cast-set-byte c = search needs
-
-set-byte-requires : tie.Need-set-byte-requires Inv-loop μ-loop
-set-byte-requires c κs = search needs
-
-loop-less : tie.Need-loop-less Inv-loop μ-loop
-loop-less c = search needs
-
 loop-again : tie.Need-loop-again Inv-loop μ-loop
 loop-again c =
     let written = c .before .before in
     let turn = written .before .before in
     rw (written .set-byte .ensures) (stored-more (turn .before .loop .inv) (turn .loop-test .taken))
-
-add-set-byte-2 : tie.Need-add-set-byte-2 Inv-loop μ-loop
-add-set-byte-2 c = search needs
-
-cast-set-byte-2 : tie.Need-cast-set-byte-2 Inv-loop μ-loop
-cast-set-byte-2 c = search needs
-
-set-byte-requires-2 : tie.Need-set-byte-requires-2 Inv-loop μ-loop
-set-byte-requires-2 c κs = search needs
 
 same-length : tie.Need-same-length Inv-loop μ-loop
 same-length c =
@@ -63,18 +39,6 @@ pub store-digits-spec : {M : Type 1} → statement M
 store-digits-spec =
     tie.close
     (tie.spec
-    Inv-loop
-    μ-loop
-    add-end
-    loop-holds
-    sub-end
-    add-set-byte
-    cast-set-byte
-    set-byte-requires
-    loop-less
-    loop-again
-    add-set-byte-2
-    cast-set-byte-2
-    set-byte-requires-2
-    same-length
-    returns)
+    Inv-loop μ-loop (λ c. search needs) loop-holds sub-end (λ c. search needs) (λ c. search needs)
+    (λ c κs. search needs) (λ c. search needs) loop-again (λ c. search needs) (λ c. search needs)
+    (λ c κs. search needs) same-length returns)

@@ -31,5 +31,6 @@ returns c =
 pub tv-bind-spec : {M : Type 1} → statement M
 tv-bind-spec =
     tie.close
-    (tie.spec (λ c κs. search needs) (λ c κs. search needs) (λ c κs. search needs) (λ c κs. search needs)
+    (tie.spec
+    (λ c κs. search needs) (λ c κs. search needs) (λ c κs. search needs) (λ c κs. search needs)
     (λ c κs. search needs) same-length returns)

@@ -19,4 +19,5 @@ returns c =
 pub tv-is0-spec : {M : Type 1} → statement M
 tv-is0-spec =
     tie.close
-    (tie.spec (λ c κs. search needs) (λ c κs. search needs) (λ c κs. search needs) (λ c. search needs) returns)
+    (tie.spec
+    (λ c κs. search needs) (λ c κs. search needs) (λ c κs. search needs) (λ c. search needs) returns)

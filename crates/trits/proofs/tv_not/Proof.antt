@@ -16,4 +16,5 @@ returns c =
 pub tv-not-spec : {M : Type 1} → statement M
 tv-not-spec =
     tie.close
-    (tie.spec (λ c κs. search needs) (λ c κs. search needs) (λ c. search needs) returns)
+    (tie.spec
+    (λ c κs. search needs) (λ c κs. search needs) (λ c. search needs) returns)

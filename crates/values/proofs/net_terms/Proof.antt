@@ -97,6 +97,7 @@ returns c =
 pub net-terms-spec : {M : Type 1} → statement M
 net-terms-spec =
     tie.close
-    (tie.spec Inv-loop μ-loop loop-holds cast-word-at add-word-at (λ c κs. search needs) (λ c κs. search needs)
+    (tie.spec
+    Inv-loop μ-loop loop-holds cast-word-at add-word-at (λ c κs. search needs) (λ c κs. search needs)
     (λ c κs. search needs) (λ c κs. search needs) add-i loop-less loop-again same-length same-length-2 same-length-3
     same-length-4 returns)

@@ -80,18 +80,6 @@ pub bv-concat-spec : {M : Type 1} → statement M
 bv-concat-spec =
     tie.close
     (tie.spec
-    Inv-loop
-    μ-loop
-    returns
-    (λ c. omega arith)
-    (λ c. omega arith)
-    (λ c κs. search needs)
-    loop-holds
-    (λ c. omega arith)
-    (λ c. omega arith)
-    (λ c κs. search needs)
-    (λ c κs. search needs)
-    (λ c. omega arith)
-    loop-again
-    same-length
-    returns-2)
+    Inv-loop μ-loop returns (λ c. omega arith) (λ c. omega arith) (λ c κs. search needs) loop-holds
+    (λ c. omega arith) (λ c. omega arith) (λ c κs. search needs) (λ c κs. search needs) (λ c. omega arith) loop-again
+    same-length returns-2)

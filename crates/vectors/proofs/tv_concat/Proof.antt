@@ -79,16 +79,5 @@ pub tv-concat-spec : {M : Type 1} → statement M
 tv-concat-spec =
     tie.close
     (tie.spec
-    Inv-loop
-    μ-loop
-    returns
-    (λ c. omega arith)
-    (λ c κs. search needs)
-    loop-holds
-    (λ c. omega arith)
-    (λ c κs. search needs)
-    (λ c κs. search needs)
-    (λ c. omega arith)
-    loop-again
-    same-length
-    returns-2)
+    Inv-loop μ-loop returns (λ c. omega arith) (λ c κs. search needs) loop-holds (λ c. omega arith)
+    (λ c κs. search needs) (λ c κs. search needs) (λ c. omega arith) loop-again same-length returns-2)

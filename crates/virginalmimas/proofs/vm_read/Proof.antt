@@ -7,18 +7,6 @@ use borrow.Author.Needs.{needs}
 use Rattle.virginalmimas.proofs.vm_read.Statement.{statement}
 use Rattle.virginalmimas.proofs.vm_read.Tie as tie
 
-read-design-requires : tie.Need-read-design-requires
-read-design-requires c κs = search needs
-
-enum-known-f : tie.Need-enum-known-f
-enum-known-f c = search needs
-
-packed-fault-requires : tie.Need-packed-fault-requires
-packed-fault-requires c κs = search needs
-
-enum-known-x : tie.Need-enum-known-x
-enum-known-x c = search needs
-
 add-result : tie.Need-add-result
 add-result c =
     omega (arith, table-low _ (sym (c .before .before .before .read-design .ensures .same) ∙ c .before .x .given .1))
@@ -38,10 +26,5 @@ pub vm-read-spec : {M : Type 1} → statement M
 vm-read-spec =
     tie.close
     (tie.spec
-    read-design-requires
-    enum-known-f
-    packed-fault-requires
-    enum-known-x
-    add-result
-    returns
+    (λ c κs. search needs) (λ c. search needs) (λ c κs. search needs) (λ c. search needs) add-result returns
     returns-2)

@@ -15,4 +15,5 @@ returns c =
 pub vm-verify-spec : {M : Type 1} → statement M
 vm-verify-spec =
     tie.close
-    (tie.spec (λ c κs. search needs) (λ c κs. search needs) (λ c. search needs) (λ c. search needs) returns)
+    (tie.spec
+    (λ c κs. search needs) (λ c κs. search needs) (λ c. search needs) (λ c. search needs) returns)
