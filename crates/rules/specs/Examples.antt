@@ -18,6 +18,7 @@ trits = reverse
 abbrev nets : List Trit → List Net
 nets ts = map constant (trits ts)
 
+-- The trits 0, 1 and X, as document 01 writes them.
 abbrev O : Trit
 O = Zero
 
