@@ -22,7 +22,7 @@ use Rattle.cell_reader.proofs.AcceptedLaws.{length-patterns}
 use Rattle.cell_reader.specs.Accepted.{IsLeading, IsRecord}
 use Rattle.bound.specs.Costs.{sumBy}
 use Rattle.bound.specs.Words.{recordWords, patternWords}
-use Rattle.accepted.proofs.Fields.{Stands, net, vector, Body, body-of, patterns-shaped}
+use Rattle.accepted.proofs.Fields.{NetStands, net, vector, Body, body-of, patterns-shaped}
 
 -- Fault 7: the least n that an operation asks is what its rule needs.
 pub wide-binary : (op : Binary) (n : ℕ) → (binaryLeast op ≤ n → Wide op n) × (Wide op n → binaryLeast op ≤ n)
@@ -43,7 +43,7 @@ wide-shift C.xshr n = (λ _. tt, λ _. omega arith)
 -- A cell whose numbers stand from a place on, its nets from `start` on, and whose record ends at `end`.
 pub record IsCell (w : List ℕ) (total at start end : ℕ) (c : Cell) : Type 0 where
   pub shaped : Shaped c
-  pub stands : Each (Stands w total start end) (netsOf c)
+  pub stands : Each (NetStands w total start end) (netsOf c)
   pub bounded : Bounded c
   pub words : end + 1 ≡ at + recordWords c
 

@@ -44,7 +44,7 @@ known-within total p known = go (ltb p (2 ^ 29)) (netOf p) known
     go false (slot i) e = let z : _≡_ {A = ℕ} 0 1 = cc in absurd (omega arith)
 
 -- A net of a net or control word between two places, within the total.
-pub record Stands (w : List ℕ) (total from to : ℕ) (net : Net) : Type 0 where
+pub record NetStands (w : List ℕ) (total from to : ℕ) (net : Net) : Type 0 where
   pub place : ℕ
   pub low : from ≤ place
   pub high : place < to
@@ -63,7 +63,7 @@ module _ (w : List ℕ) (total : ℕ) where
   Named end from to = (at : ℕ) → from ≤ at → at < to → IsNet w total true end at
 
   pub net :
-      {end from to : ℕ} → Named end from to → (at : ℕ) → from ≤ at → at < to → Stands w total from end (netIn w at)
+      {end from to : ℕ} → Named end from to → (at : ℕ) → from ≤ at → at < to → NetStands w total from end (netIn w at)
   net named at low high =
       let is = named at low high in
       record {
@@ -77,10 +77,10 @@ module _ (w : List ℕ) (total : ℕ) where
 
   pub vector :
       {end from to : ℕ} → Named end from to → (n at : ℕ) → from ≤ at → at + n ≤ to →
-      Vector (Stands w total from end) n (netsIn w n at)
+      Vector (NetStands w total from end) n (netsIn w n at)
   vector {end} {from} named n at low high = record {
     size = length-tab n _;
-    each = each-tab (Stands w total from end) n (λ i. netIn w (at + i))
+    each = each-tab (NetStands w total from end) n (λ i. netIn w (at + i))
         (λ i l. net named (at + i) (omega arith) (omega arith));
   }
 

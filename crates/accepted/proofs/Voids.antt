@@ -36,7 +36,7 @@ use Rattle.placing.specs.Cover as Cover
 use Rattle.placing.specs.Cover.{Walk, placed}
 use Rattle.design_list.specs.Read.{read, accepted}
 use Rattle.design_list.proofs.AcceptedLaws.{accepted-read}
-use Rattle.accepted.proofs.Fields.{each-tab, Stands, Body, body-of}
+use Rattle.accepted.proofs.Fields.{each-tab, NetStands, Body, body-of}
 use Rattle.accepted.proofs.Cells.{cell-read}
 use Rattle.accepted.proofs.Replacements.{Climb, done, taken, IsReplacement, IsPair}
 use Rattle.accepted.proofs.Laid.{walk-run, cell-takes, not-void, Stages, stages}
@@ -95,7 +95,7 @@ module _ (w : List ℕ) (d : Design) (run : Run 0 (d .cells) (total d)) where
     plain :
         (op : Operation) {n m start : ℕ} → numbersOf op .count ≤ 3 →
         IsLeading w (numbersOf op) end (at + 1) n m start → Clean 0 (at + 1) end →
-        Each (Stands w (total d) start end) (netsOf (cellIn w op (at + 1))) →
+        Each (NetStands w (total d) start end) (netsOf (cellIn w op (at + 1))) →
         Each (NoVoid d) (netsOf (cellIn w op (at + 1)))
     unfolding Clean
     plain op few leading clean =
@@ -137,7 +137,7 @@ module _ (w : List ℕ) (d : Design) (run : Run 0 (d .cells) (total d)) where
         (op : Operation) {n m start : ℕ} → IsLeading w (numbersOf op) end (at + 1) n m start →
         Body w (total d) (fieldsOf op n m) n end start →
         Clean (cond (standsDff (standingOf op)) (at + 3) 0) (at + 1) end →
-        Each (Stands w (total d) start end) (netsOf (cellIn w op (at + 1))) →
+        Each (NetStands w (total d) start end) (netsOf (cellIn w op (at + 1))) →
         Each (NoVoid d) (netsBesideClock (cellIn w op (at + 1)))
     cell-avoids O.Void l b c s = plain O.Void (omega arith) l c s
     cell-avoids O.Note l b c s = plain O.Note (omega arith) l c s

@@ -48,6 +48,6 @@ unfolding digits.span digits.climb digits.size table.tab bits.bv2nat bits.nat2bv
     builder.enabled builder.resetTo builder.loaded builder.cleared builder.dffCell builder.adcCell builder.cell
     emit.emit _>>=_ design.cellIn reading.replacementIn reading.nodeOf order.claim order.newCell order.replaceNet
     order.replaceVoidNet order.joinPasts order.currents order.newCellIn order.eachCell order.eachPair order.work
-    order.query order.asked order.verify answer.temporaries answer.verified answer.callWords answer.marks
+    order.query order.askedCalls order.verify answer.temporaries answer.verified answer.callWords answer.marks
     answer.callsAfter answer.recordedAfter
 equal = refl

@@ -18,7 +18,7 @@ use Rattle.tokens.specs.Token.{Token}
 use Rattle.reply.specs.Reply.{Result, Reader, got, refused, return, onGot, pairs, pairSpelled}
 use Rattle.reply.specs.Step.{slotPair, trit, entryOf}
 use Rattle.answer.specs.Reply.{shownFirst, table}
-use Rattle.answer.specs.Entries.{entries, written, forget}
+use Rattle.answer.specs.Entries.{entries, entriesWritten, forget}
 
 -- One slot more.
 module _ (marks : List ℕ) (i : ℕ) (inside : i < length marks) (tokens : List Token) where
@@ -40,14 +40,14 @@ module _ (marks : List ℕ) (i : ℕ) (inside : i < length marks) (tokens : List
   pub put-turn : (trits : List ℕ) {trits1 : List ℕ} {number : ℕ} {rest : List Token} → entryOf i (getD marks i 0) tokens
       ≡ got number rest
       → trits1 ≡ set trits i number
-      → overwrite trits i (written i (drop i marks) tokens)
-      ≡ overwrite trits1 (i + 1) (written (i + 1) (drop (i + 1) marks) rest)
-  unfolding written
+      → overwrite trits i (entriesWritten i (drop i marks) tokens)
+      ≡ overwrite trits1 (i + 1) (entriesWritten (i + 1) (drop (i + 1) marks) rest)
+  unfolding entriesWritten
   put-turn trits e put = rw (put, drop-cons marks i 0 inside, e, add-one i, overwrite-more trits i, add-one i)
 
   pub put-fault : (trits : List ℕ) {e : Fault} → entryOf i (getD marks i 0) tokens ≡ refused e
-      → overwrite trits i (written i (drop i marks) tokens) ≡ trits
-  unfolding written
+      → overwrite trits i (entriesWritten i (drop i marks) tokens) ≡ trits
+  unfolding entriesWritten
   put-fault trits e = rw (drop-cons marks i 0 inside, e) (overwrite-none trits i)
 
 module _ (marks : List ℕ) (i : ℕ) (past : length marks ≤ i) (tokens : List Token) where
@@ -55,8 +55,8 @@ module _ (marks : List ℕ) (i : ℕ) (past : length marks ≤ i) (tokens : List
   unfolding entries
   entries-done = rw (drop-of-length-le marks past)
 
-  pub put-done : (trits : List ℕ) → overwrite trits i (written i (drop i marks) tokens) ≡ trits
-  unfolding written
+  pub put-done : (trits : List ℕ) → overwrite trits i (entriesWritten i (drop i marks) tokens) ≡ trits
+  unfolding entriesWritten
   put-done trits = rw (drop-of-length-le marks past) (overwrite-none trits i)
 
 -- What was read before a result that met no fault.
@@ -67,18 +67,18 @@ got-before (refused x) f e = let z : _≡_ {A = ℕ} 0 1 = cc in absurd (omega a
 
 -- Where no fault is met, what is written are all entries, one for each mark.
 pub record Whole (slot : ℕ) (marks : List ℕ) (tokens : List Token) (numbers : List ℕ) : Type 0 where
-  pub all : written slot marks tokens ≡ numbers
+  pub all : entriesWritten slot marks tokens ≡ numbers
   pub each : length numbers ≡ length marks
 
 more : (slot mark : ℕ) (marks : List ℕ) (tokens : List Token) {number : ℕ} {rest : List Token} {numbers all : List ℕ}
     → entryOf slot mark tokens ≡ got number rest → Whole (suc slot) marks rest numbers → all ≡ number ∷ numbers
     → Whole slot (mark ∷ marks) tokens all
-unfolding written
+unfolding entriesWritten
 more slot mark marks tokens e rest split = record { all = rw (e, rest .all, split); each = rw (split, rest .each) }
 
 pub whole : (slot : ℕ) (marks : List ℕ) (tokens : List Token) {numbers : List ℕ} {left : List Token}
     → entries slot marks tokens ≡ got numbers left → Whole slot marks tokens numbers
-unfolding entries written
+unfolding entries entriesWritten
 whole slot [] tokens {numbers} e = let none : numbers ≡ [] = cc in record { all = cc; each = rw none }
 whole slot (mark ∷ marks) tokens {numbers} e =
     let first = got-before (entryOf slot mark tokens) _ e in

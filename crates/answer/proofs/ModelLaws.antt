@@ -10,7 +10,7 @@ use lib.Seq.{drop-cons}
 use borrow.Author.Tests.{lt-ltb, le-ltb, eq-eqb, ne-eqb}
 use Rattle.logic.specs.declared.Fault.{Fault}
 use Rattle.engine.specs.Call.{Name}
-use Rattle.text.specs.Names.{askedFrom, asked}
+use Rattle.text.specs.Names.{askedFrom, askedNames}
 use Rattle.engine.specs.Emit.{overwrite}
 use Rattle.text.proofs.Write.{overwrite-fits}
 use Rattle.answer.specs.declared.Mark.the-variants.{Fine, Bad}
@@ -18,7 +18,7 @@ use Rattle.tokens.specs.Token.{Token, tokensOf}
 use Rattle.reply.specs.Reply.{Result, Reader, Reply, got, refused, return}
 use Rattle.reply.specs.Reply.{onGot, pairs, expect, ended, model, refuse, reply}
 use Rattle.answer.specs.Reply.{table, badMark, replyTo, tableAfter, answerOf, Read}
-use Rattle.answer.specs.Entries.{entries, written, forget, nothing}
+use Rattle.answer.specs.Entries.{entries, entriesWritten, forget, nothing}
 use Rattle.answer.proofs.EntriesLaws.{entries-table, whole}
 use Rattle.answer.specs.Model.{listed}
 
@@ -78,8 +78,9 @@ module _ (names : List Name) (tokens : List Token) where
 
 -- The entries scanned tell of the pairs.
 module _ (marks : List ℕ) (tokens : List Token) where
-  pub scanned-fault : {e : Fault} → forget (entries 0 marks tokens) ≡ refused e → pairs (asked marks) tokens ≡ refused e
-  scanned-fault {e} scanned = go (pairs (asked marks) tokens) (rw (entries-table 0 marks tokens) at scanned)
+  pub scanned-fault : {e : Fault} → forget (entries 0 marks tokens) ≡ refused e
+      → pairs (askedNames marks) tokens ≡ refused e
+  scanned-fault {e} scanned = go (pairs (askedNames marks) tokens) (rw (entries-table 0 marks tokens) at scanned)
     where
       go : (r : Result (List Bool)) → forget (onGot r (λ bits. return (table marks bits))) ≡ refused e → r ≡ refused e
       go (got bits left) q = let z : _≡_ {A = ℕ} 0 1 = cc in absurd (omega arith)
@@ -90,22 +91,22 @@ module _ (marks : List ℕ) (tokens : List Token) where
           q′ h = cc
 
   pub scanned : {left : List Token} → forget (entries 0 marks tokens) ≡ got tt left
-      → (bits : List Bool) × (pairs (asked marks) tokens ≡ got bits left)
+      → (bits : List Bool) × (pairs (askedNames marks) tokens ≡ got bits left)
       × (entries 0 marks tokens ≡ got (table marks bits) left)
-  scanned {left} scan = go (pairs (asked marks) tokens) refl (rw (entries-table 0 marks tokens) at scan)
+  scanned {left} scan = go (pairs (askedNames marks) tokens) refl (rw (entries-table 0 marks tokens) at scan)
     where
-      go : (r : Result (List Bool)) → pairs (asked marks) tokens ≡ r →
+      go : (r : Result (List Bool)) → pairs (askedNames marks) tokens ≡ r →
           forget (onGot r (λ bits. return (table marks bits))) ≡ got tt left
-          → (bits : List Bool) × (pairs (asked marks) tokens ≡ got bits left)
+          → (bits : List Bool) × (pairs (askedNames marks) tokens ≡ got bits left)
           × (entries 0 marks tokens ≡ got (table marks bits) left)
       go (got bits u) e q = let same : u ≡ left = cc in (bits, rw same at e, rw (entries-table 0 marks tokens, e, same))
       go (refused x) e q = let z : _≡_ {A = ℕ} 0 1 = cc in absurd (omega arith)
 
 -- With nothing asked, every entry is absent.
-pub nothing-table : (marks : List ℕ) (tokens : List Token) → nothing (asked marks) ≡ true → entries 0 marks tokens
+pub nothing-table : (marks : List ℕ) (tokens : List Token) → nothing (askedNames marks) ≡ true → entries 0 marks tokens
     ≡ got (table marks []) tokens
 unfolding pairs
-nothing-table marks tokens e = rw (entries-table 0 marks tokens, empty (asked marks) e)
+nothing-table marks tokens e = rw (entries-table 0 marks tokens, empty (askedNames marks) e)
   where
     empty : (names : List Name) → nothing names ≡ true → names ≡ []
     empty [] e = refl
@@ -122,7 +123,7 @@ module _ (text marks : List ℕ) (room : ℕ) where
   reply-room e short = rw (e, lt-ltb _ _ short)
 
   pub reply-text : badMark 0 marks ≡ Fine → length marks ≤ room → replyTo text marks room
-      ≡ reply (asked marks) (tokensOf text)
+      ≡ reply (askedNames marks) (tokensOf text)
   unfolding replyTo
   reply-text e fits = rw (e, le-ltb _ _ fits)
 
@@ -137,7 +138,8 @@ module _ (text marks before : List ℕ) where
 pub table-written : (marks before : List ℕ) (tokens : List Token) {after : List ℕ} (bits : List Bool)
     {left : List Token}
     → length marks ≤ length before → entries 0 marks tokens ≡ got (table marks bits) left
-    → after ≡ overwrite before 0 (written 0 marks tokens) → after ≡ table marks bits ++ drop (length marks) before
+    → after ≡ overwrite before 0 (entriesWritten 0 marks tokens)
+    → after ≡ table marks bits ++ drop (length marks) before
 table-written marks before tokens bits room e w =
     let all = whole 0 marks tokens e in
     let fits : length (table marks bits) ≤ length before = rw (all .each) room in

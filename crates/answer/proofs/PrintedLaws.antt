@@ -15,7 +15,7 @@ use Rattle.engine.specs.Call.{Name, Letter}
 use Rattle.engine.specs.Call as c
 use Rattle.text.specs.Bytes.{ascii, decimal}
 use Rattle.text.proofs.BytesLaws.{decimal-digit, decimal-more}
-use Rattle.text.specs.Names.{nameText, letterText, suffixText, asked, askedFrom}
+use Rattle.text.specs.Names.{nameText, letterText, suffixText, askedNames, askedFrom}
 use Rattle.answer.specs.declared.Answer.the-variants.{Sat}
 use Rattle.answer.specs.declared.Mark.the-variants.{Fine}
 use Rattle.tokens.specs.Token.{tokens, tokensOf, run, white, parenthesis}
@@ -244,10 +244,11 @@ marks-fine (past t f) slot = marks-fine f (suc slot)
 -- X and any white space between the pairs, reads back as that table.
 pub reads-back : {marks entries : List ℕ} → Fits marks entries → (hidden : ℕ → Bool) (gap : List ℕ) → All white true gap
     → (before : List ℕ) → length marks ≤ length before
-    → Read (printed gap (asked marks) (bitsOfTable hidden 0 entries)) marks before
+    → Read (printed gap (askedNames marks) (bitsOfTable hidden 0 entries)) marks before
     (entries ++ drop (length marks) before) Sat
 reads-back {marks} {entries} fits hidden gap blank before room =
     let bits = bitsOfTable hidden 0 entries in
-    let said = model-reads gap blank (asked marks) bits (bits-length hidden fits 0) in
-    let whole = reply-text (printed gap (asked marks) bits) marks (length before) (marks-fine fits 0) room ∙ said in
+    let said = model-reads gap blank (askedNames marks) bits (bits-length hidden fits 0) in
+    let whole =
+    reply-text (printed gap (askedNames marks) bits) marks (length before) (marks-fine fits 0) room ∙ said in
     read-as _ marks before whole (rw (bits-table hidden fits 0))

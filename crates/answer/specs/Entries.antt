@@ -20,9 +20,9 @@ entries slot (mark ∷ marks) = do
   return (number ∷ numbers)
 
 -- The entries before the first fault.
-unfoldable pub written : ℕ → List ℕ → List Token → List ℕ
-written slot [] tokens = []
-written slot (mark ∷ marks) tokens = onEntry (entryOf slot mark tokens) (written (suc slot) marks)
+unfoldable pub entriesWritten : ℕ → List ℕ → List Token → List ℕ
+entriesWritten slot [] tokens = []
+entriesWritten slot (mark ∷ marks) tokens = onEntry (entryOf slot mark tokens) (entriesWritten (suc slot) marks)
 
 module _ {A : Type 0} where
   -- Where reading goes on, whatever was read.

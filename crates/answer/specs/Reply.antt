@@ -7,7 +7,7 @@ use lib.Dec.{ltb, eqb}
 use lib.ListN.{length, drop}
 use Rattle.logic.specs.Trit.{shows, readbackNumber}
 use Rattle.logic.specs.declared.Readback.the-variants.{Shown, Absent}
-use Rattle.text.specs.Names.{asked}
+use Rattle.text.specs.Names.{askedNames}
 use Rattle.tokens.specs.Token.{tokensOf}
 use Rattle.reply.specs.Reply.{Reply, unsat, sat, bad, refuse, reply}
 use Rattle.answer.specs.declared.Answer.{Answer}
@@ -28,7 +28,7 @@ onFine (Bad slot) r = refuse 2 slot
 unfoldable pub replyTo : List ℕ → List ℕ → ℕ → Reply
 replyTo text marks room =
     onFine (badMark 0 marks)
-    (cond (ltb room (length marks)) (refuse 15 (length marks)) (reply (asked marks) (tokensOf text)))
+    (cond (ltb room (length marks)) (refuse 15 (length marks)) (reply (askedNames marks) (tokensOf text)))
 
 -- The first two bits' trit, and the entries of the bits after them.
 abbrev pub shownFirst : List Bool → (List Bool → List ℕ) → List ℕ

@@ -5,13 +5,13 @@ use reply::Step;
 use reply::Verdict;
 ghost use mathlib.Core.Path.{_≡_};
 ghost use Rattle.engine.specs.Emit.{overwrite};
-ghost use Rattle.text.specs.Names.{asked};
+ghost use Rattle.text.specs.Names.{askedNames};
 ghost use Rattle.tokens.specs.Place.{tokensFrom};
 ghost use Rattle.reply.specs.Reply.{model};
 ghost use Rattle.reply.specs.Step.{stepResult};
 ghost use Rattle.answer.specs.Reply.{badMark, Read};
 ghost use Rattle.answer.specs.Model.{listed, Tabled};
-ghost use Rattle.answer.specs.Entries.{entries, written, forget, nothing};
+ghost use Rattle.answer.specs.Entries.{entries, entriesWritten, forget, nothing};
 
 // What a solver said. After sat the table is written; a refusal has document 01's number and the place of the byte or
 // mark at fault.
@@ -52,7 +52,7 @@ fn write_entries(text: &[u8], start: usize, recorded: &[u8], trits: &mut [u8])
     ensures { λ _.
         ⌜ now (trits .exit)
         ≡ overwrite (now (trits .entry)) 0
-        (written 0 (now (recorded .entry)) (tokensFrom (now (text .entry)) start)) ⌝ }
+        (entriesWritten 0 (now (recorded .entry)) (tokensFrom (now (text .entry)) start)) ⌝ }
 {
     let mut at = start;
     let mut slot = 0;
@@ -70,7 +70,7 @@ fn write_entries(text: &[u8], start: usize, recorded: &[u8], trits: &mut [u8])
 
 // Does no mark ask for a name?
 fn nothing_asked(recorded: &[u8]) -> bool
-    ensures { λ r. ⌜ r ≡ nothing (asked (now (recorded .entry))) ⌝ }
+    ensures { λ r. ⌜ r ≡ nothing (askedNames (now (recorded .entry))) ⌝ }
 {
     let mut slot = 0;
     while slot < recorded.len() {
@@ -104,7 +104,7 @@ fn bad_mark(recorded: &[u8]) -> Mark
 fn pairs_at(text: &[u8], first: usize, recorded: &[u8]) -> Step
     ensures { λ r.
         ⌜ Tabled (now (text .entry)) (now (recorded .entry))
-        (listed (asked (now (recorded .entry))) (tokensFrom (now (text .entry)) first)) r ⌝ }
+        (listed (askedNames (now (recorded .entry))) (tokensFrom (now (text .entry)) first)) r ⌝ }
 {
     match scan_entries(text, first, recorded) {
         Step::Refused(e) => Step::Refused(e),
@@ -122,7 +122,7 @@ fn pairs_at(text: &[u8], first: usize, recorded: &[u8]) -> Step
 fn model_at(text: &[u8], at: usize, recorded: &[u8]) -> Step
     ensures { λ r.
         ⌜ Tabled (now (text .entry)) (now (recorded .entry))
-        (model (asked (now (recorded .entry))) (tokensFrom (now (text .entry)) at)) r ⌝ }
+        (model (askedNames (now (recorded .entry))) (tokensFrom (now (text .entry)) at)) r ⌝ }
 {
     if nothing_asked(recorded) {
         return match reply::end_at(text, at) {

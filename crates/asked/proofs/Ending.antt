@@ -15,7 +15,7 @@ use Rattle.engine.specs.Encode.{Op, operationAt, countAt, callOf, callAt, bare,
 use Rattle.engine.specs.Encode as o
 use Rattle.engine.proofs.Steps.{calls-end, calls-step}
 use Rattle.text.specs.Bytes.{ascii}
-use Rattle.text.specs.Names.{nameText, namesOfMark, bothNames, askedFrom, asked}
+use Rattle.text.specs.Names.{nameText, namesOfMark, bothNames, askedFrom, askedNames}
 use Rattle.call_list.specs.Records.{firstCalls}
 use Rattle.call_list.proofs.RecordsLaws.{placeAfter, place-start, place-more, first-more, split}
 use Rattle.call_list.specs.Literal.{payloads}
@@ -184,7 +184,8 @@ unfolding spaced
 spaced-both letter slot = simp (append-nil, append-assoc)
 
 -- What get-value asks: nothing, or the pairs from the first slot on.
-pub value-none : {marks : List ℕ} {slot : ℕ} → FirstAsked marks slot → length marks ≤ slot → getValue (asked marks) ≡ []
+pub value-none : {marks : List ℕ} {slot : ℕ} → FirstAsked marks slot → length marks ≤ slot
+    → getValue (askedNames marks) ≡ []
 unfolding askedFrom
 value-none {marks} {slot} here past = rw (here .same, drop-of-length-le marks past)
 
@@ -201,7 +202,7 @@ value-pair x y rest =
 
 pub value-some : {marks : List ℕ} {slot : ℕ} (letter : c.Letter) → FirstAsked marks slot → slot < length marks
     → namesOfMark slot (getD marks slot 0) ≡ bothNames letter slot
-    → getValue (asked marks)
+    → getValue (askedNames marks)
     ≡ ascii "(get-value (" ++ pairNames letter slot ++ namesFrom marks (slot + 1) ++ ascii "))\n"
 value-some {marks} {slot} letter here inside e =
     ap getValue

@@ -9,7 +9,7 @@ ghost use Rattle.engine.specs.Encode.{callAt, decode};
 ghost use Rattle.engine.specs.Sorts as sorts;
 ghost use Rattle.engine.specs.Sorts.{leaves};
 ghost use Rattle.text.specs.Bytes.{ascii};
-ghost use Rattle.text.specs.Names.{nameText, namesOfMark, spelling, asked};
+ghost use Rattle.text.specs.Names.{nameText, namesOfMark, spelling, askedNames};
 ghost use Rattle.engine.specs.Emit.{Wrote};
 ghost use Rattle.pieces.specs.Text.{spaced};
 ghost use Rattle.asked.specs.Ending.{getValue, ending, checks, namesFrom, FirstAsked, valuesText};
@@ -132,7 +132,8 @@ fn put_values(text: &mut [u8], at: usize, letter: u8, recorded: &[u8], slot: usi
 
 // Writes the line that asks for the values of the names asked, if there are any.
 fn put_get_value(text: &mut [u8], at: usize, recorded: &[u8]) -> usize
-    ensures { λ r. ⌜ Wrote (now (text .entry)) at (getValue (asked (now (recorded .entry)))) (now (text .exit)) r ⌝ }
+    ensures { λ r. ⌜ Wrote (now (text .entry)) at (getValue (askedNames (now (recorded .entry))))
+        (now (text .exit)) r ⌝ }
 {
     let slot = first_asked(recorded);
     if slot < recorded.len() {
@@ -147,7 +148,7 @@ fn put_get_value(text: &mut [u8], at: usize, recorded: &[u8]) -> usize
 // Writes what follows the calls' lines.
 pub fn put_ending(text: &mut [u8], at: usize, calls: &[u32], recorded: &[u8]) -> usize
     ensures { λ r. ⌜ Wrote (now (text .entry)) at
-        (ending (leaves sorts.start (decode (now (calls .entry))) .checked) (asked (now (recorded .entry))))
+        (ending (leaves sorts.start (decode (now (calls .entry))) .checked) (askedNames (now (recorded .entry))))
         (now (text .exit)) r ⌝ }
 {
     if has_check(calls) {

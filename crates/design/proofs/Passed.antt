@@ -14,7 +14,7 @@ use Rattle.engine.proofs.EmitLaws.{length-overwrite}
 use Rattle.smt.specs.Prog.{_>>=_}
 use Rattle.smt.specs.Emit.{St, emit}
 use Rattle.design_list.specs.Read.{accepted, read}
-use Rattle.order.specs.Verify.{steps, start, built, query, asked, verify}
+use Rattle.order.specs.Verify.{steps, start, built, query, askedCalls, verify}
 use Rattle.order.proofs.Numbered.{terms-append, work-next}
 use Rattle.builder.specs.declared.Counts.{Counts}
 use Rattle.builder.specs.Ran.{stateOf}
@@ -26,15 +26,15 @@ use Rattle.running.specs.Passes.{nothing}
 use Rattle.requirement.proofs.Passes.{Passed}
 
 -- The query makes two terms.
-asked-terms : (l : List ℕ) (s : St) → terms (asked l s) ≡ queryTerms l
-unfolding asked query _>>=_ emit terms
+asked-terms : (l : List ℕ) (s : St) → terms (askedCalls l s) ≡ queryTerms l
+unfolding askedCalls query _>>=_ emit terms
 asked-terms [] s = refl
 asked-terms (o ∷ l) s = refl
 
 verify-terms : (d : Design) → terms (verify d) ≡ (built d) .st .next + queryTerms ((built d) .res)
 unfolding verify
 verify-terms d =
-    let all = terms-append ((built d) .calls) (asked ((built d) .res) ((built d) .st)) in
+    let all = terms-append ((built d) .calls) (askedCalls ((built d) .res) ((built d) .st)) in
     let next = work-next (steps d) (start (total d)) in
     let more = asked-terms ((built d) .res) ((built d) .st) in
     omega arith
@@ -62,11 +62,11 @@ module _ (w : List ℕ) {d : Design} {reps pairs : ℕ} (is : read w ≡ accepte
       let ask =
       asks names₁ marks₁ record { short = omega arith; low = let e = ran .wrote .count in omega arith }
       (omega arith) (omega arith) in
-      let same : asked eqs (stateOf c₁ names₁ marks₁) ≡ asked ((built d) .res) ((built d) .st) =
-      ap₂ asked (sym (ran .res)) (sym (ran .state)) in
+      let same : askedCalls eqs (stateOf c₁ names₁ marks₁) ≡ askedCalls ((built d) .res) ((built d) .st) =
+      ap₂ askedCalls (sym (ran .res)) (sym (ran .state)) in
       let query =
       subst (λ (cs : List Call). Wrote calls₁ (c₁ .words) (encode cs) calls₂ (c₂ .words)) same (ask .wrote) in
-      let all = wrote-calls ((built d) .calls) (asked ((built d) .res) ((built d) .st)) (ran .wrote) query short in
+      let all = wrote-calls ((built d) .calls) (askedCalls ((built d) .res) ((built d) .st)) (ran .wrote) query short in
       let queried : queryTerms eqs ≡ queryTerms ((built d) .res) = ap queryTerms (sym (ran .res)) in
       let made = ask .terms in
       let kept = ask .temporaries in

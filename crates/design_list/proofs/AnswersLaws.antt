@@ -16,7 +16,7 @@ use Rattle.items.specs.Step.{Step, onStep}
 use Rattle.items.specs.Step as T
 use Rattle.design_list.specs.declared.DesignRead.{DesignRead}
 use Rattle.design_list.specs.declared.DesignRead.the-variants as D
-use Rattle.placing.specs.Slots.{covering, atSlot, isVoid, marks}
+use Rattle.placing.specs.Slots.{covering, atSlot, isVoid, slotWords}
 use Rattle.items.specs.Items.{Reading, refuse, push, replaces, ascending, cellRepsFrom, netRepsFrom, finishAt}
 use Rattle.placing.specs.Cells.{counted}
 use Rattle.items.specs.Marks.{atSlotIn}
@@ -88,15 +88,15 @@ module _ (w : List ℕ) (h : Header) where
   -- After the cells, with the table that they leave.
   pub cells-answer :
       (t : List ℕ) {count next : ℕ} → h .base + h .added ≤ length t → C.Read count next ≡ counted (cellsRead w h) →
-      cellRepsAnswer w (replaces (atSlotIn (sets t 0 (marks (h .base) ((cellsRead w h) .items)))) (h .base))
-      (isVoidIn (sets t 0 (marks (h .base) ((cellsRead w h) .items))) (h .base)) h count next
+      cellRepsAnswer w (replaces (atSlotIn (sets t 0 (slotWords (h .base) ((cellsRead w h) .items)))) (h .base))
+      (isVoidIn (sets t 0 (slotWords (h .base) ((cellsRead w h) .items))) (h .base)) h count next
       ≡ answer (readCells w h)
   unfolding readCells
   cells-answer t {count} {next} room read = go ((cellsRead w h) .scan) refl read
     where
       after : (cellsRead w h) .scan ≡ S.Clean next → count ≡ length ((cellsRead w h) .items) →
-          cellRepsAnswer w (replaces (atSlotIn (sets t 0 (marks (h .base) ((cellsRead w h) .items)))) (h .base))
-          (isVoidIn (sets t 0 (marks (h .base) ((cellsRead w h) .items))) (h .base)) h count next
+          cellRepsAnswer w (replaces (atSlotIn (sets t 0 (slotWords (h .base) ((cellsRead w h) .items)))) (h .base))
+          (isVoidIn (sets t 0 (slotWords (h .base) ((cellsRead w h) .items))) (h .base)) h count next
           ≡ answer (readCellReps w h ((cellsRead w h) .items) next)
       after clean many =
           let walk = walk-cells w (h .base) (h .added) next clean in
@@ -111,8 +111,8 @@ module _ (w : List ℕ) (h : Header) where
       go :
           (s : Scan) → (cellsRead w h) .scan ≡ s →
           C.Read count next ≡ onScan s C.Refused (λ (next : ℕ). C.Read (length ((cellsRead w h) .items)) next) →
-          cellRepsAnswer w (replaces (atSlotIn (sets t 0 (marks (h .base) ((cellsRead w h) .items)))) (h .base))
-          (isVoidIn (sets t 0 (marks (h .base) ((cellsRead w h) .items))) (h .base)) h count next
+          cellRepsAnswer w (replaces (atSlotIn (sets t 0 (slotWords (h .base) ((cellsRead w h) .items)))) (h .base))
+          (isVoidIn (sets t 0 (slotWords (h .base) ((cellsRead w h) .items))) (h .base)) h count next
           ≡ answer (onScan s refused (λ (cellRepsAt : ℕ). readCellReps w h ((cellsRead w h) .items) cellRepsAt))
       go (S.Refused f) s e = let z : _≡_ {A = ℕ} 0 1 = cc in absurd (omega arith)
       go (S.Clean n) s e =

@@ -19,7 +19,7 @@ use Rattle.items.specs.declared.Header.{Header}
 use Rattle.design_list.specs.declared.Extent.{Extent}
 use Rattle.design_list.specs.declared.DesignRead.the-variants as D
 use Rattle.design_list.specs.declared.SlotTable.{SlotTable}
-use Rattle.placing.specs.Slots.{covering, atSlot, isVoid, markOf, marks}
+use Rattle.placing.specs.Slots.{covering, atSlot, isVoid, markOf, slotWords}
 use Rattle.items.specs.Items.{replaces, cellRepsFrom, netRepsFrom, finishAt}
 use Rattle.voids.specs.Voids.{voidsAt}
 use Rattle.design_list.specs.Read.{Read, refused, accepted, readNetReps, readCellReps, readCells, read}
@@ -46,7 +46,7 @@ stored-scan t t′ (S.Clean n) f same = same n
 stored-scan t t′ (S.Refused e) f same = tt
 
 pub stored-cells :
-    (w : List ℕ) (h : Header) (t t′ : List ℕ) → t′ ≡ sets t 0 (marks (h .base) (cellsRead w h .items)) →
+    (w : List ℕ) (h : Header) (t t′ : List ℕ) → t′ ≡ sets t 0 (slotWords (h .base) (cellsRead w h .items)) →
     Stored (readCells w h) t t′
 unfolding Stored readCells readCellReps readNetReps
 stored-cells w h t t′ same =
@@ -127,14 +127,14 @@ module _ (w : List ℕ) where
       let known = accepted-read w accepts in
       let low : total d ≤ 4096 = known .low in
       let walk = walk-cells w (d .base) (d .added) replacements (known .cells-read) in
-      let size : length (marks (d .base) (d .cells)) ≡ n = length-map (covering (d .cells)) (markOf (d .base))
+      let size : length (slotWords (d .base) (d .cells)) ≡ n = length-map (covering (d .cells)) (markOf (d .base))
       ∙ rw (known .cells-are) (walk-total walk) ∙ sym same in
-      let held : t′ ≡ sets t 0 (marks (d .base) (d .cells)) = rw accepts at stored in
-      let front : take n t′ ≡ marks (d .base) (d .cells) =
-      rw (held, sets-eq (marks (d .base) (d .cells)) t 0 (omega arith))
-      (take-at (marks (d .base) (d .cells)) (drop (0 + length (marks (d .base) (d .cells))) t) n size) in
+      let held : t′ ≡ sets t 0 (slotWords (d .base) (d .cells)) = rw accepts at stored in
+      let front : take n t′ ≡ slotWords (d .base) (d .cells) =
+      rw (held, sets-eq (slotWords (d .base) (d .cells)) t 0 (omega arith))
+      (take-at (slotWords (d .base) (d .cells)) (drop (0 + length (slotWords (d .base) (d .cells))) t) n size) in
       rw (front, accepts, le-ltb (length out) (total d) (omega arith), ← same)
-      (sets-eq (marks (d .base) (d .cells)) out 0 (omega arith) ∙ rw (size, zero-add))
+      (sets-eq (slotWords (d .base) (d .cells)) out 0 (omega arith) ∙ rw (size, zero-add))
 
   module _ {x : Extent} (same : answer (read w) ≡ D.Accepted x) where
     pub table-low : x .base + x .added ≤ 4096

@@ -13,7 +13,7 @@ use Rattle.design_list.specs.declared.DesignRead.{DesignRead}
 use Rattle.design_list.specs.declared.DesignRead.the-variants as D
 use Rattle.design_list.specs.declared.SlotTable.{SlotTable}
 use Rattle.design_list.specs.declared.SlotTable.the-variants as T
-use Rattle.placing.specs.Slots.{marks}
+use Rattle.placing.specs.Slots.{slotWords}
 use Rattle.design_list.specs.Read.{Read, refused, accepted, answer, readValue}
 
 -- The answer, by the length of the slice: a slice with a word for every slot is filled, a shorter one is fault 14 at
@@ -27,7 +27,7 @@ tableAnswer (D.Accepted x) room =
 abbrev pub tableAfter : Read → List ℕ → List ℕ
 tableAfter (refused e) out = out
 tableAfter (accepted d replacements pairs) out =
-    cond (ltb (length out) (total d)) out (marks (d .base) (d .cells) ++ drop (total d) out)
+    cond (ltb (length out) (total d)) out (slotWords (d .base) (d .cells) ++ drop (total d) out)
 
 -- Document 01's number of an answer, 0 where the slice is filled, and its value: the place of the fault, or base +
 -- added.
@@ -54,4 +54,4 @@ pub record Tabled (r : Read) (before after : List ℕ) (a : SlotTable) : Type 0 
 -- What the reader's own table holds after an accepted list.
 unfoldable pub Stored : Read → List ℕ → List ℕ → Type 0
 Stored (refused e) t t′ = Unit {0}
-Stored (accepted d replacements pairs) t t′ = t′ ≡ sets t 0 (marks (d .base) (d .cells))
+Stored (accepted d replacements pairs) t t′ = t′ ≡ sets t 0 (slotWords (d .base) (d .cells))

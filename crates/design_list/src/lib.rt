@@ -8,7 +8,7 @@ ghost use mathlib.Core.Path.{_≡_};
 ghost use Prim.Native.Nat.{_+_, _-_, _<_, _≤_};
 ghost use lib.ListN.{length, take, drop};
 ghost use lib.Seq.{sets};
-ghost use Rattle.placing.specs.Slots.{marks};
+ghost use Rattle.placing.specs.Slots.{slotWords};
 ghost use Rattle.items.specs.Items.{replaces};
 ghost use Rattle.items.specs.Marks.{atSlotIn};
 ghost use Rattle.voids.specs.Marks.{isVoidIn};
@@ -110,7 +110,7 @@ fn read_cells(list: &[u32], header: Header, table: &mut [u32]) -> DesignRead
     requires { ⌜ (header .base + header .added ≤ 4096) × (header .base + header .added ≤ length (now table)) ⌝ }
     ensures { λ r. ⌜ (r ≡ answer (readCells (now (list .entry)) header))
         × (now (table .exit) ≡ sets (now (table .entry)) 0
-        (marks (header .base) (cellsRead (now (list .entry)) header .items))) ⌝ }
+        (slotWords (header .base) (cellsRead (now (list .entry)) header .items))) ⌝ }
 {
     match placing::cells_at(list, header.base as u16, header.added as u16, table) {
         Cells::Refused(f) => DesignRead::Refused(f),

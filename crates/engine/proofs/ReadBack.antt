@@ -519,14 +519,14 @@ head-back word e = omega arith
 -- ---- a record at its place
 
 -- What a head that stands says.
-pub record Stands (x : Context) (w : List ℕ) (at : ℕ) : Type 0 where
+pub record HeadStands (x : Context) (w : List ℕ) (at : ℕ) : Type 0 where
   pub unchecked : x .checked ≡ false
   pub head : kindOf (getD w at 0) ≡ 2
   pub whole : at + countAt w at < length w
   pub counted : countFits (operationAt w at) (countAt w at) (argumentAt bare w at 0) ≡ true
   pub new : again x w at ≡ false
 
-pub stands : (x : Context) (w : List ℕ) (at : ℕ) → headStands x w at ≡ true → Stands x w at
+pub stands : (x : Context) (w : List ℕ) (at : ℕ) → headStands x w at ≡ true → HeadStands x w at
 stands x w at h =
     let t0 = not (x .checked) in
     let t1 = eqb (kindOf (getD w at 0)) 2 in

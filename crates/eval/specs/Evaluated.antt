@@ -70,6 +70,6 @@ abbrev pub answer : List ℕ → List ℕ → ℕ → Evaluation
 answer w given room = judged (outcome w) w given room
 
 -- The value slice after: every term's number, and on refusal what was there.
-abbrev pub written : Evaluation → List ℕ → List ℕ → List ℕ → List ℕ
-written (Evaluated n) w given slice = overwrite slice 0 (map valueNumber (termValues w given))
-written (Refused fault) w given slice = slice
+abbrev pub valuesAfter : Evaluation → List ℕ → List ℕ → List ℕ → List ℕ
+valuesAfter (Evaluated n) w given slice = overwrite slice 0 (map valueNumber (termValues w given))
+valuesAfter (Refused fault) w given slice = slice

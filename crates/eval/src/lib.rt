@@ -10,7 +10,7 @@ ghost use Rattle.engine.specs.Encode.{decode};
 ghost use Rattle.engine.specs.Emit.{overwrite};
 ghost use Rattle.engine.specs.Meaning.{valueAt};
 ghost use Rattle.term_values.specs.Values.{valueNumber};
-ghost use Rattle.eval.specs.Evaluated.{falseAssertions, termValues, refused, answer, written};
+ghost use Rattle.eval.specs.Evaluated.{falseAssertions, termValues, refused, answer, valuesAfter};
 ghost use Rattle.eval.specs.Evaluable.{Evaluable};
 
 // What evaluating a call list answers: how many assertions are false, or the fault.
@@ -92,7 +92,7 @@ fn evaluate_by(
     names: &mut [u8],
 ) -> Evaluation
     ensures { λ r. ⌜ (r ≡ answer (now (calls .entry)) (now (bits .entry)) (length (now (values .entry))))
-        × (now (values .exit) ≡ written r (now (calls .entry)) (now (bits .entry)) (now (values .entry))) ⌝ }
+        × (now (values .exit) ≡ valuesAfter r (now (calls .entry)) (now (bits .entry)) (now (values .entry))) ⌝ }
 {
     match checker::check_by(calls, places, gap, sorts, recent, names) {
         CallList::Malformed(at) => refusal(19, at),
@@ -129,7 +129,7 @@ pub fn evaluate_with(
     names: &mut [u8],
 ) -> Evaluation
     ensures { λ r. ⌜ (r ≡ answer (now (calls .entry)) (now (bits .entry)) (length (now (values .entry))))
-        × (now (values .exit) ≡ written r (now (calls .entry)) (now (bits .entry)) (now (values .entry))) ⌝ }
+        × (now (values .exit) ≡ valuesAfter r (now (calls .entry)) (now (bits .entry)) (now (values .entry))) ⌝ }
 {
     let mut recent = [0u8; 256];
     let mut places = [0u32; 128];
@@ -149,7 +149,7 @@ pub fn evaluate_with(
 // The number of every term under the bits of the declared names, and how many assertions are false (faults 19 and 20).
 pub fn evaluate(calls: &[u32], bits: &[u64], values: &mut [u64]) -> Evaluation
     ensures { λ r. ⌜ (r ≡ answer (now (calls .entry)) (now (bits .entry)) (length (now (values .entry))))
-        × (now (values .exit) ≡ written r (now (calls .entry)) (now (bits .entry)) (now (values .entry))) ⌝ }
+        × (now (values .exit) ≡ valuesAfter r (now (calls .entry)) (now (bits .entry)) (now (values .entry))) ⌝ }
 {
     let mut sorts = [0u8; 40960];
     let mut recent = [0u8; 4096];

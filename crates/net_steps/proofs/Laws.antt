@@ -15,7 +15,7 @@ use Rattle.builder.specs.declared.Counts.{Counts}
 use Rattle.builder.specs.declared.Built.{Built}
 use Rattle.builder.specs.Ran.{stateOf, Lent, Fits, Ends, Ran, Writes}
 use Rattle.builder.proofs.Laws.{Grows, emit-grows, wrote-call, wrote-calls}
-use Rattle.order.specs.Verify.{Step, declared, asserted, obliged, work, query, asked}
+use Rattle.order.specs.Verify.{Step, declared, asserted, obliged, work, query, askedCalls}
 use Rattle.net_steps.specs.Did.{Did, Asserts, Asks}
 
 work-grows : (steps : List Step) (s : St) → Grows s ((work steps s) .st)
@@ -167,7 +167,7 @@ did-obliged {m} {calls} {names} {marks} {c = c} p =
 -- ---- check
 
 pub asks-nothing : (eqs : List ℕ) → length eqs ≡ 0 → (calls : List ℕ) (c : Counts) → Asks eqs calls c calls c
-unfolding asked encode
+unfolding askedCalls encode
 asks-nothing [] none calls c names marks lent fits fits′ =
     record { wrote = wrote-none calls (c .words) (lent .low); terms = omega arith; temporaries = refl }
 asks-nothing (o ∷ eqs) none calls c names marks lent fits fits′ = absurd (omega arith)
@@ -179,7 +179,7 @@ pub asks-query : (eqs : List ℕ) → (length eqs ≡ 0 → ⊥) →
     → Wrote calls₂ words (recordOf check) calls₃ (c₂ .words)
     → c₂ .terms ≡ c₁ .terms → c₂ .temporaries ≡ c₁ .temporaries
     → Asks eqs calls c calls₃ c₂
-unfolding asked query emit _>>=_
+unfolding askedCalls query emit _>>=_
 asks-query [] some wrote w₁ w₂ t₁ t₂ names marks lent fits fits′ = absurd (some refl)
 asks-query (o ∷ eqs) some {calls} {calls₁} {calls₂} {calls₃} {c} {c₁} {c₂} {term} {words} made w₁ w₂ t₁ t₂ names marks
     lent fits fits′ =

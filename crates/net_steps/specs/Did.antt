@@ -9,7 +9,7 @@ use Rattle.engine.specs.Emit.{Wrote}
 use Rattle.builder.specs.declared.Counts.{Counts}
 use Rattle.builder.specs.declared.Built.{Built}
 use Rattle.builder.specs.Ran.{stateOf, Lent, Fits, Ends}
-use Rattle.order.specs.Verify.{Step, work, asked}
+use Rattle.order.specs.Verify.{Step, work, askedCalls}
 
 pub record Did (steps : List Step) (calls names marks : List ℕ) (c : Counts) (calls′ names′ marks′ : List ℕ)
     (c′ : Counts) (terms : List ℕ) : Type 0 where
@@ -28,7 +28,7 @@ queryTerms [] = 0
 queryTerms (o ∷ more) = 2
 
 pub record Asked (eqs calls names marks : List ℕ) (c : Counts) (calls′ : List ℕ) (c′ : Counts) : Type 0 where
-  pub wrote : Wrote calls (c .words) (encode (asked eqs (stateOf c names marks))) calls′ (c′ .words)
+  pub wrote : Wrote calls (c .words) (encode (askedCalls eqs (stateOf c names marks))) calls′ (c′ .words)
   pub terms : c′ .terms ≡ c .terms + queryTerms eqs
   pub temporaries : c′ .temporaries ≡ c .temporaries
 

@@ -23,7 +23,7 @@ use Rattle.bitvec.proofs.Laws.{bv2nat-lt, nat2bv-of}
 use Rattle.cell_reader.specs.Parse.{tritOf, tritIn, tritsIn}
 use Rattle.smt.specs.Builder.{ilog2, shiftWidth}
 use Rattle.smt.proofs.ShowsShift.{ilog2-is, shiftWidth-narrow}
-use Rattle.operands.specs.Words.{Wide, packed, Packed}
+use Rattle.operands.specs.Words.{ShiftFits, packed, Packed}
 
 -- ---- prepare_shift
 
@@ -39,7 +39,7 @@ exponent-is stride e next here reached some past =
     ilog2-is (max stride 1) e reached below
 
 pub wide : (n m stride r : ℕ) → r ≡ min (shiftWidth n m stride) 4294967295 → n ≤ 64 → m ≤ 32 → stride < 2 ^ 29
-    → Wide n m stride r
+    → ShiftFits n m stride r
 unfolding shiftWidth
 wide n m stride r e hn hm hs =
     let low = shiftWidth-narrow n m stride hn hm hs in

@@ -34,7 +34,7 @@ abbrev pub extendedWords : Bool → List ℕ → ℕ → List ℕ
 extendedWords signed words w = words ++ replicate (w - length words) (extension signed words)
 
 -- A width at which a shift of n nets by an amount of m can be made: both fit.
-pub record Wide (n m stride width : ℕ) : Type 0 where
+pub record ShiftFits (n m stride width : ℕ) : Type 0 where
   pub exact : width ≡ shiftWidth n m stride
   pub narrow : width ≤ 64
   pub value : n ≤ width

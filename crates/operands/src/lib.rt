@@ -18,8 +18,8 @@ ghost use Rattle.logic.specs.declared.Trit.the-variants as t;
 ghost use Rattle.bitvec.specs.Bits.{bit, nat2bv};
 ghost use Rattle.cell_reader.specs.Parse.{netsIn, tritOf, tritIn, tritsIn};
 ghost use Rattle.smt.specs.Builder.{outputNets, extended, overwritten, ilog2, shiftWidth};
-ghost use Rattle.operands.specs.Words.{wordsIn, outputWords, msbWord, extension, extendedWords, Wide, packed};
-ghost use Rattle.operands.specs.Words.{Packed};
+ghost use Rattle.operands.specs.Words.{wordsIn, outputWords, msbWord, extension, extendedWords};
+ghost use Rattle.operands.specs.Words.{ShiftFits, packed, Packed};
 
 // n words from a place on, copied to another.
 fn copy(out: &mut [u32], to: u32, words: &[u32], from: u32, n: u32)
@@ -112,7 +112,7 @@ fn ilog2(stride: u32) -> u32
 // 2^32 - 1.
 pub fn shift_width(n: u32, m: u32, stride: u32) -> u32
     ensures width { λ r. ⌜ r ≡ min (shiftWidth n m stride) 4294967295 ⌝ }
-    ensures wide { λ r. ⌜ (n ≤ 64 → m ≤ 32 → stride < 2 ^ 29 → Wide n m stride r) ⌝ }
+    ensures wide { λ r. ⌜ (n ≤ 64 → m ≤ 32 → stride < 2 ^ 29 → ShiftFits n m stride r) ⌝ }
 {
     let needed = m as u64 + ilog2(stride) as u64 + 1;
     if needed <= n as u64 {

@@ -31,7 +31,7 @@ use Rattle.smt.specs.Prog.{curr}
 use Rattle.smt.specs.Builder.{outputNets}
 use Rattle.smt.specs.Formula.{TritBits, tb, NetBits, refinesBits}
 use Rattle.smt.proofs.Refines.{same-bits, refines-shows}
-use Rattle.smt.proofs.Shows.{Shown, Shows, empty, lane, shown-is}
+use Rattle.smt.proofs.Shows.{Shown, BitsShow, empty, lane, shown-is}
 use Rattle.smt.specs.CellBits.{currBits, netBit, cellBits}
 use Rattle.smt.specs.CellShows.{tritsOf}
 use Rattle.smt.proofs.CellShowsLaws.{read-shows, value-shows, cell-bits-show}
@@ -60,14 +60,14 @@ module _ (d : Design) (b : NetBits) where
   θ = tritsOf b
 
   pub current-shows : (nets : List Net) →
-      Shows (length nets) (currBits (readsPast d) b nets) (map (ofNet (θ .now)) nets)
+      BitsShow (length nets) (currBits (readsPast d) b nets) (map (ofNet (θ .now)) nets)
   current-shows = read-shows b (λ i. curr) (θ .now) (λ i. refl)
 
   -- The outputs of a cell.
   outputs-nets : (s w : ℕ) → map (ofNet (θ .now)) (outputNets s w) ≡ map (θ .now) (outputs s w)
   outputs-nets s w = map-tab (ofNet (θ .now)) w (λ (i : ℕ). slot (s + i)) ∙ sym (map-tab (θ .now) w (λ (i : ℕ). s + i))
 
-  pub outputs-show : (s w : ℕ) → Shows w (currBits (readsPast d) b (outputNets s w)) (map (θ .now) (outputs s w))
+  pub outputs-show : (s w : ℕ) → BitsShow w (currBits (readsPast d) b (outputNets s w)) (map (θ .now) (outputs s w))
   outputs-show s w = rw (length-tab w (λ (i : ℕ). slot (s + i)), outputs-nets s w) at (current-shows (outputNets s w))
 
   cell-shown : (s : ℕ) (a : Cell) → Shaped a → asserted a ≡ true → claimTest (readsPast d) s (outputLen a) a b ≡ true

@@ -31,13 +31,13 @@ lent (NothingAsked n) room = roomed room (NothingAsked n)
 lent (Asked n) room = roomed room (Asked n)
 
 -- Terms, temporaries and words in front of what the slice held.
-abbrev pub written : Counts → List ℕ → List ℕ
-written n before = (n .terms ∷ n .temporaries ∷ n .words ∷ []) ++ drop 3 before
+abbrev pub countsWritten : Counts → List ℕ → List ℕ
+countsWritten n before = (n .terms ∷ n .temporaries ∷ n .words ∷ []) ++ drop 3 before
 
 abbrev pub countsAfter : Verified → List ℕ → List ℕ
 countsAfter (Refused e) before = before
-countsAfter (NothingAsked n) before = written n before
-countsAfter (Asked n) before = written n before
+countsAfter (NothingAsked n) before = countsWritten n before
+countsAfter (Asked n) before = countsWritten n before
 
 -- What a slice of counts gets of an answer, and the answer packed.
 pub record Told (a : Verified) (before after : List ℕ) (r : ℕ) : Type 0 where

@@ -5,7 +5,7 @@ use requirement::Verified;
 ghost use mathlib.Core.Path.{_≡_};
 ghost use lib.ListN.{length};
 ghost use Prim.Native.Nat.{_≤_};
-ghost use Rattle.packed.specs.Verified.{packedVerified, lent, written, Told};
+ghost use Rattle.packed.specs.Verified.{packedVerified, lent, countsWritten, Told};
 
 // What the order of work answers, packed: its number from bit 48 on, whether anything is asked in bit 47, and below
 // it the call words or the place.
@@ -53,7 +53,7 @@ fn with_room(answer: Verified, room: usize) -> Verified
 // Terms, temporaries and words, in this order, in front of a slice.
 fn put_counts(n: Counts, into: &mut [u64])
     requires { ⌜ 3 ≤ length (now into) ⌝ }
-    ensures { λ _. ⌜ now (into .exit) ≡ written n (now (into .entry)) ⌝ }
+    ensures { λ _. ⌜ now (into .exit) ≡ countsWritten n (now (into .entry)) ⌝ }
 {
     into[0] = n.terms as u64;
     into[1] = n.temporaries as u64;

@@ -38,11 +38,11 @@ pub check-packed : {checked expected : CallList} {before after : List ℕ} {r : 
 check-packed same packed = rw same at packed
 
 pub evaluation-packed : (calls bits before after : List ℕ) {answer : Evaluation} {r : ℕ} → r ≡ packedEvaluation answer
-    → answer ≡ evaluated.answer calls bits (length before) → after ≡ evaluated.written answer calls bits before
+    → answer ≡ evaluated.answer calls bits (length before) → after ≡ evaluated.valuesAfter answer calls bits before
     → PackedEvaluation calls bits before after r
 evaluation-packed calls bits before after packed same stored = record {
   answers = packed ∙ ap packedEvaluation same;
-  writes = stored ∙ ap (λ (a : Evaluation). evaluated.written a calls bits before) same;
+  writes = stored ∙ ap (λ (a : Evaluation). evaluated.valuesAfter a calls bits before) same;
 }
 
 pub script-packed : (calls marks before after : List ℕ) {answer : Written} {r : ℕ} → r ≡ packedWritten answer

@@ -48,7 +48,7 @@ packedEvaluation (eval.Refused e) = packedFault e
 
 pub record PackedEvaluation (calls bits before after : List ℕ) (r : ℕ) : Type 0 where
   pub answers : r ≡ packedEvaluation (evaluated.answer calls bits (length before))
-  pub writes : after ≡ evaluated.written (evaluated.answer calls bits (length before)) calls bits before
+  pub writes : after ≡ evaluated.valuesAfter (evaluated.answer calls bits (length before)) calls bits before
 
 -- The writer's answer: below the fault number the number of bytes.
 abbrev pub packedWritten : Written → ℕ

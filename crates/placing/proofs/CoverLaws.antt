@@ -21,7 +21,7 @@ use Rattle.fields.specs.declared.Scan.the-variants as S
 use Rattle.cell_reader.specs.Parse.{cellAt}
 use Rattle.placing.specs.declared.Placing.{Placing}
 use Rattle.placing.specs.declared.Placing.the-variants as P
-use Rattle.placing.specs.Slots.{covering, nowhere, takes, atSlot, isVoid, standingNumber, markOf, marks}
+use Rattle.placing.specs.Slots.{covering, nowhere, takes, atSlot, isVoid, standingNumber, markOf, slotWords}
 use Rattle.items.specs.Items.{stop, refuse, push, AtSlot, replaces}
 use Rattle.placing.specs.Cells.{onPlacing, placedAt, cellsFrom, cellsOf}
 use Rattle.items.specs.Marks.{atSlotIn}
@@ -169,20 +169,21 @@ getD-any (x ∷ l) (suc i) d e low = getD-any l i d e (omega arith)
 
 -- The table, read back at a slot.
 module _ (base : ℕ) (cells : List Placed) (t : List ℕ) (room : length (covering cells) ≤ length t) where
-  pub table-at : (i : ℕ) → i < length (covering cells) → getD (sets t 0 (marks base cells)) i 0
+  pub table-at : (i : ℕ) → i < length (covering cells) → getD (sets t 0 (slotWords base cells)) i 0
       ≡ markOf base (takes cells i)
   table-at i low =
-      let size : length (marks base cells) ≡ length (covering cells) = length-map (covering cells) (markOf base) in
-      let below : i < length (marks base cells) = omega arith in
-      let stored : sets t 0 (marks base cells) ≡ marks base cells ++ drop (0 + length (marks base cells)) t =
-      sets-eq (marks base cells) t 0 (omega arith) in
+      let size : length (slotWords base cells) ≡ length (covering cells) = length-map (covering cells) (markOf base) in
+      let below : i < length (slotWords base cells) = omega arith in
+      let stored : sets t 0 (slotWords base cells)
+      ≡ slotWords base cells ++ drop (0 + length (slotWords base cells)) t =
+      sets-eq (slotWords base cells) t 0 (omega arith) in
       rw stored
-      (List·getD-append (marks base cells) (drop (0 + length (marks base cells)) t) 0 i below ∙
-      getD-any (marks base cells) i 0 (markOf base nowhere) below ∙
+      (List·getD-append (slotWords base cells) (drop (0 + length (slotWords base cells)) t) 0 i below ∙
+      getD-any (slotWords base cells) i 0 (markOf base nowhere) below ∙
       List·getD-map (markOf base) (covering cells) i nowhere)
 
   module _ (below-base : base ≤ length (covering cells)) (narrow : All Narrow cells) where
-    at-slot-same : (slot : ℕ) → slot < base → atSlotIn (sets t 0 (marks base cells)) slot ≡ atSlot cells slot
+    at-slot-same : (slot : ℕ) → slot < base → atSlotIn (sets t 0 (slotWords base cells)) slot ≡ atSlot cells slot
     at-slot-same slot low =
         let word = table-at slot (omega arith) in
         let small = takes-all Narrow cells (omega arith) narrow slot in
@@ -194,7 +195,7 @@ module _ (base : ℕ) (cells : List Placed) (t : List ℕ) (room : length (cover
           mark-width base (takes cells slot) small,
         )
 
-    pub replaces-same : replaces (atSlotIn (sets t 0 (marks base cells))) base ≡ replaces (atSlot cells) base
+    pub replaces-same : replaces (atSlotIn (sets t 0 (slotWords base cells))) base ≡ replaces (atSlot cells) base
     unfolding replaces
     replaces-same =
         fun-ext (λ least. fun-ext (λ slot. fun-ext (λ op. fun-ext (λ width.
@@ -206,19 +207,19 @@ module _ (base : ℕ) (cells : List Placed) (t : List ℕ) (room : length (cover
 
         go :
             (least slot : ℕ) (op : Operation) (width : ℕ) (b : Bool) → ltb slot base ≡ b →
-            right b (atSlotIn (sets t 0 (marks base cells)) slot) least slot op width
+            right b (atSlotIn (sets t 0 (slotWords base cells)) slot) least slot op width
             ≡ right b (atSlot cells slot) least slot op width
         go least slot op width false b = refl
         go least slot op width true b =
             ap (λ (s : AtSlot). right true s least slot op width) (at-slot-same slot (ltb-true _ _ b))
 
-    pub voids-same : isVoidIn (sets t 0 (marks base cells)) base ≡ isVoid cells base
+    pub voids-same : isVoidIn (sets t 0 (slotWords base cells)) base ≡ isVoid cells base
     unfolding isVoidIn isVoid
     voids-same = fun-ext (λ slot. go slot (ltb slot base) refl)
       where
         go :
             (slot : ℕ) (b : Bool) → ltb slot base ≡ b →
-            cond b (eqb (getD (sets t 0 (marks base cells)) slot 0 % 4) 0) false
+            cond b (eqb (getD (sets t 0 (slotWords base cells)) slot 0 % 4) 0) false
             ≡ cond b (standsVoid (standing (takes cells slot .cell))) false
         go slot false b = refl
         go slot true b =

@@ -27,7 +27,7 @@ use Rattle.cell_reader.specs.Accepted.{IsRecord}
 use Rattle.cell_reader.proofs.AcceptedLaws.{record-read, standing-at}
 use Rattle.placing.specs.declared.Placing.the-variants as P
 use Rattle.placing.specs.declared.Cells.the-variants as C
-use Rattle.placing.specs.Slots.{covering, markOf, markWord, marks}
+use Rattle.placing.specs.Slots.{covering, markOf, markWord, slotWords}
 use Rattle.items.specs.Items.{Reading, stop, push}
 use Rattle.placing.specs.Cells.{limitOf, placedAt, cellsFrom, cellsOf, counted}
 use Rattle.placing.specs.Placement.{IsPlaced}
@@ -41,12 +41,12 @@ map-replicate f zero x = refl
 map-replicate f (suc n) x = ap (λ l. f x ∷ l) (map-replicate f n x)
 
 -- The words of the slots of one cell and then of the others.
-pub marks-cons : (base : ℕ) (c : Placed) (cs : List Placed) → marks base (c ∷ cs)
-    ≡ replicate (slotsOf (c .cell)) (markOf base c) ++ marks base cs
+pub marks-cons : (base : ℕ) (c : Placed) (cs : List Placed) → slotWords base (c ∷ cs)
+    ≡ replicate (slotsOf (c .cell)) (markOf base c) ++ slotWords base cs
 unfolding covering
 marks-cons base c cs =
     map-append (markOf base) (replicate (slotsOf (c .cell)) c) (covering cs) ∙
-    ap (λ (l : List ℕ). l ++ marks base cs) (map-replicate (markOf base) (slotsOf (c .cell)) c)
+    ap (λ (l : List ℕ). l ++ slotWords base cs) (map-replicate (markOf base) (slotsOf (c .cell)) c)
 
 pub placed-read :
     (w : List ℕ) (base total slot at : ℕ) {op : Operation} {width next : ℕ} {after : Slot} → placedAt w base total slot
@@ -115,8 +115,8 @@ module _ (w : List ℕ) (base total : ℕ) where
     pub scan : cellsOf w base total .scan ≡ cellsFrom w base total (total - count) slot at .scan
     pub many : length (cellsOf w base total .items)
         ≡ count + length (cellsFrom w base total (total - count) slot at .items)
-    pub table : sets t₀ 0 (marks base (cellsOf w base total .items))
-        ≡ sets t slot (marks base (cellsFrom w base total (total - count) slot at .items))
+    pub table : sets t₀ 0 (slotWords base (cellsOf w base total .items))
+        ≡ sets t slot (slotWords base (cellsFrom w base total (total - count) slot at .items))
     pub same : length t ≡ length t₀
 
   pub going-start : (t : List ℕ) → Going t t 4 0 0
@@ -132,7 +132,8 @@ module _ (w : List ℕ) (base total : ℕ) where
 
   pub going-done :
       {t₀ t : List ℕ} {at slot count : ℕ} → Going t₀ t at slot count → total ≤ slot →
-      (C.Read count at ≡ counted (cellsOf w base total)) × (t ≡ sets t₀ 0 (marks base (cellsOf w base total .items)))
+      (C.Read count at ≡ counted (cellsOf w base total))
+      × (t ≡ sets t₀ 0 (slotWords base (cellsOf w base total .items)))
   unfolding covering
   going-done {t₀} {t} {at} {slot} {count} going past =
       let done : cellsFrom w base total (total - count) slot at ≡ stop (S.Clean at) = cells-done (total - count) slot
@@ -144,7 +145,7 @@ module _ (w : List ℕ) (base total : ℕ) where
   pub going-fault :
       {t₀ t : List ℕ} {at slot count : ℕ} {e : Fault} → Going t₀ t at slot count → slot < total →
       placedAt w base total slot at ≡ P.Refused e →
-      (C.Refused e ≡ counted (cellsOf w base total)) × (t ≡ sets t₀ 0 (marks base (cellsOf w base total .items)))
+      (C.Refused e ≡ counted (cellsOf w base total)) × (t ≡ sets t₀ 0 (slotWords base (cellsOf w base total .items)))
   unfolding covering
   going-fault {t₀} {t} {at} {slot} {count} {e} going inside refused =
       let few : count ≤ slot = going .few in
@@ -192,9 +193,9 @@ module _ (w : List ℕ) (base total : ℕ) where
 
       painted :
           IsPlaced w base total slot at op width (after .0) next → (cs : List Placed) →
-          sets t slot (marks base (here ∷ cs)) ≡
+          sets t slot (slotWords base (here ∷ cs)) ≡
           sets (sets t slot (replicate (after .0 - slot) (markWord base (standingOf op) width slot))) (after .0)
-          (marks base cs)
+          (slotWords base cs)
       painted is cs =
           let same-op : op ≡ opAt w at = is .record-is .same-op in
           let same-width : width ≡ outputLen (cellAt w at) = is .record-is .same-width in
@@ -206,5 +207,6 @@ module _ (w : List ℕ) (base total : ℕ) where
           let length-is : slot + length (replicate (after .0 - slot) (markWord base (standingOf op) width slot))
           ≡ after .0 = rw (length-replicate) (omega arith) in
           ap (sets t slot) (marks-cons base here cs) ∙ rw (word, count-is)
-          (sets-append t slot (replicate (after .0 - slot) (markWord base (standingOf op) width slot)) (marks base cs)
+          (sets-append t slot (replicate (after .0 - slot) (markWord base (standingOf op) width slot))
+          (slotWords base cs)
           ∙ rw length-is)

@@ -50,5 +50,5 @@ abbrev pub markOf : ℕ → Placed → ℕ
 markOf base c = markWord base (standing (c .cell)) (outputLen (c .cell)) (c .slot)
 
 -- The words of all slots.
-abbrev pub marks : ℕ → List Placed → List ℕ
-marks base cells = map (markOf base) (covering cells)
+abbrev pub slotWords : ℕ → List Placed → List ℕ
+slotWords base cells = map (markOf base) (covering cells)

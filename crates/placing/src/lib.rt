@@ -7,7 +7,7 @@ use logic::Slot;
 ghost use mathlib.Core.Path.{_≡_};
 ghost use Prim.Native.Nat.{_+_, _-_, _<_, _≤_, _^_, max};
 ghost use lib.Seq.{sets};
-ghost use Rattle.placing.specs.Slots.{standingNumber, markWord, marks};
+ghost use Rattle.placing.specs.Slots.{standingNumber, markWord, slotWords};
 ghost use Rattle.placing.specs.Cells.{limitOf, placedAt, cellsOf, counted};
 
 // A cell's operation and output width, the slot and the place after it; or the fault met.
@@ -101,7 +101,7 @@ fn cells_within(list: &[u32], base: usize, total: usize, table: &mut [u32]) -> C
     requires { ⌜ (base ≤ total) × (total < 2 ^ 17) ⌝ }
     ensures { λ r. ⌜ (r ≡ counted (cellsOf (now (list .entry)) base total))
         × (now (table .exit) ≡ sets (now (table .entry)) 0
-        (marks base (cellsOf (now (list .entry)) base total .items))) ⌝ }
+        (slotWords base (cellsOf (now (list .entry)) base total .items))) ⌝ }
 {
     let mut at: usize = 4;
     let mut slot = Slot(0);
@@ -136,7 +136,7 @@ fn cells_within(list: &[u32], base: usize, total: usize, table: &mut [u32]) -> C
 pub fn cells_at(list: &[u32], base: u16, added: u16, table: &mut [u32]) -> Cells
     ensures { λ r. ⌜ (r ≡ counted (cellsOf (now (list .entry)) base (base + added)))
         × (now (table .exit) ≡ sets (now (table .entry)) 0
-        (marks base (cellsOf (now (list .entry)) base (base + added) .items))) ⌝ }
+        (slotWords base (cellsOf (now (list .entry)) base (base + added) .items))) ⌝ }
 {
     cells_within(list, base as usize, base as usize + added as usize, table)
 }

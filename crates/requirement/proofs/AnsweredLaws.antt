@@ -16,7 +16,7 @@ use Rattle.working_out.specs.Obligations.{obligations}
 use Rattle.smt.specs.Prog.{Prog, ret, op, declare, bind, bind2, _>>=_, Age, curr, past}
 use Rattle.smt.specs.Emit.{St, Out, netName, place, at, learn, reread, after, known, emit}
 use Rattle.design_list.specs.Read.{refused, accepted, read}
-use Rattle.order.specs.Verify.{Step, declared, asserted, obliged, steps, work, start, built, query, asked, verify}
+use Rattle.order.specs.Verify.{Step, declared, asserted, obliged, steps, work, start, built, query, askedCalls, verify}
 use Rattle.order.proofs.StepsMean.{steps-are}
 use Rattle.requirement.proofs.Exists as terms-asked
 use Rattle.requirement.proofs.Theorem.{asked-each}
@@ -80,8 +80,8 @@ work-temp (obliged m ∷ rest) s =
     omega arith
 
 -- The query has none.
-query-temporaries : (l : List ℕ) (s : St) → temporaries (asked l s) ≡ 0
-unfolding asked query emit _>>=_ temporaries
+query-temporaries : (l : List ℕ) (s : St) → temporaries (askedCalls l s) ≡ 0
+unfolding askedCalls query emit _>>=_ temporaries
 query-temporaries [] s = refl
 query-temporaries (o ∷ l) s = refl
 
@@ -90,7 +90,7 @@ unfolding verify
 temporaries-are d =
     let h = work-temp (steps d) (start (total d)) in
     let q = query-temporaries ((built d) .res) ((built d) .st) in
-    let e = temporaries-append ((built d) .calls) (asked ((built d) .res) ((built d) .st)) in
+    let e = temporaries-append ((built d) .calls) (askedCalls ((built d) .res) ((built d) .st)) in
     omega arith
 
 pub refused-as-read : (w : List ℕ) {e : Fault} → read w ≡ refused e → (room recorded : ℕ) → verified w room recorded

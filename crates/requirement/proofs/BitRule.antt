@@ -16,7 +16,7 @@ use Rattle.rules.specs.CellRule.{outputs}
 use Rattle.rules.specs.Reads.{currentReads}
 use Rattle.working_out.specs.Reading.{readsPast}
 use Rattle.working_out.specs.Equations.{Rule}
-use Rattle.working_out.proofs.EquationsLaws.{Wide, CellLocal}
+use Rattle.working_out.proofs.EquationsLaws.{FullWidth, CellLocal}
 use Rattle.smt.specs.Prog.{curr, past, Half, isUndef, isOne}
 use Rattle.smt.specs.Builder.{outputNets}
 use Rattle.smt.specs.Formula.{TritBits, tb, NetBits, bitOf, readBits}
@@ -68,7 +68,7 @@ bitRule d was s a now =
 -- ---- the bit rules, as working out asks
 
 module _ (d : Design) (was : ℕ → BitPair) where
-  pub bit-wide : Wide (bitRule d was) d
+  pub bit-wide : FullWidth (bitRule d was) d
   bit-wide s a shaped h now =
       pairs-length
       (cell-bits-show (readsPast d) (bitsOf now was) s a shaped (asserted-not-input a h) (asserted-some a h))

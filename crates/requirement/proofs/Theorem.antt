@@ -238,8 +238,8 @@ work-unchecked (asserted m ∷ rest) s = emit-unchecked m s _ (pass (work-unchec
 work-unchecked (obliged m ∷ rest) s = emit-unchecked m s _ (work-unchecked rest ((emit m s) .st))
 
 -- The calls of the query are those that `check` emits.
-pub query-calls : (l : List ℕ) (s : St) → verify.asked l s ≡ queryCalls (s .next) l
-unfolding verify.asked verify.query emit _>>=_
+pub query-calls : (l : List ℕ) (s : St) → verify.askedCalls l s ≡ queryCalls (s .next) l
+unfolding verify.askedCalls verify.query emit _>>=_
 query-calls [] s = refl
 query-calls (o ∷ l) s = refl
 

@@ -9,7 +9,7 @@ use lib.Dec.{ltb}
 use lib.ListN.{length, drop}
 use Rattle.engine.specs.Encode.{decode}
 use Rattle.engine.specs.WellFormed.{malformedAt}
-use Rattle.text.specs.Names.{asked}
+use Rattle.text.specs.Names.{askedNames}
 use Rattle.engine.specs.Emit.{counted}
 use Rattle.asked.specs.declared.Mark.{Mark}
 use Rattle.asked.specs.declared.Mark.the-variants.{Fine, Bad}
@@ -20,7 +20,7 @@ use Rattle.asked.specs.Marks.{badMark}
 
 -- The script of a list of words and its recorded marks.
 abbrev pub scriptOf : List ℕ → List ℕ → List ℕ
-scriptOf w marks = script (decode w) (asked marks)
+scriptOf w marks = script (decode w) (askedNames marks)
 
 abbrev pub refuse : ℕ → ℕ → Written
 refuse number place = Refused (record { number = number; place = place })

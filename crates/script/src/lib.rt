@@ -9,7 +9,7 @@ ghost use mathlib.Core.List.{[]};
 ghost use Prim.Native.Nat.{_+_};
 ghost use lib.ListN.{length};
 ghost use Rattle.engine.specs.Encode.{decode};
-ghost use Rattle.text.specs.Names.{asked};
+ghost use Rattle.text.specs.Names.{askedNames};
 ghost use Rattle.engine.specs.Emit.{Wrote, counted};
 ghost use Rattle.call_list.specs.Made.{made};
 ghost use Rattle.script.specs.Text.{lines, script};
@@ -62,7 +62,7 @@ fn put_script(
 ) -> usize
     requires { ⌜ HasTables gap (now calls) (now places) (now sorts) ⌝ }
     ensures { λ r. ⌜ Wrote (now (text .entry)) 0
-        (script (decode (now (calls .entry))) (asked (now (recorded .entry)))) (now (text .exit)) r ⌝ }
+        (script (decode (now (calls .entry))) (askedNames (now (recorded .entry)))) (now (text .exit)) r ⌝ }
 {
     let lines = text::put_bytes(
         text,

@@ -15,7 +15,7 @@ use Rattle.cell.specs.Cell.{outputLen, slotsOf, standing}
 use Rattle.cell.specs.Design.{Design, Placed, total, cellOf}
 use Rattle.cell.specs.Role.{role, isDff}
 use Rattle.right.specs.Laid.{Apart, Laid}
-use Rattle.placing.specs.Slots.{covering, standingNumber, markOf, marks}
+use Rattle.placing.specs.Slots.{covering, standingNumber, markOf, slotWords}
 use Rattle.placing.specs.Cover.{Walk}
 use Rattle.placing.proofs.CoverLaws.{walk-total, table-at, takes-all, Narrow, walk-narrow}
 use Rattle.design_list.specs.Read.{read, accepted}
@@ -82,12 +82,12 @@ module _ (w : List ℕ) {d : Design} {r p : ℕ} (accepts : read w ≡ accepted 
   covered : length (covering (d .cells)) ≡ total d
   covered = walk-total walk
 
-  table-length : length (marks (d .base) (d .cells)) ≡ total d
+  table-length : length (slotWords (d .base) (d .cells)) ≡ total d
   table-length = length-map (covering (d .cells)) (markOf (d .base)) ∙ covered
 
-  word-at : (i : ℕ) → i < total d → getD (marks (d .base) (d .cells)) i 0 ≡ markOf (d .base) (cellOf d i)
+  word-at : (i : ℕ) → i < total d → getD (slotWords (d .base) (d .cells)) i 0 ≡ markOf (d .base) (cellOf d i)
   word-at i low =
-      let all = marks (d .base) (d .cells) in
+      let all = slotWords (d .base) (d .cells) in
       let size : length all ≡ total d = table-length in
       let part : getD (all ++ drop (0 + length all) all) i 0 ≡ getD all i 0 =
       List·getD-append all (drop (0 + length all) all) 0 i (omega arith) in
@@ -98,10 +98,10 @@ module _ (w : List ℕ) {d : Design} {r p : ℕ} (accepts : read w ≡ accepted 
   narrow : (i : ℕ) → i < total d → Narrow (cellOf d i)
   narrow i low = rw (cell-takes d i (laid .run) low) (takes-all Narrow (d .cells) (omega arith) (walk-narrow walk) i)
 
-  past : (i : ℕ) → pastIn (marks (d .base) (d .cells)) i ≡ readsPast d i
+  past : (i : ℕ) → pastIn (slotWords (d .base) (d .cells)) i ≡ readsPast d i
   past i = go (decLt i (total d))
     where
-      go : Dec (i < total d) → pastIn (marks (d .base) (d .cells)) i ≡ readsPast d i
+      go : Dec (i < total d) → pastIn (slotWords (d .base) (d .cells)) i ≡ readsPast d i
       go (yes low) =
           let apart = each-at (Apart d) (d .cells) 0 (total d) i (laid .run) (omega arith) low (laid .apart) in
           rw (
@@ -110,18 +110,18 @@ module _ (w : List ℕ) {d : Design} {r p : ℕ} (accepts : read w ≡ accepted 
             same-side d i (cellOf d i) (at d laid i low) apart,
           )
       go (no high) =
-          let size : length (marks (d .base) (d .cells)) ≡ total d = table-length in
+          let size : length (slotWords (d .base) (d .cells)) ≡ total d = table-length in
           rw (
-            List·getD-eq-default (marks (d .base) (d .cells)) 0 {n = i} (omega arith),
+            List·getD-eq-default (slotWords (d .base) (d .cells)) 0 {n = i} (omega arith),
             le-ltb i (d .base) (omega arith),
           )
 
-  width : (i : ℕ) → i < total d → widthIn (marks (d .base) (d .cells)) i ≡ outputLen (cellOf d i .cell)
+  width : (i : ℕ) → i < total d → widthIn (slotWords (d .base) (d .cells)) i ≡ outputLen (cellOf d i .cell)
   width i low = rw (word-at i low) (mark-width (d .base) (cellOf d i) (narrow i low))
 
   -- A cell's first slot belongs to it.
   width-first :
-      (i : ℕ) → i < total d → widthIn (marks (d .base) (d .cells)) (cellOf d i .slot) ≡ outputLen (cellOf d i .cell)
+      (i : ℕ) → i < total d → widthIn (slotWords (d .base) (d .cells)) (cellOf d i .slot) ≡ outputLen (cellOf d i .cell)
   width-first i low =
       let here = at d laid i low in
       let first : cellOf d i .slot ≤ i = here .low in
@@ -130,11 +130,11 @@ module _ (w : List ℕ) {d : Design} {r p : ℕ} (accepts : read w ≡ accepted 
       here .whole (cellOf d i .slot) (omega arith) (omega arith) in
       width (cellOf d i .slot) (omega arith) ∙ ap (λ (c : Placed). outputLen (c .cell)) same
 
-  pub accepted-tells : Tells d (marks (d .base) (d .cells))
+  pub accepted-tells : Tells d (slotWords (d .base) (d .cells))
   accepted-tells = record {
     past = past;
     widths =
-        at-each (λ (c : Placed). widthIn (marks (d .base) (d .cells)) (c .slot) ≡ outputLen (c .cell)) (d .cells) 0
+        at-each (λ (c : Placed). widthIn (slotWords (d .base) (d .cells)) (c .slot) ≡ outputLen (c .cell)) (d .cells) 0
         (total d)
         (laid .run) (λ i first low. width-first i low);
     roles = λ i low. rw (word-at i low) (mark-standing (d .base) (cellOf d i) (narrow i low));
@@ -144,11 +144,11 @@ module _ (w : List ℕ) {d : Design} {r p : ℕ} (accepts : read w ≡ accepted 
   pub table-tells :
       (out : List ℕ) → total d ≤ length out → Tells d (take (total d) (tableAfter (read w) out))
   table-tells out enough =
-      let size : length (marks (d .base) (d .cells)) ≡ total d = table-length in
+      let size : length (slotWords (d .base) (d .cells)) ≡ total d = table-length in
       rw (
         accepts,
         le-ltb (length out) (total d) enough,
-        take-at (marks (d .base) (d .cells)) (drop (total d) out) (total d) size,
+        take-at (slotWords (d .base) (d .cells)) (drop (total d) out) (total d) size,
       ) accepted-tells
 
 -- Where the code asks the table, the order of work asks the design.

@@ -43,7 +43,7 @@ use Rattle.smt.specs.CellBits.{firstBits, ageOf, valueBits, netBit, past
 use Rattle.smt.specs.CellBits.{shiftedBits, shiftCellBits, productBits, sumBits, matchBits, loadedBits}
 use Rattle.smt.specs.CellBits.{clockedBits, clearedBits, adcCellBits, cellBits, NotInput}
 use Rattle.smt.proofs.CellBitsLaws.{length-overwritten, cell-wp}
-use Rattle.smt.proofs.Shows.{Shown, empty, Shows, shown-is, shown-x, shown-y, shown-ts, one-more, getD-any}
+use Rattle.smt.proofs.Shows.{Shown, empty, BitsShow, shown-is, shown-x, shown-y, shown-ts, one-more, getD-any}
 use Rattle.smt.proofs.Shows.{not-shows, and-shows, or-shows, xor-shows, mux-shows, lit-shows, invert-shows}
 use Rattle.smt.proofs.Shows.{Singles, none, more, concat-shows, shown-at, extract-shows}
 use Rattle.smt.proofs.ShowsNumber.{zero-x, no-x, equals-shows, ult-shows, slt-shows, mul-shows, adc-shows}
@@ -84,7 +84,7 @@ constant-shows Undef = refl
 -- The trits of nets, each slot read at its age.
 pub read-shows : (b : NetBits) (age : ℕ → Age) (f : ℕ → Trit)
     → ((i : ℕ) → shows (b (age i) i isUndef) (b (age i) i isOne) ≡ f i)
-    → (nets : List Net) → Shows (length nets) (readBits b age nets) (map (ofNet f) nets)
+    → (nets : List Net) → BitsShow (length nets) (readBits b age nets) (map (ofNet f) nets)
 unfolding readBits
 read-shows b age f h [] = empty
 read-shows b age f h (constant u ∷ nets) = one-more (xOf u) (yOf u) u (constant-shows u) (read-shows b age f h nets)
@@ -154,7 +154,7 @@ module _ (readsPast : ℕ → Bool) (b : NetBits) where
   abbrev reading : Net → Trit
   reading = read readsPast θ
 
-  pub value-shows : (nets : List Net) → Shows (length nets) (value nets) (map reading nets)
+  pub value-shows : (nets : List Net) → BitsShow (length nets) (value nets) (map reading nets)
   value-shows = read-shows b (ageOf readsPast b) (asRead readsPast θ) at-age
     where
       by-age : (p : Bool) (i : ℕ) → shows (b (cond p past curr) i isUndef) (b (cond p past curr) i isOne)
@@ -171,23 +171,23 @@ module _ (readsPast : ℕ → Bool) (b : NetBits) where
   unfolding readBits
   net-shows n = shown-at (value-shows (n ∷ [])) 0 false false
 
-  past-shows : (nets : List Net) → Shows (length nets) (pastBits readsPast b nets) (map (ofNet (θ .was)) nets)
+  past-shows : (nets : List Net) → BitsShow (length nets) (pastBits readsPast b nets) (map (ofNet (θ .was)) nets)
   past-shows = read-shows b (λ i. past) (θ .was) (λ i. refl)
 
-  curr-shows : (nets : List Net) → Shows (length nets) (currBits readsPast b nets) (map (ofNet (θ .now)) nets)
+  curr-shows : (nets : List Net) → BitsShow (length nets) (currBits readsPast b nets) (map (ofNet (θ .now)) nets)
   curr-shows = read-shows b (λ i. curr) (θ .now) (λ i. refl)
 
-  control-shows : (w : Control) → Shows 1 (controlBits readsPast b w) (control reading w ∷ [])
+  control-shows : (w : Control) → BitsShow 1 (controlBits readsPast b w) (control reading w ∷ [])
   control-shows w = invert-shows (w .inverted) (value-shows (w .net ∷ []))
 
-  clock-shows : (w : Control) → Shows 1 (clockBits readsPast b w) (edge readsPast θ w ∷ [])
+  clock-shows : (w : Control) → BitsShow 1 (clockBits readsPast b w) (edge readsPast θ w ∷ [])
   clock-shows w =
       and-shows (invert-shows (w .inverted) (curr-shows (w .net ∷ [])))
       (not-shows (invert-shows (w .inverted) (past-shows (w .net ∷ []))))
 
   -- A cell of two operands.
   binary-shows : (o : Binary) {n : ℕ} {x y u v : Bits} {ts us : List Trit} → Shown n x y ts → Shown n u v us
-      → Shows (cells.binaryWidth o n) (binaryBits o (tb x y) (tb u v) n) (r.binary o ts us)
+      → BitsShow (cells.binaryWidth o n) (binaryBits o (tb x y) (tb u v) n) (r.binary o ts us)
   binary-shows cells.and p q = and-shows p q
   binary-shows cells.or p q = or-shows p q
   binary-shows cells.xor p q = xor-shows p q
@@ -200,7 +200,7 @@ module _ (readsPast : ℕ → Bool) (b : NetBits) where
 
   -- Nets filled up with one net.
   padded-shows : (nets : List Net) (j : ℕ) (fill : Net) (w : ℕ) → length nets + j ≡ w
-      → Shows w (value (nets ++ replicate j fill)) (map reading nets ++ replicate j (reading fill))
+      → BitsShow w (value (nets ++ replicate j fill)) (map reading nets ++ replicate j (reading fill))
   padded-shows nets j fill w e =
       rw (
         width,
@@ -227,12 +227,12 @@ module _ (readsPast : ℕ → Bool) (b : NetBits) where
     abbrev places : List Trit
     places = map reading amount
 
-    pub shifted-shows : (ts : List Trit) (f : ℕ → ℕ → Trit) → 0 < n → n ≤ length nets → Shows w wider ts
+    pub shifted-shows : (ts : List Trit) (f : ℕ → ℕ → Trit) → 0 < n → n ≤ length nets → BitsShow w wider ts
         → IsShift onX → IsShift onY
         → ((by : Bits) (i : ℕ) → i < n
         → shows (getD (denoteOp onX (wider .x) by) i false) (getD (denoteOp onY (wider .y) by) i false)
         ≡ f (bv2nat by) i)
-        → Shows n (shiftedBits readsPast b onX onY signed n nets amount stride)
+        → BitsShow n (shiftedBits readsPast b onX onY signed n nets amount stride)
         (cond (anyX places) (replicate n Undef) (tab n (f (number places * stride))))
     unfolding shiftedBits shiftBits extractBits
     shifted-shows ts f some le p lx ly h =
@@ -259,7 +259,7 @@ module _ (readsPast : ℕ → Bool) (b : NetBits) where
     ts = map reading nets
 
     abbrev by-rule : Shift → Type 0
-    by-rule o = Shows n (shiftCellBits readsPast b o nets amount stride) (r.shift o ts (map reading amount) stride)
+    by-rule o = BitsShow n (shiftCellBits readsPast b o nets amount stride) (r.shift o ts (map reading amount) stride)
 
     filled : n + (top - n) ≡ top
     filled = let e = wide-enough n (length amount) stride in omega arith
@@ -300,7 +300,7 @@ module _ (readsPast : ℕ → Bool) (b : NetBits) where
 
   -- XShr has an X on top of its value.
   xshr-shows : (nets amount : List Net) (stride : ℕ) → 0 < length nets
-      → Shows (length nets) (shiftCellBits readsPast b cells.xshr nets amount stride)
+      → BitsShow (length nets) (shiftCellBits readsPast b cells.xshr nets amount stride)
       (r.shift cells.xshr (map reading nets) (map reading amount) stride)
   unfolding shiftCellBits
   xshr-shows nets amount stride some =
@@ -310,7 +310,7 @@ module _ (readsPast : ℕ → Bool) (b : NetBits) where
       let e = wide-enough (length topped) (length amount) stride in
       let l : length topped ≡ length nets + 1 = length-append nets (constant Undef ∷ []) in
       let last : getD topped (length topped - 1) (constant Undef) ≡ constant Undef = on-top nets (constant Undef) in
-      let p : Shows w (value (extended true topped w)) ((trits ++ (Undef ∷ [])) ++ replicate
+      let p : BitsShow w (value (extended true topped w)) ((trits ++ (Undef ∷ [])) ++ replicate
       (w - length topped) Undef) =
       rw last (rw (map-append reading nets (constant Undef ∷ [])) at
       (padded-shows topped (w - length topped) (constant Undef) w (omega arith))) in
@@ -328,7 +328,7 @@ module _ (readsPast : ℕ → Bool) (b : NetBits) where
           ∙ List·getD-eq-default l d {n = length (l ++ (d ∷ [])) - 1} (simp length-append (omega arith))
 
   shift-shows : (o : Shift) (nets amount : List Net) (stride : ℕ) → 0 < length nets
-      → Shows (length nets) (shiftCellBits readsPast b o nets amount stride)
+      → BitsShow (length nets) (shiftCellBits readsPast b o nets amount stride)
       (r.shift o (map reading nets) (map reading amount) stride)
   shift-shows cells.shl = shl-shows
   shift-shows cells.ushr = ushr-shows
@@ -338,8 +338,8 @@ module _ (readsPast : ℕ → Bool) (b : NetBits) where
   -- ---- Match
 
   -- The product so far, and the rest of the pattern.
-  product-shows : (nets : List Net) (pattern : List Trit) {p : TritBits} (u : Trit) → Shows 1 p (u ∷ [])
-      → Shows 1 (productBits readsPast b nets pattern p) (t.and u (r.alternate (map reading nets) pattern) ∷ [])
+  product-shows : (nets : List Net) (pattern : List Trit) {p : TritBits} (u : Trit) → BitsShow 1 p (u ∷ [])
+      → BitsShow 1 (productBits readsPast b nets pattern p) (t.and u (r.alternate (map reading nets) pattern) ∷ [])
   unfolding productBits r.alternate
   product-shows [] pattern u h = rw (and-one u) h
   product-shows (v ∷ nets) [] u h = rw (and-one u) h
@@ -354,8 +354,8 @@ module _ (readsPast : ℕ → Bool) (b : NetBits) where
       (xor-shows (value-shows (v ∷ [])) (value-shows (constant One ∷ []))))))
 
   -- The sum so far, and the other alternates.
-  sum-shows : (nets : List Net) (alternates : List (List Trit)) {p : TritBits} (u : Trit) → Shows 1 p (u ∷ [])
-      → Shows 1 (sumBits readsPast b nets alternates p) (t.or u (r.matches (map reading nets) alternates) ∷ [])
+  sum-shows : (nets : List Net) (alternates : List (List Trit)) {p : TritBits} (u : Trit) → BitsShow 1 p (u ∷ [])
+      → BitsShow 1 (sumBits readsPast b nets alternates p) (t.or u (r.matches (map reading nets) alternates) ∷ [])
   unfolding sumBits r.matches
   sum-shows nets [] u h = rw (or-zero u) h
   sum-shows nets (pattern ∷ alternates) u h =
@@ -370,8 +370,8 @@ module _ (readsPast : ℕ → Bool) (b : NetBits) where
       (matches-show nets patterns)
 
   -- From the index-th pattern down to the first.
-  first-shows : (k : ℕ) (ms : List Trit) {m : TritBits} → Shows k m ms → (index : ℕ) {p : TritBits} → index ≤ k
-      → Shows k p (r.firstHot k index (drop index ms)) → Shows k (firstBits m k index p) (r.firstHot k 0 ms)
+  first-shows : (k : ℕ) (ms : List Trit) {m : TritBits} → BitsShow k m ms → (index : ℕ) {p : TritBits} → index ≤ k
+      → BitsShow k p (r.firstHot k index (drop index ms)) → BitsShow k (firstBits m k index p) (r.firstHot k 0 ms)
   unfolding firstBits r.firstHot
   first-shows k ms hm zero l h = h
   first-shows k ms hm (suc index) l h =
@@ -381,13 +381,13 @@ module _ (readsPast : ℕ → Bool) (b : NetBits) where
       (rw (length-tab k (λ j. t.trit (eqb j index))) at (lit-shows (oneHot k index))) h))
 
   match-shows : (nets : List Net) (enable : Net) (patterns : List (List (List Trit)))
-      → Shows (length patterns) (matchBits readsPast b nets enable patterns)
+      → BitsShow (length patterns) (matchBits readsPast b nets enable patterns)
       (r.match (map reading nets) (reading enable) patterns)
   unfolding matchBits r.firstHot
   match-shows nets enable patterns =
       let k = length patterns in
       let ms = map (r.matches (map reading nets)) patterns in
-      let cold : Shows k (litBits (replicate k Zero)) (replicate k Zero) =
+      let cold : BitsShow k (litBits (replicate k Zero)) (replicate k Zero) =
       rw (length-replicate k Zero) at (lit-shows (replicate k Zero)) in
       let m = rw (length-map patterns (λ alternates. sumBits readsPast b nets alternates (litBits (Zero ∷ [])))) at
       (concat-shows (matches-show nets patterns)) in
@@ -398,7 +398,7 @@ module _ (readsPast : ℕ → Bool) (b : NetBits) where
   -- ---- Assign and Dff
 
   mux-nets : (sel : Net) (x y : List Net) (n : ℕ) → length x ≡ n → length y ≡ n
-      → Shows n (muxBits (netBit readsPast b sel) (value x) (value y))
+      → BitsShow n (muxBits (netBit readsPast b sel) (value x) (value y))
       (r.mux (reading sel) (map reading x) (map reading y))
   mux-nets sel x y n ex ey = mux-shows (value-shows (sel ∷ [])) (rw ex at (value-shows x)) (rw ey at (value-shows y))
 
@@ -414,7 +414,7 @@ module _ (readsPast : ℕ → Bool) (b : NetBits) where
       )
 
   -- The past trits of the output's slots.
-  output-shows : (s w : ℕ) → Shows w (pastBits readsPast b (outputNets s w)) (map (θ .was) (outputs s w))
+  output-shows : (s w : ℕ) → BitsShow w (pastBits readsPast b (outputNets s w)) (map (θ .was) (outputs s w))
   output-shows s w =
       rw (
         length-tab w (λ i. slot (s + i)),
@@ -431,7 +431,7 @@ module _ (readsPast : ℕ → Bool) (b : NetBits) where
     abbrev given : r.FlipFlopInputs
     given = flipFlopInputs readsPast θ f (outputs s width)
 
-    loaded-shows : (flag : Bool) → Shows width (loadedBits readsPast b flag f (outputNets s width))
+    loaded-shows : (flag : Bool) → BitsShow width (loadedBits readsPast b flag f (outputNets s width))
         (cond flag (r.mux (given .reset) (given .resetValue) (r.mux (given .enable) (given .dat) (given .past)))
         (r.mux (given .enable) (r.mux (given .reset) (given .resetValue) (given .dat)) (given .past)))
     loaded-shows true =
@@ -442,15 +442,15 @@ module _ (readsPast : ℕ → Bool) (b : NetBits) where
         (mux-shows (control-shows (f .reset)) (rw er at (lit-shows (f .resetValue))) (value-shows (f .dat)))
         (output-shows s width)
 
-    clocked-shows : Shows width (clockedBits readsPast b f (outputNets s width)) (r.clocked given)
+    clocked-shows : BitsShow width (clockedBits readsPast b f (outputNets s width)) (r.clocked given)
     clocked-shows = mux-shows (clock-shows (f .clock)) (loaded-shows (f .resetOverEnable)) (output-shows s width)
 
-    cleared-shows : (flag : Bool) {p : TritBits} {ts : List Trit} → Shows width p ts
-        → Shows width (clearedBits readsPast b flag f p) (cond flag (r.mux (given .clear) (given .clearValue) ts) ts)
+    cleared-shows : (flag : Bool) {p : TritBits} {ts : List Trit} → BitsShow width p ts
+        → BitsShow width (clearedBits readsPast b flag f p) (cond flag (r.mux (given .clear) (given .clearValue) ts) ts)
     cleared-shows true h = mux-shows (control-shows (f .clear)) (rw ec at (lit-shows (f .clearValue))) h
     cleared-shows false h = h
 
-    dff-shows : Shows width (clearedBits readsPast b (hasClear f) f (clockedBits readsPast b f (outputNets s width)))
+    dff-shows : BitsShow width (clearedBits readsPast b (hasClear f) f (clockedBits readsPast b f (outputNets s width)))
         (r.dff given)
     dff-shows = rw (ap not (never (f .clear .inverted) (f .clear .net))) (cleared-shows (rule.hasClear f) clocked-shows)
       where
@@ -474,14 +474,16 @@ module _ (readsPast : ℕ → Bool) (b : NetBits) where
   adc-none Undef = refl
 
   adc-cell-shows : (x y : List Net) (carry : Net) → length y ≡ length x
-      → Shows (length x + 1) (adcCellBits readsPast b x y carry) (r.adc (map reading x) (map reading y) (reading carry))
+      → BitsShow (length x + 1) (adcCellBits readsPast b x y carry)
+      (r.adc (map reading x) (map reading y) (reading carry))
   adc-cell-shows [] [] carry e = rw (adc-none (reading carry)) (value-shows (carry ∷ []))
   adc-cell-shows [] (m ∷ y) carry e = absurd (omega arith)
   adc-cell-shows (n ∷ x) y carry e =
       rw (add-one (length (n ∷ x)), ← (net-shows carry)) (adc-shows _ _ (value-shows (n ∷ x)) (rw e at (value-shows y)))
 
   pub cell-bits-show : (s : ℕ) (d : Cell) → Shaped d → NotInput d → 0 < outputLen d
-      → Shows (outputLen d) (cellBits readsPast b s (outputLen d) d) (cellRule readsPast θ (outputs s (outputLen d)) d)
+      → BitsShow (outputLen d) (cellBits readsPast b s (outputLen d) d)
+      (cellRule readsPast θ (outputs s (outputLen d)) d)
   cell-bits-show s cells.void h terms some = absurd (omega arith)
   cell-bits-show s cells.note h terms some = absurd (omega arith)
   cell-bits-show s (cells.input n) h terms some = absurd (terms n refl)
@@ -507,7 +509,7 @@ module _ (readsPast : ℕ → Bool) (b : NetBits) where
   cell-bits-show s (cells.dff f) h terms some = dff-shows f s (h .0) (h .1)
 
 terms-show : (ρ : Assignment) (v : ℕ → Value) (n : ℕ) (r : TritVec) (a : TritBits) (ts : List Trit) → Is ρ v r a
-    → Shows n a ts
+    → BitsShow n a ts
     → TermsShow v r ts
 terms-show ρ v n r a ts is shown =
     let ex : asBits (v (r .x .term)) ≡ a .x = ap asBits (is .0) in

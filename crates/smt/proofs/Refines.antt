@@ -19,7 +19,7 @@ use Rattle.smt.specs.Wp.{wp}
 use Rattle.smt.proofs.WpLaws.{wp-mono, and-true, equal-eq}
 use Rattle.smt.specs.Formula.{TritBits, tb, sameBits, refinesBits}
 use Rattle.smt.proofs.Terms.{Is, tvRefines-wp}
-use Rattle.smt.proofs.Shows.{Shown, empty, lane, Shows}
+use Rattle.smt.proofs.Shows.{Shown, empty, lane, BitsShow}
 
 -- Equal bits, both ways.
 pub same-bits : (a b : TritBits) → sameBits a b ≡ true → a ≡ b
@@ -66,7 +66,7 @@ refines-shows (lane {x = x} {y = y} a b p) (lane {x = u} {y = v} c d q) =
 
 -- The term of tv_refines.
 pub tvRefines-shows : (ρ : Assignment) (v : ℕ → Value) (n : ℕ) (from to : TritVec) (A B : TritBits) (ts us : List Trit)
-    → Is ρ v from A → Is ρ v to B → Shows n A ts → Shows n B us
+    → Is ρ v from A → Is ρ v to B → BitsShow n A ts → BitsShow n B us
     → wp ρ v (tvRefines from to) (λ r. v r ≡ bool (all (zipWith t.refines ts us)))
 tvRefines-shows ρ v n from to A B ts us isA isB showsA showsB =
     wp-mono ρ v (tvRefines from to) _ _ (λ r e. e ∙ ap bool (refines-shows showsA showsB))

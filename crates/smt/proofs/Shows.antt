@@ -85,8 +85,8 @@ pub data Shown : ℕ → Bits → Bits → List Trit → Type 0 where
   lane : {n : ℕ} {x y : Bits} {ts : List Trit} (a b : Bool) → Shown n x y ts
       → Shown (suc n) (a ∷ x) (b ∷ y) (shows a b ∷ ts)
 
-abbrev pub Shows : ℕ → TritBits → List Trit → Type 0
-Shows n a ts = Shown n (a .x) (a .y) ts
+abbrev pub BitsShow : ℕ → TritBits → List Trit → Type 0
+BitsShow n a ts = Shown n (a .x) (a .y) ts
 
 pub shown-is : {n : ℕ} {x y : Bits} {ts : List Trit} → Shown n x y ts → zipWith shows x y ≡ ts
 shown-is empty = refl
@@ -128,25 +128,25 @@ xor-lane = by-table₄ _ _ tt
 agree-lane : (a b c d : Bool) → shows ((differ b d || a) || c) (b && d) ≡ t.agree (shows a b) (shows c d)
 agree-lane = by-table₄ _ _ tt
 
-pub not-shows : {n : ℕ} {x y : Bits} {ts : List Trit} → Shown n x y ts → Shows n (notBits (tb x y)) (map t.not ts)
+pub not-shows : {n : ℕ} {x y : Bits} {ts : List Trit} → Shown n x y ts → BitsShow n (notBits (tb x y)) (map t.not ts)
 unfolding notBits
 not-shows empty = empty
 not-shows (lane a b p) = one-more a (not b) _ (not-lane a b) (not-shows p)
 
 pub and-shows : {n : ℕ} {x y u v : Bits} {ts us : List Trit} → Shown n x y ts → Shown n u v us
-    → Shows n (andBits (tb x y) (tb u v)) (zipWith t.and ts us)
+    → BitsShow n (andBits (tb x y) (tb u v)) (zipWith t.and ts us)
 unfolding andBits
 and-shows empty empty = empty
 and-shows (lane a b p) (lane c d q) = one-more _ _ _ (and-lane a b c d) (and-shows p q)
 
 pub or-shows : {n : ℕ} {x y u v : Bits} {ts us : List Trit} → Shown n x y ts → Shown n u v us
-    → Shows n (orBits (tb x y) (tb u v)) (zipWith t.or ts us)
+    → BitsShow n (orBits (tb x y) (tb u v)) (zipWith t.or ts us)
 unfolding orBits
 or-shows empty empty = empty
 or-shows (lane a b p) (lane c d q) = one-more _ _ _ (or-lane a b c d) (or-shows p q)
 
 pub xor-shows : {n : ℕ} {x y u v : Bits} {ts us : List Trit} → Shown n x y ts → Shown n u v us
-    → Shows n (xorBits (tb x y) (tb u v)) (zipWith t.xor ts us)
+    → BitsShow n (xorBits (tb x y) (tb u v)) (zipWith t.xor ts us)
 unfolding xorBits
 xor-shows empty empty = empty
 xor-shows (lane a b p) (lane c d q) = one-more _ _ _ (xor-lane a b c d) (xor-shows p q)
@@ -169,7 +169,7 @@ zip-second empty empty = empty
 zip-second (lane a b p) (lane c d q) = lane c d (zip-second p q)
 
 mux-by : {n : ℕ} (sx sy : Bool) {x y u v : Bits} {ts us : List Trit} → Shown n x y ts → Shown n u v us
-    → Shows n (muxBits (tb (sx ∷ []) (sy ∷ [])) (tb x y) (tb u v)) (r.mux (shows sx sy) ts us)
+    → BitsShow n (muxBits (tb (sx ∷ []) (sy ∷ [])) (tb x y) (tb u v)) (r.mux (shows sx sy) ts us)
 unfolding muxBits equal
 mux-by true true p q = agree-shows p q
 mux-by true false p q = agree-shows p q
@@ -177,12 +177,12 @@ mux-by false true p q = zip-first p q
 mux-by false false p q = zip-second p q
 
 pub mux-shows : {n : ℕ} {sx sy x y u v : Bits} {s : Trit} {ts us : List Trit} → Shown 1 sx sy (s ∷ []) → Shown n x y ts
-    → Shown n u v us → Shows n (muxBits (tb sx sy) (tb x y) (tb u v)) (r.mux s ts us)
+    → Shown n u v us → BitsShow n (muxBits (tb sx sy) (tb x y) (tb u v)) (r.mux s ts us)
 mux-shows (lane a b empty) p q = mux-by a b p q
 
 -- ---- constants and controls
 
-pub lit-shows : (value : List Trit) → Shows (length value) (litBits value) value
+pub lit-shows : (value : List Trit) → BitsShow (length value) (litBits value) value
 unfolding litBits
 lit-shows [] = empty
 lit-shows (Zero ∷ value) = lane false false (lit-shows value)
@@ -190,7 +190,7 @@ lit-shows (One ∷ value) = lane false true (lit-shows value)
 lit-shows (Undef ∷ value) = lane true false (lit-shows value)
 
 pub invert-shows : (inverted : Bool) {x y : Bits} {u : Trit} → Shown 1 x y (u ∷ [])
-    → Shows 1 (invertBits inverted (tb x y)) (cond inverted (t.not u) u ∷ [])
+    → BitsShow 1 (invertBits inverted (tb x y)) (cond inverted (t.not u) u ∷ [])
 unfolding invertBits equal
 invert-shows true (lane true true empty) = lane true false empty
 invert-shows true (lane true false empty) = lane true true empty
@@ -211,10 +211,10 @@ append-shows {m = m} (lane {n = n} a b p) q = rw (suc-add n m) (lane a b (append
 -- Single trits joined.
 pub data Singles : List TritBits → List Trit → Type 0 where
   none : Singles [] []
-  more : {a : TritBits} {rest : List TritBits} {u : Trit} {us : List Trit} → Shows 1 a (u ∷ []) → Singles rest us
+  more : {a : TritBits} {rest : List TritBits} {u : Trit} {us : List Trit} → BitsShow 1 a (u ∷ []) → Singles rest us
       → Singles (a ∷ rest) (u ∷ us)
 
-pub concat-shows : {l : List TritBits} {us : List Trit} → Singles l us → Shows (length l) (concatBits l) us
+pub concat-shows : {l : List TritBits} {us : List Trit} → Singles l us → BitsShow (length l) (concatBits l) us
 unfolding concatBits
 concat-shows none = empty
 concat-shows (more p ps) = joined p (concat-shows ps)
@@ -231,7 +231,7 @@ shown-at (lane c d p) zero a b = refl
 shown-at (lane c d p) (suc i) a b = shown-at p i a b
 
 pub extract-shows : {n : ℕ} {x y : Bits} {ts : List Trit} → Shown n x y ts → (i : ℕ) (d : Trit) → i < n
-    → Shows 1 (extractBits i i (tb x y)) (getD ts i d ∷ [])
+    → BitsShow 1 (extractBits i i (tb x y)) (getD ts i d ∷ [])
 unfolding extractBits
 extract-shows {x = x} {y = y} {ts = ts} p i d h =
     let lx = shown-x p in

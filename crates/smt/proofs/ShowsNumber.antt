@@ -28,7 +28,7 @@ use Rattle.smt.specs.Builder.{zeros, ones}
 use Rattle.smt.proofs.WpLaws.{equal-eq}
 use Rattle.smt.specs.Formula.{tb, isZero, noX, oneBit, equalsBits, lessBits, undefX, mulBits, carryOr, carryBits}
 use Rattle.smt.specs.Formula.{adcBits}
-use Rattle.smt.proofs.Shows.{Shown, empty, lane, Shows, shown-x, shown-y, shown-ts, one-more}
+use Rattle.smt.proofs.Shows.{Shown, empty, lane, BitsShow, shown-x, shown-y, shown-ts, one-more}
 
 -- ---- X or not
 
@@ -109,7 +109,7 @@ mismatch-trits (false ∷ y) (true ∷ v) e = refl
 mismatch-trits (false ∷ y) (false ∷ v) e = mismatch-trits y v (omega arith)
 
 pub equals-shows : {n : ℕ} {x y u v : Bits} {ts us : List Trit} → Shown n x y ts → Shown n u v us
-    → Shows 1 (equalsBits (tb x y) (tb u v) n) (r.eq ts us ∷ [])
+    → BitsShow 1 (equalsBits (tb x y) (tb u v) n) (r.eq ts us ∷ [])
 unfolding equalsBits
 equals-shows {x = x} {y = y} {u = u} {v = v} {ts = ts} {us = us} p q =
     rw (mismatches p q, zero-x p, zero-x q)
@@ -160,7 +160,7 @@ negative-msb {y = y} {ts = ts} p e = ap r.negative (defined-ts p e) ∙ go y
     go y = rw (length-map y trit) (top y (length y - 1))
 
 pub ult-shows : {n : ℕ} {x y u v : Bits} {ts us : List Trit} → Shown n x y ts → Shown n u v us
-    → Shows 1 (lessBits c.bvult (tb x y) (tb u v) n) (r.defined (r.someX ts us) 1 (trit (r.less ts us) ∷ []))
+    → BitsShow 1 (lessBits c.bvult (tb x y) (tb u v) n) (r.defined (r.someX ts us) 1 (trit (r.less ts us) ∷ []))
 unfolding lessBits
 ult-shows {y = y} {v = v} {ts = ts} {us = us} p q =
     rw (no-x p q, Bool·not-not (r.someX ts us)) (less-shows (r.someX ts us) (r.less ts us) (bvult y v) numbers)
@@ -169,7 +169,7 @@ ult-shows {y = y} {v = v} {ts = ts} {us = us} p q =
     numbers e = let none = neither (anyX ts) (anyX us) e in rw (number-defined p (none .0), number-defined q (none .1))
 
 pub slt-shows : {n : ℕ} {x y u v : Bits} {ts us : List Trit} → Shown n x y ts → Shown n u v us
-    → Shows 1 (lessBits c.bvslt (tb x y) (tb u v) n) (r.defined (r.someX ts us) 1 (trit (r.signedLess ts us) ∷ []))
+    → BitsShow 1 (lessBits c.bvslt (tb x y) (tb u v) n) (r.defined (r.someX ts us) 1 (trit (r.signedLess ts us) ∷ []))
 unfolding lessBits
 slt-shows {y = y} {v = v} {ts = ts} {us = us} p q =
     rw (no-x p q, Bool·not-not (r.someX ts us)) (less-shows (r.someX ts us) (r.signedLess ts us) (bvslt y v) signed)
@@ -223,7 +223,7 @@ undefined-shows false n m y e h = rw (h refl) (number-shows n m)
 
 pub mul-shows : {n : ℕ} {x y u v : Bits} {ts us : List Trit} → Shown n x y ts → Shown n u v us
     → (undefined : Bool) → (undefined ≡ false → r.someX ts us ≡ false)
-    → Shows n (mulBits (not undefined) (tb x y) (tb u v) n)
+    → BitsShow n (mulBits (not undefined) (tb x y) (tb u v) n)
     (r.defined undefined (length ts) (r.trits (length ts) (number ts * number us)))
 unfolding mulBits
 mul-shows {n} {y = y} {v = v} {ts = ts} {us = us} p q undefined h =
@@ -329,7 +329,7 @@ adc-sum n x y d e =
     )
 
 pub adc-shows : {n : ℕ} {x y u v : Bits} {ts us : List Trit} (cx cy : Bool) → Shown n x y ts → Shown n u v us
-    → Shows (suc n) (adcBits (tb x y) (tb u v) cx cy n) (r.adc ts us (shows cx cy))
+    → BitsShow (suc n) (adcBits (tb x y) (tb u v) cx cy n) (r.adc ts us (shows cx cy))
 unfolding adcBits
 adc-shows {n} {x = x} {y = y} {u = u} {v = v} {ts = ts} {us = us} cx cy p q =
     rw (adc-sum n y v cy (shown-y p), shown-ts p, add-one n)

@@ -40,5 +40,5 @@ unfoldable pub askedFrom : ℕ → List ℕ → List Name
 askedFrom slot [] = []
 askedFrom slot (mark ∷ marks) = namesOfMark slot mark ++ askedFrom (suc slot) marks
 
-abbrev pub asked : List ℕ → List Name
-asked marks = askedFrom 0 marks
+abbrev pub askedNames : List ℕ → List Name
+askedNames marks = askedFrom 0 marks

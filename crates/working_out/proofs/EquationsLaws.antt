@@ -13,8 +13,8 @@ use Rattle.working_out.specs.Equations.{Rule}
 
 module _ {A : Type 0} (rule : Rule A) (d : Design) where
   -- A rule gives as many values as its cell's output is wide.
-  abbrev pub Wide : Type 0
-  Wide = (s : ℕ) (a : Cell) → Shaped a → asserted a ≡ true → (now : ℕ → A) → length (rule s a now) ≡ outputLen a
+  abbrev pub FullWidth : Type 0
+  FullWidth = (s : ℕ) (a : Cell) → Shaped a → asserted a ≡ true → (now : ℕ → A) → length (rule s a now) ≡ outputLen a
 
 -- The rules of asserted cells keep a relation between values: where it holds of the slots that a cell reads currently,
 -- it holds of what the rules give.

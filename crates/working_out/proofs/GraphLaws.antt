@@ -11,9 +11,9 @@ use native.Mathlib.Decide.{ℕ-discrete}
 use lib.Dec.{eqb, eqb→eq}
 use Rattle.working_out.specs.Order.{option, isSome}
 use Rattle.working_out.proofs.OrderLaws.{none-of, not-true, not-false, eqb-same}
-use Rattle.working_out.proofs.OrderLaws.{Found, lowest-some, lowest-none, pigeon}
+use Rattle.working_out.proofs.OrderLaws.{IsLowest, lowest-some, lowest-none, pigeon}
 use Rattle.working_out.specs.Graph.{mark, undone, Chain, one, more, Loop, lacks, isReady, lowestReady, order}
-use Rattle.working_out.specs.Graph.{marks, neverReady}
+use Rattle.working_out.specs.Graph.{markAll, neverReady}
 
 pub mark-same : (done : ℕ → Bool) (a : ℕ) → mark done a a ≡ true
 unfolding mark
@@ -92,7 +92,7 @@ module _ (N : ℕ) (reads : ℕ → ℕ → Bool) where
   unfolding lowestReady
   ready-is done a e = record { low = f .below; not-done = split .0; has = lacks-none done a (split .1) }
     where
-      f : Found N ((isReady N reads) done) a
+      f : IsLowest N ((isReady N reads) done) a
       f = lowest-some N ((isReady N reads) done) a e
 
       of-not : (p q : Bool) → (not p && not q) ≡ true → (p ≡ false) × (q ≡ false)
@@ -174,8 +174,8 @@ module _ (N : ℕ) (reads : ℕ → ℕ → Bool) where
       go rec (some a) e = rw e (ready-is done a e, rec a)
 
   order-ends : (k : ℕ) (done : ℕ → Bool) → undone N done ≤ k →
-      (lowestReady N reads) ((marks N reads) done ((order N reads) k done)) ≡ none
-  unfolding order marks
+      (lowestReady N reads) ((markAll N reads) done ((order N reads) k done)) ≡ none
+  unfolding order markAll
   order-ends zero done h = go ((lowestReady N reads) done) refl
     where
       go : (o : Option ℕ) → (lowestReady N reads) done ≡ o → (lowestReady N reads) done ≡ none
@@ -186,18 +186,18 @@ module _ (N : ℕ) (reads : ℕ → ℕ → Bool) where
   order-ends (suc k) done h = go (λ a. order-ends k (mark done a)) ((lowestReady N reads) done) refl
     where
       go : ((a : ℕ) → undone N (mark done a) ≤ k →
-          (lowestReady N reads) ((marks N reads) (mark done a) ((order N reads) k (mark done a))) ≡ none)
+          (lowestReady N reads) ((markAll N reads) (mark done a) ((order N reads) k (mark done a))) ≡ none)
           → (o : Option ℕ) → (lowestReady N reads) done ≡ o →
-          (lowestReady N reads) ((marks N reads) done ((order N reads) (suc k) done)) ≡ none
+          (lowestReady N reads) ((markAll N reads) done ((order N reads) (suc k) done)) ≡ none
       go rec none e = rw e e
       go rec (some a) e =
           let r = ready-is done a e in
           let u = undone-mark N done a (r .low) (r .not-done) in
           rw e (rec a (omega arith))
 
-  turns-ordered : (l : List ℕ) (done : ℕ → Bool) → Turns done l → ((a : ℕ) → a < N → (marks N reads) done l a ≡ true)
+  turns-ordered : (l : List ℕ) (done : ℕ → Bool) → Turns done l → ((a : ℕ) → a < N → (markAll N reads) done l a ≡ true)
       → Ordered done l
-  unfolding marks
+  unfolding markAll
   turns-ordered [] done t h = h
   turns-ordered (a ∷ l) done t h = (t .0, turns-ordered l (mark done a) (t .1) h)
 
@@ -257,7 +257,7 @@ module _ (N : ℕ) (reads : ℕ → ℕ → Bool) where
       unfolding neverReady
       ordered e =
           turns-ordered whole start (order-turns (undone N start) start)
-          (λ a l. not-false ((marks N reads) start whole a)
+          (λ a l. not-false ((markAll N reads) start whole a)
           (lowest-none N _ (none-of ((neverReady N reads) start) e) a l))
 
       pub no-loop : isSome ((neverReady N reads) start) ≡ false → (Loop N reads) → ⊥
@@ -280,6 +280,6 @@ module _ (N : ℕ) (reads : ℕ → ℕ → Bool) where
           go : (o : Option ℕ) → (neverReady N reads) start ≡ o → (Loop N reads)
           go none q = absurd (false≢true (rw q at e))
           go (some a) q =
-              let f = lowest-some N (λ a. not ((marks N reads) start whole a)) a q in
-              closes ((marks N reads) start whole) (order-ends (undone N start) start (omega arith)) a
-              (record { low = f .below; not-done = not-true ((marks N reads) start whole a) (f .holds) })
+              let f = lowest-some N (λ a. not ((markAll N reads) start whole a)) a q in
+              closes ((markAll N reads) start whole) (order-ends (undone N start) start (omega arith)) a
+              (record { low = f .below; not-done = not-true ((markAll N reads) start whole a) (f .holds) })

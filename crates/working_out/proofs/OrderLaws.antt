@@ -34,17 +34,17 @@ not-false false e = absurd (true≢false e)
 pub eqb-same : (n : ℕ) → eqb n n ≡ true
 eqb-same n = true-of (eqb n n) (eqb-refl n)
 
-pub record Found (n : ℕ) (p : ℕ → Bool) (i : ℕ) : Type 0 where
+pub record IsLowest (n : ℕ) (p : ℕ → Bool) (i : ℕ) : Type 0 where
   pub below : i < n
   pub holds : p i ≡ true
 
-pub lowest-some : (n : ℕ) (p : ℕ → Bool) (i : ℕ) → lowest n p ≡ some i → Found n p i
+pub lowest-some : (n : ℕ) (p : ℕ → Bool) (i : ℕ) → lowest n p ≡ some i → IsLowest n p i
 unfolding lowest
 lowest-some zero p i e = absurd (none≢some e)
 lowest-some (suc n) p i e = go (λ d. lowest-some n p i d) (lowest n p) refl (p n) refl e
   where
-    go : (lowest n p ≡ some i → Found n p i) → (o : Option ℕ) → lowest n p ≡ o → (b : Bool) → p n ≡ b
-        → option o (cond b (some n) none) some ≡ some i → Found (suc n) p i
+    go : (lowest n p ≡ some i → IsLowest n p i) → (o : Option ℕ) → lowest n p ≡ o → (b : Bool) → p n ≡ b
+        → option o (cond b (some n) none) some ≡ some i → IsLowest (suc n) p i
     go rec none d true q f = let j : n ≡ i = cc in record { below = omega arith; holds = rw (← j) q }
     go rec none d false q f = absurd (none≢some f)
     go rec (some k) d b q f = let h = rec (d ∙ f) in record { below = omega arith; holds = h .holds }

@@ -28,9 +28,9 @@ use Rattle.working_out.proofs.LayoutLaws.{none-source, each-at, at-each
 use Rattle.working_out.proofs.Replaced.{OfSlot, slot-of-pairs, pairs-of-slot}
 use Rattle.working_out.proofs.Nodes.{Kind, ofCell, ofReplaced, kind, node-void, node-asserted}
 use Rattle.working_out.proofs.Nodes.{node-shaped, same-node, inside, outputs-belong, cell-node, void-is-node}
-use Rattle.working_out.specs.Loop.{bufOf, nodeCell, current, reads, Loop, order, hasLoop}
+use Rattle.working_out.specs.Loop.{bufOf, nodeCell, currentlyRead, reads, Loop, order, hasLoop}
 use Rattle.working_out.specs.Equations.{Rule, CellShown, Solution, slotRule, workedOutBy}
-use Rattle.working_out.proofs.EquationsLaws.{Wide, CellKeeps, CellLocal}
+use Rattle.working_out.proofs.EquationsLaws.{FullWidth, CellKeeps, CellLocal}
 
 at-tab : {A : Type 0} (blank : A) (n : ℕ) (f : ℕ → A) (o : ℕ) → o < n → getD (tab n f) o blank ≡ f o
 unfolding tab
@@ -41,10 +41,10 @@ at-tab blank (suc n) f (suc o) l = at-tab blank n (λ i. f (suc i)) o (omega ari
 -- ---- The decision of a loop.
 module _ (d : Design) (laid : Laid d) where
   abbrev lows : (a b : ℕ) → reads d a b ≡ true → (a < total d) × (b < total d)
-  lows = s.reads-low (total d) (nodeOf d) (owned d laid) (current d)
+  lows = s.reads-low (total d) (nodeOf d) (owned d laid) (currentlyRead d)
 
   abbrev nodes : (a b : ℕ) → reads d a b ≡ true → start (nodeOf d) a ≡ false
-  nodes = s.reads-node (total d) (nodeOf d) (owned d laid) (current d)
+  nodes = s.reads-node (total d) (nodeOf d) (owned d laid) (currentlyRead d)
 
   -- It is right both ways.
   pub loop-decided : (hasLoop d ≡ true) ↔ Loop d
@@ -78,7 +78,7 @@ module _ {A : Type 0} (d : Design) (laid : Laid d) (rule : Rule A) (blank : A) (
       (sym (ap now here) ∙ sym (at-tab blank (outputLen (nodeCell d a)) (λ o. now (a + o)) (i - a) wide)
       ∙ ap (λ (l : List A). getD l (i - a) blank) table)
 
-  module _ (wide : Wide rule d) where
+  module _ (wide : FullWidth rule d) where
     node-shown : ((i a : ℕ) → nodeOf d i ≡ some a → now i ≡ slotRule rule d blank i now)
         → (a : ℕ) → nodeOf d a ≡ some a → Shown a
     unfolding slotRule
@@ -146,8 +146,8 @@ module _ {A : Type 0} (d : Design) (laid : Laid d) (rule : Rule A) (blank : A) (
 module _ {A B : Type 0} (d : Design) (laid : Laid d) (F : Rule A) (G : Rule B) (blank : A) (blank′ : B)
     (R : A → B → Type 0) where
   slots-keep : CellKeeps d blank blank′ F G R
-      → Keeps (nodeOf d) (current d) (slotRule F d blank) (slotRule G d blank′) R
-  unfolding slotRule current
+      → Keeps (nodeOf d) (currentlyRead d) (slotRule F d blank) (slotRule G d blank′) R
+  unfolding slotRule currentlyRead
   slots-keep h i a e σ τ k =
       let node = (belongs d i a e) .node in
       let shaped = node-shaped d laid i (belongs-low d laid i a e) node in
@@ -155,19 +155,19 @@ module _ {A B : Type 0} (d : Design) (laid : Laid d) (F : Rule A) (G : Rule B) (
       (λ j m. k j (rw (same-node d laid i a e) m)) (i - cellOf d i .slot)
 
   -- A relation that the rules keep holds between two solutions, on every slot.
-  pub related-by : hasLoop d ≡ false → Wide F d → Wide G d → CellKeeps d blank blank′ F G R
+  pub related-by : hasLoop d ≡ false → FullWidth F d → FullWidth G d → CellKeeps d blank blank′ F G R
       → (given σ : ℕ → A) (given′ τ : ℕ → B) → Solution F d given σ → Solution G d given′ τ
       → ((i : ℕ) → source d i ≡ true → R (given i) (given′ i)) → (i : ℕ) → R (σ i) (τ i)
   related-by no-loop wide wide′ keeps given σ given′ τ s-sol t-sol sources =
       let f = to-system d laid F blank σ wide given s-sol in
       let g = to-system d laid G blank′ τ wide′ given′ t-sol in
-      s.related (total d) (nodeOf d) (owned d laid) (current d) (slotRule F d blank) (slotRule G d blank′) R
+      s.related (total d) (nodeOf d) (owned d laid) (currentlyRead d) (slotRule F d blank) (slotRule G d blank′) R
       (slots-keep keeps) σ τ (f .nodes) (g .nodes)
       (λ i e. rw (f .sources i e, g .sources i e) (sources i (none-source d i e))) (order d) (ordered d laid no-loop)
 
 -- ---- Working out by a rule that looks only at what its cells read.
 module _ {A : Type 0} (d : Design) (laid : Laid d) (no-loop : hasLoop d ≡ false)
-    (rule : Rule A) (blank : A) (wide : Wide rule d) (local : CellLocal d rule) where
+    (rule : Rule A) (blank : A) (wide : FullWidth rule d) (local : CellLocal d rule) where
   keeps-equal : CellKeeps d blank blank rule rule (λ a b. a ≡ b)
   keeps-equal s a shaped h σ τ k o = ap (λ (l : List A). getD l o blank) (local s a shaped h σ τ k)
 
@@ -177,7 +177,7 @@ module _ {A : Type 0} (d : Design) (laid : Laid d) (no-loop : hasLoop d ≡ fals
   worked-out-by given =
       let slots = slots-keep d laid rule rule blank blank (λ a b. a ≡ b) keeps-equal in
       of-system d laid rule blank (workedOutBy rule d blank given) wide given
-      (s.solves (total d) (nodeOf d) (owned d laid) (current d) (slotRule rule d blank) slots given
+      (s.solves (total d) (nodeOf d) (owned d laid) (currentlyRead d) (slotRule rule d blank) slots given
       (order d) (ordered d laid no-loop))
 
   -- It is the only one.

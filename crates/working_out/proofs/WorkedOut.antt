@@ -21,7 +21,7 @@ use Rattle.rules.proofs.CellRuleLaws.{cellRule-length}
 use Rattle.rules.proofs.LocalLaws.{cellRule-monotone, cellRule-local}
 use Rattle.working_out.specs.Reading.{readsPast, source, asserted, ofVoid, pairOf}
 use Rattle.working_out.specs.Loop.{hasLoop}
-use Rattle.working_out.proofs.EquationsLaws.{Wide, CellKeeps, CellLocal}
+use Rattle.working_out.proofs.EquationsLaws.{FullWidth, CellKeeps, CellLocal}
 use Rattle.working_out.proofs.Solutions.{related-by, worked-out-by, only-by}
 use Rattle.working_out.specs.WorkingOut.{tritRule, workedOut, whole, Solves}
 
@@ -33,7 +33,7 @@ never-ioBuf : (a : Cell) → asserted a ≡ true → (n : ℕ) → a ≡ c.ioBuf
 never-ioBuf a h n e = false≢true (rw e at h)
 
 -- ---- The rules of cells, on trits: their widths, what they look at, and that they keep refinement.
-pub trit-wide : (d : Design) (was : ℕ → Trit) → Wide (tritRule d was) d
+pub trit-wide : (d : Design) (was : ℕ → Trit) → FullWidth (tritRule d was) d
 trit-wide d was s a shaped h now =
     cellRule-length (readsPast d) (record { now = now; was = was }) (outputs s (outputLen a)) a shaped (never-input a h)
     (length-tab (outputLen a) (λ o. s + o))

@@ -45,10 +45,10 @@ module _ (N : ℕ) (reads : ℕ → ℕ → Bool) where
   order zero done = []
   order (suc k) done = option (lowestReady done) [] (λ a. a ∷ order k (mark done a))
 
-  unfoldable pub marks : (ℕ → Bool) → List ℕ → ℕ → Bool
-  marks done [] = done
-  marks done (a ∷ l) = marks (mark done a) l
+  unfoldable pub markAll : (ℕ → Bool) → List ℕ → ℕ → Bool
+  markAll done [] = done
+  markAll done (a ∷ l) = markAll (mark done a) l
 
   -- The lowest node that never gets ready.
   unfoldable pub neverReady : (ℕ → Bool) → Option ℕ
-  neverReady done = lowest N (λ a. not (marks done (order (undone N done) done) a))
+  neverReady done = lowest N (λ a. not (markAll done (order (undone N done) done) a))

@@ -29,12 +29,12 @@ unfoldable pub nodeCell : Design → ℕ → Cell
 nodeCell d i = ruleCell (cellOf d i .cell) (replacement d i)
 
 -- The slots that a node reads currently.
-unfoldable pub current : Design → ℕ → List ℕ
-current d a = currentReads (readsPast d) (nodeCell d a)
+unfoldable pub currentlyRead : Design → ℕ → List ℕ
+currentlyRead d a = currentReads (readsPast d) (nodeCell d a)
 
 -- Node a reads node b currently: one of the slots that a reads belongs to b.
 abbrev pub reads : Design → ℕ → ℕ → Bool
-reads d = s.reads (nodeOf d) (current d)
+reads d = s.reads (nodeOf d) (currentlyRead d)
 
 -- A loop is a chain of such reads from a node to itself.
 abbrev pub Loop : Design → Type 0

@@ -4,7 +4,7 @@ use borrow.Author.Needs.{needs}
 use mathlib.Core.Path.{refl, sym, ap, _∙_}
 use Rattle.answer.proofs.ModelLaws.{reply-marks, reply-room, reply-text, read-as, table-written}
 use Rattle.reply.specs.Reply.{satisfied}
-use Rattle.text.specs.Names.{asked}
+use Rattle.text.specs.Names.{askedNames}
 use Rattle.answer.proofs.read_answer.Statement.{statement}
 use Rattle.answer.proofs.read_answer.Tie as tie
 
@@ -35,7 +35,7 @@ returns-3 c =
     let marks = told .before .before in
     let start = marks .before .before .before .before in
     let fine = sym (marks .bad-mark .ensures) ∙ told .enum-told .given .1 in
-    let said = rw (c .enum-told2 .given .1) at (first .verdict-of .ensures (asked (start .args .recorded .now))) in
+    let said = rw (c .enum-told2 .given .1) at (first .verdict-of .ensures (askedNames (start .args .recorded .now))) in
     read-as _ _ (start .args .trits .now) (reply-text _ _ _ fine (roomy .if1 .left) ∙ said) refl
 
 returns-4 : tie.Need-returns-4
@@ -47,7 +47,7 @@ returns-4 c =
     let marks = told .before .before in
     let start = marks .before .before .before .before in
     let fine = sym (marks .bad-mark .ensures) ∙ told .enum-told .given .1 in
-    let said = rw (verdict .e .given .1) at (first .verdict-of .ensures (asked (start .args .recorded .now))) in
+    let said = rw (verdict .e .given .1) at (first .verdict-of .ensures (askedNames (start .args .recorded .now))) in
     read-as _ _ (start .args .trits .now) (reply-text _ _ _ fine (roomy .if1 .left) ∙ said) refl
 
 returns-5 : tie.Need-returns-5
@@ -61,7 +61,7 @@ returns-5 c =
     let marks = told .before .before in
     let start = marks .before .before .before .before in
     let fine = sym (marks .bad-mark .ensures) ∙ told .enum-told .given .1 in
-    let said = rw (verdict .at .given .1) at (first .verdict-of .ensures (asked (start .args .recorded .now))) in
+    let said = rw (verdict .at .given .1) at (first .verdict-of .ensures (askedNames (start .args .recorded .now))) in
     let model = rw (found .e2 .given .1) at (modelled .model-at .ensures) in
     read-as _ _ (start .args .trits .now) (reply-text _ _ _ fine (roomy .if1 .left) ∙ said ∙ ap satisfied model) refl
 
@@ -77,7 +77,7 @@ returns-6 c =
     let marks = told .before .before in
     let start = marks .before .before .before .before in
     let fine = sym (marks .bad-mark .ensures) ∙ told .enum-told .given .1 in
-    let said = rw (verdict .at .given .1) at (first .verdict-of .ensures (asked (start .args .recorded .now))) in
+    let said = rw (verdict .at .given .1) at (first .verdict-of .ensures (askedNames (start .args .recorded .now))) in
     let model = rw (found .first .given .1) at (modelled .model-at .ensures) in
     read-as _ _ (start .args .trits .now) (reply-text _ _ _ fine (roomy .if1 .left) ∙ said ∙ ap satisfied (model .3))
     (table-written _ _ _ (model .0) (roomy .if1 .left) (model .4) (written .write-entries .ensures))

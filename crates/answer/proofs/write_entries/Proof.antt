@@ -6,7 +6,7 @@ use mathlib.Core.Path.{_≡_, refl, sym, _∙_}
 use lib.ListN.{length, drop}
 use Rattle.engine.specs.Emit.{overwrite}
 use Rattle.tokens.specs.Place.{tokensFrom}
-use Rattle.answer.specs.Entries.{written}
+use Rattle.answer.specs.Entries.{entriesWritten}
 use Rattle.answer.proofs.EntriesLaws.{put-turn, put-fault, put-done}
 use Rattle.answer.proofs.write_entries.Statement.{statement}
 use Rattle.answer.proofs.write_entries.Tie as tie
@@ -14,8 +14,8 @@ use Rattle.answer.proofs.write_entries.Tie as tie
 abbrev Inv-loop : tie.InvT-loop
 Inv-loop text start recorded trits₀ at₀ slot₀ trits at slot =
     (length trits ≡ length trits₀)
-    × (overwrite trits₀ 0 (written 0 recorded (tokensFrom text start))
-    ≡ overwrite trits slot (written slot (drop slot recorded) (tokensFrom text at)))
+    × (overwrite trits₀ 0 (entriesWritten 0 recorded (tokensFrom text start))
+    ≡ overwrite trits slot (entriesWritten slot (drop slot recorded) (tokensFrom text at)))
 
 abbrev μ-loop : tie.MeasureT-loop
 μ-loop text start recorded trits₀ at₀ slot₀ trits at slot = length recorded - slot

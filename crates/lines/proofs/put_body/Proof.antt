@@ -62,7 +62,8 @@ returns-5 c =
     let start = known .before .before .before .before in
     let kind = body-kind (start .args .calls .now) (start .args .head) (known .operation-at .ensures)
     (found .body-of .ensures) (told .enum-told5 .given .1) in
-    λ ready. rw kind (rw (known .operation-at .ensures, counted .count-at .ensures) at (written .put-application .ensures))
+    λ ready.
+    rw kind (rw (known .operation-at .ensures, counted .count-at .ensures) at (written .put-application .ensures))
 
 pub put-body-spec : {M : Type 1} → statement M
 put-body-spec =

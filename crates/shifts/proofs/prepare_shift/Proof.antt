@@ -2,7 +2,7 @@
 -- the width of the model. Assumes nothing.
 use borrow.Author.Needs.{needs}
 use native.Mathlib.Omega.{arith}
-use Rattle.operands.specs.Words.{Wide}
+use Rattle.operands.specs.Words.{ShiftFits}
 use Rattle.shifts.proofs.Widths.{ran-prepared}
 use Rattle.shifts.proofs.prepare_shift.Statement.{statement}
 use Rattle.shifts.proofs.prepare_shift.Tie as tie
@@ -24,7 +24,7 @@ returns c =
     let stride = at-number-at2 .number-at2 .result in
     let width = at-shift-width .shift-width .result in (
       λ small few.
-          let wide : Wide (args .n) m stride width =
+          let wide : ShiftFits (args .n) m stride width =
           at-shift-width .shift-width .ensures .1 small (omega (arith, number, few)) (omega (arith, number-2)) in
           let value = at-extended-nets .extended-nets .ensures .1 (wide .value) (wide .narrow) in
           let amount = at-extended-nets2 .extended-nets2 .ensures .1 (wide .amount) (wide .narrow) in
@@ -33,7 +33,7 @@ returns c =
           (wide .exact)
           (rw (value, amount) at (at-prepare-at .prepare-at .ensures .0 (wide .narrow)))),
       λ small few.
-          let wide : Wide (args .n) m stride width =
+          let wide : ShiftFits (args .n) m stride width =
           at-shift-width .shift-width .ensures .1 small (omega (arith, number, few)) (omega (arith, number-2)) in
           rw (at-prepare-at .prepare-at .ensures .1) (wide .narrow),
     )
