@@ -46,7 +46,8 @@ module _ (readsPast : ℕ → Bool) (θ : Trits) where
       binary-width op (vector a (length a) refl) (vector b (length a) (s .0))
   cellRule-width out (c.mux sel a b) s ruled e =
       mux-width (read readsPast θ sel) (vector a (length a) refl) (vector b (length a) s)
-  cellRule-width out (c.adc a b carry) s ruled e = adc-width (vector a (length a) refl) _ (read readsPast θ carry)
+  cellRule-width out (c.adc a b carry) s ruled e =
+      adc-width (vector a (length a) refl) (map (read readsPast θ) b) (read readsPast θ carry)
   cellRule-width out (c.aig a b) s ruled e = record { is = refl }
   cellRule-width out (c.shift op value amount stride) s ruled e =
       shift-width op (vector value (length value) refl) _ stride
