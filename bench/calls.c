@@ -1,6 +1,6 @@
 /* Times the call side: checking, evaluating and writing call lists of growing length, chains and fans, with tables that the caller lends, and
    checking and evaluating with the entries' own tables. For each it prints the nanoseconds a word (evaluating: also a term), the growth from the
-   length before for each doubling, and for writing the time against a copy of the same text. */
+   length before for each doubling, and for writing the time against a copy of the same text. A second table has the evaluator's products. */
 #include <stdio.h>
 #include <stdlib.h>
 #include <string.h>
@@ -10,7 +10,7 @@
 #define HEAD(op, count) ((VM_KIND_HEAD << 29) + (op) + 32u * (count))
 #define NUMBER(n) ((VM_KIND_NUMBER << 29) + (n))
 #define TERM(k) ((VM_KIND_TERM << 29) + (k))
-enum { EQUAL = 5, BVADD = 13, BVNOT = 9, AND = 3, DECLARE = 21, ASSERT = 22 };
+enum { EQUAL = 5, BVADD = 13, BVNOT = 9, AND = 3, BVMUL = 20, DECLARE = 21, ASSERT = 22 };
 
 /* Processor time, so that other work on the machine counts little. */
 static double now(void) {
@@ -35,15 +35,20 @@ static size_t declare(uint32_t *calls, size_t at, uint32_t letter, uint32_t inde
     return at + 5;
 }
 
-/* A chain: one name of 32 bits, then sums, each of the term before and the name. */
-static size_t chain(uint32_t *calls, size_t words) {
-    size_t at = declare(calls, 0, 2, 0, 0, 32);
+/* One name, then results of an operation, each of the name and the term before. */
+static size_t results(uint32_t *calls, size_t words, uint32_t op, uint32_t width) {
+    size_t at = declare(calls, 0, 2, 0, 0, width);
     for (uint32_t k = 0; at + 3 <= words; k++, at += 3) {
-        calls[at] = HEAD(BVADD, 2);
-        calls[at + 1] = TERM(k);
-        calls[at + 2] = TERM(0);
+        calls[at] = HEAD(op, 2);
+        calls[at + 1] = TERM(0);
+        calls[at + 2] = TERM(k);
     }
     return at;
+}
+
+/* A chain: sums of 32 bits. */
+static size_t chain(uint32_t *calls, size_t words) {
+    return results(calls, words, BVADD, 32);
 }
 
 /* A fan: names of one bit in ascending order, each equated with the first, and an and of all the equations, which is asserted. */
@@ -139,6 +144,23 @@ static struct row measure(const char *shape, size_t (*make)(uint32_t *, size_t),
     return row;
 }
 
+/* The nanoseconds a term that evaluating a chain of one operation takes. The name is odd, so that products do not come to 0, and half of its bits
+   are 1. */
+static double term_time(uint32_t op, uint32_t width) {
+    size_t words = 131072;
+    uint32_t *calls = room(words * sizeof *calls);
+    size_t n = results(calls, words, op, width);
+    struct tables t = {room(n * 4), room(n), room(n * 9 / 8 * 9), n, n * 9 / 8 * 9};
+    uint64_t sizes[2], packed, bits = 0x9e3779b97f4a7c15u >> (64 - width) | 1;
+    if (VM_NUMBER(packed = check(calls, n, &t, sizes))) fail("check", packed);
+    uint64_t *values = room(sizes[0] * 8);
+    double best;
+    BEST(best, if (VM_NUMBER(packed = vm_evaluate_with(calls, n, &bits, 1, values, sizes[0], t.sorts, t.terms, t.names, t.name_bytes)))
+                   fail("evaluate", packed));
+    free(calls), free(t.places), free(t.sorts), free(t.names), free(values);
+    return best / sizes[0] * 1e9;
+}
+
 int main(int argc, char **argv) {
     const size_t lengths[] = {16384, 131072, 1048576, 33554432};
     size_t most = argc > 1 ? strtoull(argv[1], NULL, 10) : 4;
@@ -148,5 +170,8 @@ int main(int argc, char **argv) {
         struct row before = {0};
         for (size_t i = 0; i < 4 && i < most; i++) before = measure(fans ? "fan" : "chain", fans ? fan : chain, lengths[i], before);
     }
+    const uint32_t widths[] = {1, 17, 64};
+    printf("\n| width | evaluate a chain of sums, ns a term | of products, ns a term |\n|---|---|---|\n");
+    for (size_t i = 0; i < 3; i++) printf("| %u | %.1f | %.1f |\n", widths[i], term_time(BVADD, widths[i]), term_time(BVMUL, widths[i]));
     return 0;
 }

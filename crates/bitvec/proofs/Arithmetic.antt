@@ -1,50 +1,19 @@
 -- Numbers modulo powers of two: what the proofs of this crate need beyond the kit. Assumes nothing.
-use mathlib.Core.Path.{_≡_, sym, ap, ap₂, _∙_, subst⁻¹}
+use mathlib.Core.Path.{_≡_, sym, ap, _∙_, subst}
 use Prim.Native.Nat.{ℕ, suc, _+_, _-_, _*_, _/_, _%_, _^_, _≤_, _<_}
 use native.Mathlib.Nat.{add-mul, mul-right-comm, mul-add-mod-self-right, div-add-mod', mul-comm, le-dest}
-use native.Mathlib.Nat.{div-lt-iff-lt-mul, mod-lt, one-mul, mul-le-mul-left, mul-lt-mul-of-pos-right, le-of-lt}
-use native.Mathlib.Nat.{lt-of-le-of-lt, mul-add, mul-assoc}
+use native.Mathlib.Nat.{div-lt-iff-lt-mul, mod-lt, one-mul, sub-add-cancel}
 use native.Mathlib.Omega.{arith}
 use lib.Arith.{digits-mod}
-use lib.Pow.{pow-pos, pow-add, field, mod-mod-pow, shl-exact}
+use lib.Pow.{field, mod-mod-pow, shl-exact}
 
 -- 1 << w
 pub one-shl : (w : ℕ) → w < 64 → (1 * 2 ^ w) % 2 ^ 64 ≡ 2 ^ w
 one-shl w h = shl-exact {a = 1} 1 w 64 (omega arith) (omega arith) ∙ one-mul (2 ^ w)
 
--- A product of two numbers of k bits has 2 k bits.
-pub below : (k : ℕ) {a b : ℕ} → a < 2 ^ k → b < 2 ^ k → a * b < 2 ^ (k + k)
-below k {a} {b} ha hb =
-    subst⁻¹ (λ (n : ℕ). a * b < n) (pow-add 2 k k)
-    (lt-of-le-of-lt (mul-le-mul-left a (le-of-lt hb)) (mul-lt-mul-of-pos-right ha (pow-pos k)))
-
-expand : (p q r s m : ℕ) → (p * m + q) * (r * m + s) ≡ (p * r * m + p * s) * m + (q * r * m + q * s)
-expand p q r s m =
-    add-mul (p * m) q (r * m + s)
-    ∙ ap₂ (λ (x y : ℕ). x + y) (mul-right-comm p m (r * m + s) ∙ ap (λ (x : ℕ). x * m) (row p)) (row q)
-  where
-    row : (x : ℕ) → x * (r * m + s) ≡ x * r * m + x * s
-    row x = mul-add x (r * m) s ∙ ap (λ (y : ℕ). y + x * s) (sym (mul-assoc x r m))
-
--- A product modulo 2 ^ 64 from the halves of its factors.
-pub halves : (a b mid r : ℕ)
-    → mid ≡ (a / 2 ^ 32 * (b % 2 ^ 32) + a % 2 ^ 32 * (b / 2 ^ 32)) % 2 ^ 64
-    → r ≡ (mid % 2 ^ 32 * 2 ^ 32 + a % 2 ^ 32 * (b % 2 ^ 32)) % 2 ^ 64
-    → r ≡ a * b % 2 ^ 64
-halves a b mid r p q =
-    joined (a * b) (a / m * (b / m)) (a / m * (b % m)) (a % m * (b / m)) (a % m * (b % m)) parts p q
-  where
-    m : ℕ
-    m = 2 ^ 32
-
-    parts : a * b ≡ (a / m * (b / m) * m + a / m * (b % m)) * m + (a % m * (b / m) * m + a % m * (b % m))
-    parts =
-        ap₂ (λ (x y : ℕ). x * y) (sym (div-add-mod' a m)) (sym (div-add-mod' b m))
-        ∙ expand (a / m) (a % m) (b / m) (b % m) m
-
-    joined : (n hh hl lh ll : ℕ) → n ≡ (hh * 2 ^ 32 + hl) * 2 ^ 32 + (lh * 2 ^ 32 + ll)
-        → mid ≡ (hl + lh) % 2 ^ 64 → r ≡ (mid % 2 ^ 32 * 2 ^ 32 + ll) % 2 ^ 64 → r ≡ n % 2 ^ 64
-    joined n hh hl lh ll e p q = omega arith
+-- A number cut to 64 bits is the same at every width up to 64.
+pub narrower : (w x : ℕ) → w ≤ 64 → x % 2 ^ 64 % 2 ^ w ≡ x % 2 ^ w
+narrower w x u = subst (λ (k : ℕ). x % 2 ^ k % 2 ^ w ≡ x % 2 ^ w) (sub-add-cancel u) (mod-mod-pow x (64 - w) w)
 
 -- A product modulo m is that of the factors modulo m.
 pub mul-mod-first : (a b m : ℕ) → a * b % m ≡ a % m * b % m

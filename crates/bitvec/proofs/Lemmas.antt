@@ -7,7 +7,7 @@ use native.Mathlib.Omega.{arith}
 use lib.Bits.{bitAnd, bitOr, bitXor, and-mod, or-mod, xor-mod, or-shifted}
 use lib.Dec.{ltb, eqb}
 use lib.ListN.{length, getD}
-use lib.Pow.{pow-pos, pow-add, mod-mod-pow, shl-exact}
+use lib.Pow.{pow-pos, pow-add, shl-exact}
 use Rattle.bitvec.specs.Bits.{Bits, bv2nat, nat2bv, odd, bit}
 use Rattle.bitvec.specs.Ops as bv
 use Rattle.bitvec.specs.Words.{atWidth, holdsAt}
@@ -16,7 +16,7 @@ use Rattle.bitvec.proofs.Numbers.{bv2nat-bvand, bv2nat-bvor, bv2nat-bvx
 use Rattle.bitvec.proofs.Numbers.{bv2nat-bvmul, equal-eqb, bit-at, bv2nat-concat, bv2nat-extract, bvslt-signs}
 use Rattle.bitvec.proofs.Shifts.{bv2nat-bvshl, bv2nat-bvlshr, bvshl-out, bvlshr-out}
 use Rattle.bitvec.proofs.WordLaws.{by-width, at-width, at-same, holds-width, holds-same, nat2bv-at, reduced}
-use Rattle.bitvec.proofs.Arithmetic.{mul-mod-first, mul-mod, complement-mod, within}
+use Rattle.bitvec.proofs.Arithmetic.{mul-mod-first, mul-mod, complement-mod, within, narrower}
 
 -- ---- reduction
 
@@ -26,10 +26,7 @@ exact w x s e = at-same w (nat2bv w x) s (λ l u. bv2nat-nat2bv w x ∙ sym (e l
 
 pub wrapped : (w x q : ℕ) (s : Bits) → q ≡ x % 2 ^ 64 → (0 < w → w ≤ 64 → bv2nat s ≡ x % 2 ^ w)
     → atWidth w (nat2bv w q) ≡ atWidth w s
-wrapped w x q s p e = exact w q s (λ l u. e l u ∙ sym (ap (λ (v : ℕ). v % 2 ^ w) p ∙ narrower u))
-  where
-    narrower : w ≤ 64 → x % 2 ^ 64 % 2 ^ w ≡ x % 2 ^ w
-    narrower u = subst (λ (k : ℕ). x % 2 ^ k % 2 ^ w ≡ x % 2 ^ w) (sub-add-cancel u) (mod-mod-pow x (64 - w) w)
+wrapped w x q s p e = exact w q s (λ l u. e l u ∙ sym (ap (λ (v : ℕ). v % 2 ^ w) p ∙ narrower w x u))
 
 -- A word is its own reduction to 64 bits.
 pub whole : (w x : ℕ) → w ≡ 64 → x < 2 ^ 64 → x ≡ atWidth w (nat2bv w x)

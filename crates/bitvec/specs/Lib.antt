@@ -1,3 +1,4 @@
 pub mod Bits
 pub mod Ops
+pub mod Partial
 pub mod Words

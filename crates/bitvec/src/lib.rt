@@ -1,11 +1,12 @@
 // The operations of SMT-LIB's QF_BV on bit vectors of width 1 to 64, each vector held as its number in a u64.
-// Each function takes constant time and is defined for every argument: an operand counts modulo 2^width, and at a width
-// outside 1 to 64 the answer is 0, or false.
+// Each function takes constant time, but for bvmul, which takes a turn for each bit, and is defined for every argument:
+// an operand counts modulo 2^width, and at a width outside 1 to 64 the answer is 0, or false.
 ghost use mathlib.Core.Path.{_≡_};
 ghost use mathlib.Core.Bool.{cond};
-ghost use Prim.Native.Nat.{_*_, _%_, _^_};
+ghost use Prim.Native.Nat.{_%_, _^_, _≤_};
 ghost use Rattle.bitvec.specs.Bits.{nat2bv};
 ghost use Rattle.bitvec.specs.Ops as bv;
+ghost use Rattle.bitvec.specs.Partial.{partial};
 ghost use Rattle.bitvec.specs.Words.{atWidth, holdsAt, concatAt, extractAt};
 
 // A number modulo 2^width: the vector that `nat2bv` makes of it.
@@ -177,20 +178,29 @@ pub fn bvashr(width: u32, s: u64, t: u64) -> u64
     }
 }
 
-// a * b, modulo 2^64, from the halves of a and b: the product of the high halves lies above.
-fn wrapping_mul(a: u64, b: u64) -> u64
-    ensures { λ r. ⌜ r ≡ a * b % 2 ^ 64 ⌝ }
+// s times the low `width` bits of t, from the highest bit down: each bit doubles the sum and, where it is 1, adds s.
+// What passes 2^64 does not count at any width.
+fn wrapping_mul(width: u32, s: u64, t: u64) -> u64
+    requires { ⌜ width ≤ 64 ⌝ }
+    ensures { λ r. ⌜ r % 2 ^ width ≡ partial s t width width ⌝ }
 {
-    let ah = a / 4294967296;
-    let al = a % 4294967296;
-    let bh = b / 4294967296;
-    let bl = b % 4294967296;
-    let mid = std::num::wrapping_add_u64(ah * bl, al * bh) % 4294967296;
-    std::num::wrapping_add_u64(mid * 4294967296, al * bl)
+    let mut sum: u64 = 0;
+    let mut j: u32 = 0;
+    while j < width {
+        sum = std::num::wrapping_add_u64(sum, sum);
+        if (t >> (width - 1 - j)) % 2 == 1 {
+            sum = std::num::wrapping_add_u64(sum, s);
+        }
+        j += 1;
+    }
+    sum
 }
 
 pub fn bvmul(width: u32, s: u64, t: u64) -> u64
     ensures { λ r. ⌜ r ≡ atWidth width (bv.bvmul (nat2bv width s) (nat2bv width t)) ⌝ }
 {
-    reduce(width, wrapping_mul(s, t))
+    if 64 < width {
+        return 0;
+    }
+    reduce(width, wrapping_mul(width, s, t))
 }
