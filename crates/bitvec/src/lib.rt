@@ -1,6 +1,6 @@
 // The operations of SMT-LIB's QF_BV on bit vectors of width 1 to 64, each vector held as its number in a u64.
-// Each function takes constant time, but for bvmul, which takes a turn for each bit, and is defined for every argument:
-// an operand counts modulo 2^width, and at a width outside 1 to 64 the answer is 0, or false.
+// Each function is defined for every argument: an operand counts modulo 2^width, and at a width outside 1 to 64 the
+// answer is 0, or false. Each takes constant time, bvmul a turn for each bit of the width.
 ghost use mathlib.Core.Path.{_≡_};
 ghost use mathlib.Core.Bool.{cond};
 ghost use Prim.Native.Nat.{_%_, _^_, _≤_};
