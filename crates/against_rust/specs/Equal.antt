@@ -43,7 +43,7 @@ unfolding digits.span digits.climb digits.size table.tab bits.bv2nat bits.nat2bv
     builder.tvConcatOn builder.tvConcat builder.tvExtract builder.tvIs0 builder.tvIs1 builder.tvEq builder.tvRefines
     builder.tvNot builder.tvAnd builder.tvOr builder.tvXor builder.tvMux builder.collect builder.netOf builder.valueOf
     builder.invertNet builder.clockNet builder.shiftWidth builder.bvNoX builder.carryX builder.tvAdc
-    builder.tvEquals builder.tvLess builder.tvMul builder.tvShift builder.firstMatch builder.net builder.controlNet
+    builder.tvEquals builder.tvLess builder.tvStrict builder.tvShift builder.firstMatch builder.net builder.controlNet
     builder.prepareAt builder.shifted builder.compared builder.product builder.sum builder.matchOf builder.matchCell
     builder.enabled builder.resetTo builder.loaded builder.cleared builder.dffCell builder.adcCell builder.cell
     emit.emit _>>=_ design.cellIn reading.replacementIn reading.nodeOf order.claim order.newCell order.replaceNet

@@ -60,12 +60,56 @@ length-bvshl s t = length-nat2bv (length s) _
 pub length-bvlshr : (s t : Bits) → length (bv.bvlshr s t) ≡ length s
 length-bvlshr s t = length-nat2bv (length s) _
 
+-- Whichever of two is chosen.
+pub length-cond : {n : ℕ} (b : Bool) (s t : Bits) → length s ≡ n → length t ≡ n → length (cond b s t) ≡ n
+length-cond true s t p q = p
+length-cond false s t p q = q
+
 pub length-bvashr : (s t : Bits) → length (bv.bvashr s t) ≡ length s
 length-bvashr s t = by-sign (bv.msb s)
   where
     by-sign : (b : Bool) → length (cond b (bv.bvnot (bv.bvlshr (bv.bvnot s) t)) (bv.bvlshr s t)) ≡ length s
     by-sign true = simp (length-map, length-nat2bv)
     by-sign false = length-bvlshr s t
+
+pub length-bvudiv : (s t : Bits) → length (bv.bvudiv s t) ≡ length s
+unfolding bv.bvudiv
+length-bvudiv s t =
+    length-cond (eqb (bv2nat t) 0) _ _ (length-map s (λ b. true)) (length-nat2bv (length s) (bv2nat s / bv2nat t))
+
+pub length-bvurem : (s t : Bits) → length (bv.bvurem s t) ≡ length s
+unfolding bv.bvurem
+length-bvurem s t = length-cond (eqb (bv2nat t) 0) s _ refl (length-nat2bv (length s) (bv2nat s % bv2nat t))
+
+pub length-bvneg : (s : Bits) → length (bv.bvneg s) ≡ length s
+length-bvneg s = length-nat2bv (length s) _
+
+-- What holds of the four vectors holds of the one that the signs choose.
+pub by-signs : (P : Bits → Type 0) (s t : Bits) {neither first second both : Bits}
+    → P neither → P first → P second → P both → P (bv.bySigns s t neither first second both)
+by-signs P s t {neither} {first} {second} {both} p q r u = go (bv.msb s) (bv.msb t)
+  where
+    go : (a b : Bool) → P (cond (not a && not b) neither (cond (a && not b) first (cond (not a && b) second both)))
+    go true true = u
+    go true false = q
+    go false true = r
+    go false false = p
+
+pub length-bvsdiv : (s t : Bits) → length (bv.bvsdiv s t) ≡ length s
+unfolding bv.bvsdiv
+length-bvsdiv s t =
+    by-signs (λ r. length r ≡ length s) s t (length-bvudiv s t)
+    (length-bvneg (bv.bvudiv (bv.bvneg s) t) ∙ length-bvudiv (bv.bvneg s) t ∙ length-bvneg s)
+    (length-bvneg (bv.bvudiv s (bv.bvneg t)) ∙ length-bvudiv s (bv.bvneg t))
+    (length-bvudiv (bv.bvneg s) (bv.bvneg t) ∙ length-bvneg s)
+
+pub length-bvsrem : (s t : Bits) → length (bv.bvsrem s t) ≡ length s
+unfolding bv.bvsrem
+length-bvsrem s t =
+    by-signs (λ r. length r ≡ length s) s t (length-bvurem s t)
+    (length-bvneg (bv.bvurem (bv.bvneg s) t) ∙ length-bvurem (bv.bvneg s) t ∙ length-bvneg s)
+    (length-bvurem s (bv.bvneg t))
+    (length-bvneg (bv.bvurem (bv.bvneg s) (bv.bvneg t)) ∙ length-bvurem (bv.bvneg s) (bv.bvneg t) ∙ length-bvneg s)
 
 -- ---- nat2bv and bv2nat
 

@@ -128,12 +128,12 @@ module _ (w s t : ℕ) where
       by-width (λ (b : Bool). ltb (cond b (bv2nat S) 0) (cond b (bv2nat T) 0) ≡ (b && bv.bvult S T)) w (λ _ _. refl)
       refl
 
-  -- m and n are the signs, o whether they agree.
-  pub word-bvslt : (m n o : Bool) → m ≡ holdsAt w (bv.msb S) → n ≡ holdsAt w (bv.msb T) → Bool·beq m n ≡ o
-      → holdsAt w (cond o (bv.bvult S T) (bv.msb S)) ≡ holdsAt w (bv.bvslt S T)
-  word-bvslt m n o e f g =
-      holds-same w (cond o (bv.bvult S T) (bv.msb S)) (bv.bvslt S T)
-      (λ l u. ap (λ (b : Bool). cond b (bv.bvult S T) (bv.msb S)) (agree l u) ∙ sym (bvslt-signs S T))
+  -- m and n are the signs.
+  pub agree : (m n : Bool) → m ≡ holdsAt w (bv.msb S) → n ≡ holdsAt w (bv.msb T) → 0 < w → w ≤ 64
+      → Bool·beq m n ≡ bv.same (bv.msb S) (bv.msb T)
+  agree m n e f l u =
+      ap₂ Bool·beq (e ∙ holds-width w (bv.msb S) l u) (f ∙ holds-width w (bv.msb T) l u)
+      ∙ beq-same (bv.msb S) (bv.msb T)
     where
       beq-same : (p q : Bool) → Bool·beq p q ≡ bv.same p q
       beq-same true true = refl
@@ -141,10 +141,12 @@ module _ (w s t : ℕ) where
       beq-same false true = refl
       beq-same false false = refl
 
-      agree : 0 < w → w ≤ 64 → o ≡ bv.same (bv.msb S) (bv.msb T)
-      agree l u =
-          sym g ∙ ap₂ Bool·beq (e ∙ holds-width w (bv.msb S) l u) (f ∙ holds-width w (bv.msb T) l u)
-          ∙ beq-same (bv.msb S) (bv.msb T)
+  -- o is whether they agree.
+  pub word-bvslt : (m n o : Bool) → m ≡ holdsAt w (bv.msb S) → n ≡ holdsAt w (bv.msb T) → Bool·beq m n ≡ o
+      → holdsAt w (cond o (bv.bvult S T) (bv.msb S)) ≡ holdsAt w (bv.bvslt S T)
+  word-bvslt m n o e f g =
+      holds-same w (cond o (bv.bvult S T) (bv.msb S)) (bv.bvslt S T)
+      (λ l u. ap (λ (b : Bool). cond b (bv.bvult S T) (bv.msb S)) (sym g ∙ agree m n e f l u) ∙ sym (bvslt-signs S T))
 
   pub word-bvlshr : atWidth w S / 2 ^ atWidth w T ≡ atWidth w (bv.bvlshr S T)
   unfolding atWidth

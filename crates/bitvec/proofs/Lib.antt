@@ -1,5 +1,7 @@
 mod Arithmetic
 mod Lemmas
+mod WordDivisions
+pub mod Divisions
 pub mod Laws
 pub mod Numbers
 pub mod Products

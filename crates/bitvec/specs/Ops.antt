@@ -1,10 +1,10 @@
--- SMT-LIB 2.6, theory FixedSizeBitVectors and logic QF_BV: the operations, in the order of document 01's calls. bvxor,
--- bvslt and bvashr are QF_BV's abbreviations, each written as that document expands it; bvcomp is what its expansion
--- comes to. ite is `cond`.
+-- SMT-LIB 2.6, theory FixedSizeBitVectors and logic QF_BV: the operations, in the order of document 01's calls, then
+-- the divisions of document 02, change 3. bvxor, bvslt, bvashr, bvsdiv and bvsrem are QF_BV's abbreviations, each
+-- written as that document expands it; bvcomp is what its expansion comes to. ite is `cond`.
 use mathlib.Core.Bool.{Bool, true, false, not, cond, _&&_, _||_}
 use mathlib.Core.List.{[], _∷_, _++_, map}
-use Prim.Native.Nat.{ℕ, suc, _+_, _-_, _*_, _/_, _^_}
-use lib.Dec.{ltb}
+use Prim.Native.Nat.{ℕ, suc, _+_, _-_, _*_, _/_, _%_, _^_}
+use lib.Dec.{eqb, ltb}
 use lib.ListN.{length, getD, take, drop}
 use Rattle.logic.specs.Table.{zipWith}
 use Rattle.bitvec.specs.Bits.{Bits, bv2nat, nat2bv}
@@ -71,3 +71,29 @@ bvashr s t = cond (msb s) (bvnot (bvlshr (bvnot s) t)) (bvlshr s t)
 
 abbrev pub bvmul : Bits → Bits → Bits
 bvmul s t = nat2bv (length s) (bv2nat s * bv2nat t)
+
+-- Division and remainder of unsigned numbers are total: by zero every bit is 1, and the first operand is left.
+unfoldable pub bvudiv : Bits → Bits → Bits
+bvudiv s t = cond (eqb (bv2nat t) 0) (map (λ b. true) s) (nat2bv (length s) (bv2nat s / bv2nat t))
+
+unfoldable pub bvurem : Bits → Bits → Bits
+bvurem s t = cond (eqb (bv2nat t) 0) s (nat2bv (length s) (bv2nat s % bv2nat t))
+
+abbrev pub bvneg : Bits → Bits
+bvneg s = nat2bv (length s) (2 ^ length s - bv2nat s)
+
+-- Of signed numbers, by the signs of s and t: neither negative, s alone, t alone, both.
+abbrev pub bySigns : Bits → Bits → Bits → Bits → Bits → Bits → Bits
+bySigns s t neither first second both =
+    cond (not (msb s) && not (msb t)) neither
+    (cond (msb s && not (msb t)) first (cond (not (msb s) && msb t) second both))
+
+unfoldable pub bvsdiv : Bits → Bits → Bits
+bvsdiv s t =
+    bySigns s t
+    (bvudiv s t) (bvneg (bvudiv (bvneg s) t)) (bvneg (bvudiv s (bvneg t))) (bvudiv (bvneg s) (bvneg t))
+
+unfoldable pub bvsrem : Bits → Bits → Bits
+bvsrem s t =
+    bySigns s t
+    (bvurem s t) (bvneg (bvurem (bvneg s) t)) (bvurem s (bvneg t)) (bvneg (bvurem (bvneg s) (bvneg t)))

@@ -204,3 +204,59 @@ pub fn bvmul(width: u32, s: u64, t: u64) -> u64
     }
     reduce(width, wrapping_mul(width, s, t))
 }
+
+// By zero every bit is 1.
+pub fn bvudiv(width: u32, s: u64, t: u64) -> u64
+    ensures { λ r. ⌜ r ≡ atWidth width (bv.bvudiv (nat2bv width s) (nat2bv width t)) ⌝ }
+{
+    let divisor = reduce(width, t);
+    if divisor == 0 {
+        return bvnot(width, 0);
+    }
+    reduce(width, s) / divisor
+}
+
+// By zero the first operand is left.
+pub fn bvurem(width: u32, s: u64, t: u64) -> u64
+    ensures { λ r. ⌜ r ≡ atWidth width (bv.bvurem (nat2bv width s) (nat2bv width t)) ⌝ }
+{
+    let divisor = reduce(width, t);
+    if divisor == 0 {
+        return reduce(width, s);
+    }
+    reduce(width, s) % divisor
+}
+
+pub fn bvneg(width: u32, s: u64) -> u64
+    ensures { λ r. ⌜ r ≡ atWidth width (bv.bvneg (nat2bv width s)) ⌝ }
+{
+    reduce(width, std::num::wrapping_add_u64(!s, 1))
+}
+
+// The size of a signed number.
+fn size(width: u32, s: u64) -> u64
+    ensures { λ r. ⌜ r ≡ atWidth width (cond (bv.msb (nat2bv width s)) (bv.bvneg (nat2bv width s)) (nat2bv width s)) ⌝ }
+{
+    ite(width, msb(width, s), bvneg(width, s), s)
+}
+
+// Truncated towards zero: the sizes are divided, and the quotient is negative where one operand alone is.
+pub fn bvsdiv(width: u32, s: u64, t: u64) -> u64
+    ensures { λ r. ⌜ r ≡ atWidth width (bv.bvsdiv (nat2bv width s) (nat2bv width t)) ⌝ }
+{
+    let dividend = size(width, s);
+    let divisor = size(width, t);
+    let quotient = bvudiv(width, dividend, divisor);
+    let agree = msb(width, s) == msb(width, t);
+    ite(width, agree, quotient, bvneg(width, quotient))
+}
+
+// The remainder has the sign of the first operand.
+pub fn bvsrem(width: u32, s: u64, t: u64) -> u64
+    ensures { λ r. ⌜ r ≡ atWidth width (bv.bvsrem (nat2bv width s) (nat2bv width t)) ⌝ }
+{
+    let dividend = size(width, s);
+    let divisor = size(width, t);
+    let remainder = bvurem(width, dividend, divisor);
+    ite(width, msb(width, s), bvneg(width, remainder), remainder)
+}

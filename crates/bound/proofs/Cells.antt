@@ -19,7 +19,8 @@ use Rattle.smt.specs.Prog.{Prog, ret, op, _>>=_, curr, past, TritVec, tv, BitVe
 use Rattle.smt.specs.Prog.{buildConcat, buildBvadd}
 use Rattle.smt.specs.Builder.{bvLit, bvBind, zeros, tvBind, tvConcat, bvConcat, bvConcatOn, collect, pastValue}
 use Rattle.smt.specs.Builder.{outputNets, clockNet, pastNet, net, value, controlNet, carryX, tvAdc, tvEquals, tvLess}
-use Rattle.smt.specs.Builder.{tvMul, tvBinary, tvShift, Prepared, oneHot, firstMatch, shiftWidth, zext, extended}
+use Rattle.smt.specs.Builder.{tvStrict, mayDivide, tvDivide, tvBinary, tvShift, Prepared, oneHot, firstMatch}
+use Rattle.smt.specs.Builder.{shiftWidth, zext, extended}
 use Rattle.smt.specs.Builder.{prepareAt, prepareShift, shifted, compared, product, sum, matchOf, matchCell, enabled}
 use Rattle.smt.specs.Builder.{resetTo, loaded, cleared, dffCell, adcCell, hasClear}
 use Rattle.smt.proofs.ShowsShift.{shiftWidth-narrow}
@@ -143,13 +144,26 @@ tvLess-costs o a b n l =
     then 3 _ _ _ (bool-call 3 _ (omega arith)) λ less.
     then 10 0 _ _ (boolToBv-costs less) λ y. costs-ret 0 _ _ tt)
 
-tvMul-costs : (defined : ℕ) (a b : TritVec) (n : ℕ) → n ≤ 64 → CostsOnly 19 (tvMul defined a b n)
-unfolding tvMul
-tvMul-costs defined a b n l =
+tvStrict-costs : (o : BinaryOp) (defined : ℕ) (a b : TritVec) (n : ℕ) → n ≤ 64
+    → CostsOnly 19 (tvStrict o defined a b n)
+unfolding tvStrict
+tvStrict-costs o defined a b n l =
     then 6 _ _ _ (one-call 6 _ _ (rw (length-replicate n false) (omega arith))) λ none.
     then 6 _ _ _ (one-call 6 _ _ (rw (length-replicate n true) (omega arith))) λ all.
     then 4 _ _ _ (one-call 4 _ _ (omega arith)) λ x.
     then 3 0 _ _ (one-call 3 _ _ (omega arith)) λ y. costs-ret 0 _ _ tt
+
+mayDivide-costs : (a b : TritVec) (n : ℕ) → n ≤ 64 → CostsOnly 35 (mayDivide a b n)
+unfolding mayDivide
+mayDivide-costs a b n l =
+    then 21 _ _ _ (bvNoX-costs a b n l) λ noX.
+    then 9 _ _ _ (bvIsZero-costs (b .y) n l) λ byZero.
+    then 2 3 _ _ (bool-call 2 _ (omega arith)) λ notByZero. bool-call 3 _ (omega arith)
+
+tvDivide-costs : (o : BinaryOp) (a b : TritVec) (n : ℕ) → n ≤ 64 → CostsOnly 68 (tvDivide o a b n)
+tvDivide-costs o a b n l =
+    costs-more (35 + 19) 68 _ _ (omega arith)
+    (then 35 19 _ _ (mayDivide-costs a b n l) λ defined. tvStrict-costs o defined a b n l)
 
 pub tvBinary-costs : (o : Binary) (a b : TritVec) (n w : ℕ) → n ≤ 64 → CostsOnly 68 (tvBinary o a b n w)
 tvBinary-costs cells.and a b n w l = tvAnd-costs a b w
@@ -159,7 +173,12 @@ tvBinary-costs cells.eq a b n w l = tvEquals-costs a b n l
 tvBinary-costs cells.ult a b n w l = tvLess-costs c.bvult a b n l
 tvBinary-costs cells.slt a b n w l = tvLess-costs c.bvslt a b n l
 tvBinary-costs cells.mul a b n w l =
-    costs-more (21 + 19) 68 _ _ (omega arith) (then 21 19 _ _ (bvNoX-costs a b n l) λ noX. tvMul-costs noX a b n l)
+    costs-more (21 + 19) 68 _ _ (omega arith)
+    (then 21 19 _ _ (bvNoX-costs a b n l) λ noX. tvStrict-costs c.bvmul noX a b n l)
+tvBinary-costs cells.udiv a b n w l = tvDivide-costs c.bvudiv a b n l
+tvBinary-costs cells.umod a b n w l = tvDivide-costs c.bvurem a b n l
+tvBinary-costs cells.sdivTrunc a b n w l = tvDivide-costs c.bvsdiv a b n l
+tvBinary-costs cells.smodTrunc a b n w l = tvDivide-costs c.bvsrem a b n l
 
 -- ---- shifts, at a width of at most 64
 

@@ -17,9 +17,9 @@ avoids-le zero n h = omega arith
 avoids-le (suc k) n h = let z = avoids-le k n (h .0) in let d = h .1 in omega arith
 
 -- Only the numbers of the list are operations.
-pub no-operation : (n : ℕ) → Avoids 24 n → o.unknown ≡ o.opOf n
+pub no-operation : (n : ℕ) → Avoids 28 n → o.unknown ≡ o.opOf n
 unfolding o.opOf
-no-operation n h = sym (List·getD-eq-default o.operations o.unknown (avoids-le 24 n h))
+no-operation n h = sym (List·getD-eq-default o.operations o.unknown (avoids-le 28 n h))
 
 pub declares-of : (op : o.Op) (n : ℕ) (p : ℕ → ℕ) → declares (o.callOf op n p) ≡ isDeclare op
 declares-of (o.term op) n p = refl

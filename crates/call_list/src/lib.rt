@@ -68,6 +68,10 @@ pub fn operation_of(number: u32) -> Operation
         21 => Operation::Declare,
         22 => Operation::Assert,
         23 => Operation::Check,
+        24 => Operation::Term(TermOp::Binary(BinaryOp::Udiv)),
+        25 => Operation::Term(TermOp::Binary(BinaryOp::Urem)),
+        26 => Operation::Term(TermOp::Binary(BinaryOp::Sdiv)),
+        27 => Operation::Term(TermOp::Binary(BinaryOp::Srem)),
         _ => Operation::Unknown,
     }
 }

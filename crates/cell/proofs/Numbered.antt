@@ -39,6 +39,10 @@ number-operation O.Dff = (refl, omega arith)
 number-operation O.IoBuf = (refl, omega arith)
 number-operation O.Input = (refl, omega arith)
 number-operation O.Note = (refl, omega arith)
+number-operation (O.Binary C.udiv) = (refl, omega arith)
+number-operation (O.Binary C.umod) = (refl, omega arith)
+number-operation (O.Binary C.sdivTrunc) = (refl, omega arith)
+number-operation (O.Binary C.smodTrunc) = (refl, omega arith)
 
 abbrev numberOfDecoded : Decoded → ℕ
 numberOfDecoded (D.Known op) = numberOf op

@@ -16,6 +16,8 @@ pub use Rattle.operators.specs.declared.Unary.the-variants.{Buf as buf, Not as 
 pub use Rattle.operators.specs.declared.Binary.{Binary}
 pub use Rattle.operators.specs.declared.Binary.the-variants.{And as and, Or as or, Xor as xor, Mul as mul}
 pub use Rattle.operators.specs.declared.Binary.the-variants.{Eq as eq, ULt as ult, SLt as slt}
+pub use Rattle.operators.specs.declared.Binary.the-variants.{UDiv as udiv, UMod as umod}
+pub use Rattle.operators.specs.declared.Binary.the-variants.{SDivTrunc as sdivTrunc, SModTrunc as smodTrunc}
 -- Shifts, #n #m #stride n* m*.
 pub use Rattle.operators.specs.declared.Shift.{Shift}
 pub use Rattle.operators.specs.declared.Shift.the-variants.{Shl as shl, UShr as ushr, SShr as sshr, XShr as xshr}

@@ -1,7 +1,7 @@
--- Document 01, "Words", "Operations and bodies": which operations there are, how the body of each is laid out, and its
--- output width. Every body is a few numbers, then controls, then nets, then constants, then patterns, as its layout
--- says. Operations of one layout are told apart by their operator (`operators`): a new one of them is a row of
--- `operations` and `numberOf` here, and of the tables there.
+-- Document 01, "Words", "Operations and bodies", and document 02, change 3: which operations there are, how the body of
+-- each is laid out, and its output width. Every body is a few numbers, then controls, then nets, then constants, then
+-- patterns, as its layout says. Operations of one layout are told apart by their operator (`operators`): a new one of
+-- them is a row of `operations` and `numberOf` here, and of the tables there.
 use Prim.Native.Nat.{ℕ, _+_}
 use mathlib.Core.Bool.{Bool, true, false}
 use mathlib.Core.List.{List, [], _∷_, map}
@@ -25,12 +25,14 @@ abbrev pub operations : List Operation
 operations =
     O.Void ∷ O.Unary C.buf ∷ O.Unary C.not ∷ O.Binary C.and ∷ O.Binary C.or ∷ O.Binary C.xor ∷ O.Mux ∷ O.Adc ∷ O.Aig ∷
     O.Binary C.eq ∷ O.Binary C.ult ∷ O.Binary C.slt ∷ O.Shift C.shl ∷ O.Shift C.ushr ∷ O.Shift C.sshr ∷ O.Shift C.xshr ∷
-    O.Binary C.mul ∷ O.Match ∷ O.Assign ∷ O.Dff ∷ O.IoBuf ∷ O.Input ∷ O.Note ∷ []
+    O.Binary C.mul ∷ O.Match ∷ O.Assign ∷ O.Dff ∷ O.IoBuf ∷ O.Input ∷ O.Note ∷ O.Binary C.udiv ∷
+    O.Binary C.umod ∷ O.Binary C.sdivTrunc ∷ O.Binary C.smodTrunc ∷ []
 
 abbrev pub operationOf : ℕ → Decoded
 operationOf number = getD (map Known operations) number Unknown
 
--- "0 Void, empty; 1 Buf, 2 Not: #n n*; 3 And, 4 Or, 5 Xor, 9 Eq, 10 ULt, 11 SLt, 16 Mul .. 22 Note".
+-- "0 Void, empty; 1 Buf, 2 Not: #n n*; 3 And, 4 Or, 5 Xor, 9 Eq, 10 ULt, 11 SLt, 16 Mul .. 22 Note"; UDiv,
+-- UMod, SDivTrunc and SModTrunc "as operations 23 to 26, laid out like Mul".
 abbrev pub numberOf : Operation → ℕ
 numberOf O.Void = 0
 numberOf (O.Unary C.buf) = 1
@@ -55,6 +57,10 @@ numberOf O.Dff = 19
 numberOf O.IoBuf = 20
 numberOf O.Input = 21
 numberOf O.Note = 22
+numberOf (O.Binary C.udiv) = 23
+numberOf (O.Binary C.umod) = 24
+numberOf (O.Binary C.sdivTrunc) = 25
+numberOf (O.Binary C.smodTrunc) = 26
 
 -- The layout of each operation's body.
 abbrev pub layoutOf : Operation → Layout

@@ -99,6 +99,10 @@ pub fn operation_of(number: u32) -> Decoded
         20 => Decoded::Known(Operation::IoBuf),
         21 => Decoded::Known(Operation::Input),
         22 => Decoded::Known(Operation::Note),
+        23 => Decoded::Known(Operation::Binary(Binary::UDiv)),
+        24 => Decoded::Known(Operation::Binary(Binary::UMod)),
+        25 => Decoded::Known(Operation::Binary(Binary::SDivTrunc)),
+        26 => Decoded::Known(Operation::Binary(Binary::SModTrunc)),
         _ => Decoded::Unknown,
     }
 }

@@ -87,7 +87,7 @@ pub fn unary_cell(
     }
 }
 
-// Cell::And, Cell::Or, Cell::Xor, Cell::Eq, Cell::ULt, Cell::SLt, Cell::Mul
+// Cell::And, Cell::Or, Cell::Xor, Cell::Eq, Cell::ULt, Cell::SLt, Cell::Mul, and the divisions
 pub fn binary_cell(
     operator: Binary,
     fields: &[u32],

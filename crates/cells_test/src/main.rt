@@ -1,6 +1,7 @@
 // Reads design lists without replacements from standard input, each as its length and its words, little-endian, makes
 // the calls of every cell, and writes a line for each: the number of call words and of marks, and FNV-1a (64 bits) of
-// both. The file stdout, to which the lines are compared, has the answers of the Rust (tests/cell_lists.py).
+// both. The file stdout, to which the lines are compared, has the answers of the Rust, for a division those that
+// docs/DIVISIONS.md makes of its answers for a Mul (tests/cell_lists.py).
 use builder::Counts;
 use cell::Decoded;
 use design_list::Extent;

@@ -2,6 +2,7 @@ pub mod Accepted
 pub mod EmitLaws
 pub mod Laws
 pub mod MeaningLaws
+pub mod Numbered
 pub mod ReachedLaws
 pub mod ReadBack
 pub mod SortLaws

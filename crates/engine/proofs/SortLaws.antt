@@ -11,6 +11,7 @@ use lib.Seq.{getD-append-seam}
 use Rattle.bitvec.specs.Bits.{Bits}
 use Rattle.bitvec.proofs.Laws.{length-concat, length-extract, length-bvnot, length-bvand, length-bvor, length-bvxor}
 use Rattle.bitvec.proofs.Laws.{length-bvadd, length-bvshl, length-bvlshr, length-bvashr, length-bvmul}
+use Rattle.bitvec.proofs.Laws.{length-bvudiv, length-bvurem, length-bvsdiv, length-bvsrem}
 use Rattle.engine.specs.Call.{BinaryOp, Term, Call}
 use Rattle.engine.specs.Call as c
 use Rattle.engine.specs.Meaning.{Value, bool, bits, asBool, asBits, Assignment, denote, denoteOp, valueAt, run}
@@ -77,6 +78,10 @@ operation-sort c.bvshl x y h w alike = (h, length-bvshl x y ∙ w)
 operation-sort c.bvlshr x y h w alike = (h, length-bvlshr x y ∙ w)
 operation-sort c.bvashr x y h w alike = (h, length-bvashr x y ∙ w)
 operation-sort c.bvmul x y h w alike = (h, length-bvmul x y ∙ w)
+operation-sort c.bvudiv x y h w alike = (h, length-bvudiv x y ∙ w)
+operation-sort c.bvurem x y h w alike = (h, length-bvurem x y ∙ w)
+operation-sort c.bvsdiv x y h w alike = (h, length-bvsdiv x y ∙ w)
+operation-sort c.bvsrem x y h w alike = (h, length-bvsrem x y ∙ w)
 
 length-cond : (i : Bool) (s t : Bits) → length s ≡ length t → length (cond i s t) ≡ length s
 length-cond true s t e = refl

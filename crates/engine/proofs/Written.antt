@@ -1,5 +1,5 @@
 -- A formed call list, written as words, is well formed and reads back as itself.
-use mathlib.Core.Path.{_≡_, refl, sym, ap, ap₂, _∙_}
+use mathlib.Core.Path.{_≡_, refl, ap, ap₂, _∙_}
 use mathlib.Core.Bool.{Bool, true, false, not}
 use mathlib.Core.List.{List, [], _∷_, _++_, map, append-assoc}
 use mathlib.Core.Option.{none}
@@ -7,84 +7,30 @@ use Prim.Native.Nat.{ℕ, zero, suc, _+_, _-_, _*_, _/_, _%_, _^_, _≤_, _<_, s
 use native.Mathlib.Nat.{zero-lt-suc, div-lt-iff-lt-mul, lt-of-lt-of-le, le-refl}
 use native.Mathlib.Numerals.{sub-one}
 use native.Mathlib.Omega.{arith}
-use lib.ListN.{length, getD, length-append, length-map, List·getD-append, List·getD-eq-default}
+use lib.ListN.{length, getD, length-append, length-map, List·getD-append}
 use lib.Seq.{getD-append-seam, getD-append-add}
 use lib.Pow.{pow-add, pow-mono}
-use lib.Dec.{eqb, ltb}
-use borrow.Author.Tests.{ltb-true, ltb-false}
+use lib.Dec.{eqb}
 use Rattle.logic.specs.Word.{payloadOf, wordOf, headWord, numberWord, termWord}
 use Rattle.logic.proofs.WordLaws.{payload-of-word}
 use Rattle.logic.specs.Table.{tab}
 use Rattle.bitvec.specs.Bits.{Bits, bit, bv2nat, nat2bv}
 use Rattle.bitvec.proofs.Laws.{nat2bv-bv2nat, bv2nat-lt}
-use Rattle.engine.specs.Call.{Letter, Suffix, BinaryOp, Compare, Call}
+use Rattle.engine.specs.Call.{Letter, Suffix, Call}
 use Rattle.engine.specs.Call as c
 use Rattle.engine.specs.Meaning.{All}
 use Rattle.engine.proofs.Laws.{All-map}
 use Rattle.engine.specs.Sorts.{Context, start, after, Allowed, Formed}
 use Rattle.engine.specs.Sorts.{payloadLimit, countLimit}
-use Rattle.engine.specs.Encode.{TermOp, operations, opOf, binaryNumber, compareNumber, numberOf}
-use Rattle.engine.specs.Encode.{digits, digitCount, operationOfTerm, operationOf, termWords}
+use Rattle.engine.specs.Encode.{opOf, numberOf}
+use Rattle.engine.specs.Encode.{digits, digitCount, operationOf, termWords}
 use Rattle.engine.specs.Encode.{words, recordOf, encode, fromDigits, letterNumber, suffixNumber, callOf}
 use Rattle.engine.specs.Encode.{operationAt, countAt, bare, argumentAt, nextAt, callAt, callsFrom, decode}
 use Rattle.engine.specs.Encode as o
+use Rattle.engine.proofs.Numbered.{opOf-number, number-lt}
 use Rattle.engine.proofs.Steps.{calls-end, calls-step}
 
 -- ---- the head
-
-opOf-binary : (p : BinaryOp) → opOf (binaryNumber p) ≡ o.term (o.op2 p)
-unfolding opOf
-opOf-binary c.bvand = refl
-opOf-binary c.bvor = refl
-opOf-binary c.bvxor = refl
-opOf-binary c.bvadd = refl
-opOf-binary c.bvcomp = refl
-opOf-binary c.bvshl = refl
-opOf-binary c.bvlshr = refl
-opOf-binary c.bvashr = refl
-opOf-binary c.bvmul = refl
-
-opOf-compare : (p : Compare) → opOf (compareNumber p) ≡ o.term (o.compare p)
-unfolding opOf
-opOf-compare c.bvult = refl
-opOf-compare c.bvslt = refl
-
-opOf-term : (p : TermOp) → opOf (numberOf (o.term p)) ≡ o.term p
-unfolding opOf
-opOf-term o.boolLit = refl
-opOf-term o.boolIte = refl
-opOf-term o.not = refl
-opOf-term o.and = refl
-opOf-term o.lit = refl
-opOf-term o.equal = refl
-opOf-term o.ite = refl
-opOf-term o.concat = refl
-opOf-term o.extract = refl
-opOf-term o.bvnot = refl
-opOf-term (o.op2 p) = opOf-binary p
-opOf-term (o.compare p) = opOf-compare p
-
--- An operation is known by its number.
-pub opOf-number : (call : Call) → opOf (numberOf (operationOf call)) ≡ operationOf call
-unfolding opOf
-opOf-number (c.term t) = opOf-term (operationOfTerm t)
-opOf-number (c.declare name w) = refl
-opOf-number (c.assert k) = refl
-opOf-number c.check = refl
-
--- No operation has a number from 32 on: there `opOf` gives the unknown one, and its number is 31.
-number-lt : (call : Call) → numberOf (operationOf call) < 32
-unfolding opOf
-number-lt call = go (ltb (numberOf (operationOf call)) 32) refl
-  where
-    go : (b : Bool) → ltb (numberOf (operationOf call)) 32 ≡ b → numberOf (operationOf call) < 32
-    go true e = ltb-true (numberOf (operationOf call)) 32 e
-    go false e =
-        let high = ltb-false (numberOf (operationOf call)) 32 e in
-        let past : 24 ≤ numberOf (operationOf call) = omega arith in
-        let last : 31 ≡ numberOf (operationOf call) =
-        ap numberOf (sym (List·getD-eq-default operations o.unknown past) ∙ opOf-number call) in
-        absurd (omega arith)
 
 head-op : (k n : ℕ) → k < 32 → n < 2 ^ 24 → payloadOf (headWord k n) % 32 ≡ k
 head-op k n h l = omega arith

@@ -1,5 +1,5 @@
--- Document 01, "Words": the calls of the trait `SmtEngine` that make up a call list. A term is known by its number: how
--- many calls made a term before it.
+-- Document 01, "Words", and document 02, change 3: the calls of the trait `SmtEngine` that make up a call list. A term
+-- is known by its number: how many calls made a term before it.
 use mathlib.Core.Bool.{Bool}
 use mathlib.Core.List.{List}
 use Prim.Native.Nat.{ℕ}
@@ -19,7 +19,7 @@ pub record Name : Type 0 where
 
 -- Operations of one vector, and of two vectors with a vector or a Bool as the result.
 pub data BinaryOp : Type 0 where
-  bvand bvor bvxor bvadd bvcomp bvshl bvlshr bvashr bvmul : BinaryOp
+  bvand bvor bvxor bvadd bvcomp bvshl bvlshr bvashr bvmul bvudiv bvurem bvsdiv bvsrem : BinaryOp
 
 pub data Compare : Type 0 where
   bvult bvslt : Compare

@@ -26,6 +26,10 @@ binaryOf b.Shl = c.bvshl
 binaryOf b.Lshr = c.bvlshr
 binaryOf b.Ashr = c.bvashr
 binaryOf b.Mul = c.bvmul
+binaryOf b.Udiv = c.bvudiv
+binaryOf b.Urem = c.bvurem
+binaryOf b.Sdiv = c.bvsdiv
+binaryOf b.Srem = c.bvsrem
 
 abbrev pub compareOf : Compare → c.Compare
 compareOf r.Ult = c.bvult

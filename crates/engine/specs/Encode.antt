@@ -1,5 +1,5 @@
--- Document 01, "Words": a call record is a head and arguments; operations 0 to 23. `encode` writes calls as records and
--- `decode` reads them back.
+-- Document 01, "Words": a call record is a head and arguments; operations 0 to 23, and 24 to 27 of document 02, change
+-- 3. `encode` writes calls as records and `decode` reads them back.
 use mathlib.Core.Bool.{Bool, true, false}
 use mathlib.Core.List.{List, [], _∷_, _++_, map}
 use Prim.Native.Nat.{ℕ, zero, suc, _+_, _-_, _*_, _/_, _%_, _^_}
@@ -22,7 +22,7 @@ pub data Op : Type 0 where
   declare assert check : Op
   unknown : Op
 
--- Their numbers: the place of each in document 01's list.
+-- Their numbers: the place of each in document 01's list, and after it the divisions.
 abbrev pub termOps : List TermOp
 termOps =
     boolLit ∷ boolIte ∷ not ∷ and ∷ lit ∷ equal ∷ ite ∷ concat ∷ extract ∷ bvnot
@@ -30,8 +30,11 @@ termOps =
     ∷ compare c.bvult ∷ compare c.bvslt
     ∷ op2 c.bvshl ∷ op2 c.bvlshr ∷ op2 c.bvashr ∷ op2 c.bvmul ∷ []
 
+abbrev pub divisions : List TermOp
+divisions = op2 c.bvudiv ∷ op2 c.bvurem ∷ op2 c.bvsdiv ∷ op2 c.bvsrem ∷ []
+
 abbrev pub operations : List Op
-operations = map term termOps ++ (declare ∷ assert ∷ check ∷ [])
+operations = map term termOps ++ (declare ∷ assert ∷ check ∷ map term divisions)
 
 unfoldable pub opOf : ℕ → Op
 opOf n = getD operations n unknown
@@ -46,6 +49,10 @@ binaryNumber c.bvshl = 17
 binaryNumber c.bvlshr = 18
 binaryNumber c.bvashr = 19
 binaryNumber c.bvmul = 20
+binaryNumber c.bvudiv = 24
+binaryNumber c.bvurem = 25
+binaryNumber c.bvsdiv = 26
+binaryNumber c.bvsrem = 27
 
 abbrev pub compareNumber : Compare → ℕ
 compareNumber c.bvult = 15

@@ -44,6 +44,10 @@ denoteOp c.bvshl = bv.bvshl
 denoteOp c.bvlshr = bv.bvlshr
 denoteOp c.bvashr = bv.bvashr
 denoteOp c.bvmul = bv.bvmul
+denoteOp c.bvudiv = bv.bvudiv
+denoteOp c.bvurem = bv.bvurem
+denoteOp c.bvsdiv = bv.bvsdiv
+denoteOp c.bvsrem = bv.bvsrem
 
 abbrev pub denoteCompare : Compare → Bits → Bits → Bool
 denoteCompare c.bvult = bv.bvult

@@ -41,6 +41,10 @@ oneBit c.bvshl = false
 oneBit c.bvlshr = false
 oneBit c.bvashr = false
 oneBit c.bvmul = false
+oneBit c.bvudiv = false
+oneBit c.bvurem = false
+oneBit c.bvsdiv = false
+oneBit c.bvsrem = false
 
 abbrev pub binarySort : BinaryOp → Sort → Sort
 binarySort o s = cond (oneBit o) 1 s

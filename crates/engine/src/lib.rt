@@ -56,6 +56,10 @@ pub enum BinaryOp {
     Lshr,
     Ashr,
     Mul,
+    Udiv,
+    Urem,
+    Sdiv,
+    Srem,
 }
 
 pub enum Compare {
@@ -90,6 +94,10 @@ fn binary_number(op: BinaryOp) -> u32
         BinaryOp::Lshr => 18,
         BinaryOp::Ashr => 19,
         BinaryOp::Mul => 20,
+        BinaryOp::Udiv => 24,
+        BinaryOp::Urem => 25,
+        BinaryOp::Sdiv => 26,
+        BinaryOp::Srem => 27,
     }
 }
 

@@ -1,13 +1,14 @@
--- Document 01, "Words", "Operations and bodies": in what the operations of one layout differ, as far as their numbers
--- and their output width go.
+-- Document 01, "Words", "Operations and bodies", and document 02, change 3: in what the operations of one layout
+-- differ, as far as their numbers and their output width go.
 use mathlib.Core.Bool.{Bool, true, false}
 use Prim.Native.Nat.{ℕ}
 use Rattle.operators.specs.declared.Binary.{Binary}
 use Rattle.operators.specs.declared.Binary.the-variants.{And, Or, Xor, Eq, ULt, SLt, Mul}
+use Rattle.operators.specs.declared.Binary.the-variants.{UDiv, UMod, SDivTrunc, SModTrunc}
 use Rattle.operators.specs.declared.Shift.{Shift}
 use Rattle.operators.specs.declared.Shift.the-variants.{Shl, UShr, SShr, XShr}
 
--- The least n: Eq, ULt, SLt and SShr need n > 0 (fault 7).
+-- The least n: Eq, ULt, SLt, SShr and the signed divisions need n > 0 (fault 7).
 abbrev pub binaryLeast : Binary → ℕ
 binaryLeast And = 0
 binaryLeast Or = 0
@@ -16,6 +17,10 @@ binaryLeast Eq = 1
 binaryLeast ULt = 1
 binaryLeast SLt = 1
 binaryLeast Mul = 0
+binaryLeast UDiv = 0
+binaryLeast UMod = 0
+binaryLeast SDivTrunc = 1
+binaryLeast SModTrunc = 1
 
 abbrev pub shiftLeast : Shift → ℕ
 shiftLeast Shl = 0
@@ -32,3 +37,7 @@ compares Eq = true
 compares ULt = true
 compares SLt = true
 compares Mul = false
+compares UDiv = false
+compares UMod = false
+compares SDivTrunc = false
+compares SModTrunc = false

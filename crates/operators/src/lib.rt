@@ -17,6 +17,10 @@ pub enum Binary {
     ULt,
     SLt,
     Mul,
+    UDiv,
+    UMod,
+    SDivTrunc,
+    SModTrunc,
 }
 
 // Shifts.
@@ -39,6 +43,10 @@ pub fn binary_least(operator: Binary) -> u32
         Binary::ULt => 1,
         Binary::SLt => 1,
         Binary::Mul => 0,
+        Binary::UDiv => 0,
+        Binary::UMod => 0,
+        Binary::SDivTrunc => 1,
+        Binary::SModTrunc => 1,
     }
 }
 
@@ -54,6 +62,10 @@ pub fn compares(operator: Binary) -> bool
         Binary::ULt => true,
         Binary::SLt => true,
         Binary::Mul => false,
+        Binary::UDiv => false,
+        Binary::UMod => false,
+        Binary::SDivTrunc => false,
+        Binary::SModTrunc => false,
     }
 }
 

@@ -22,7 +22,8 @@ use Rattle.smt.specs.Prog.{Prog, ret, _>>=_, Age, curr, past, Half, isUndef, is
 use Rattle.smt.specs.Builder.{bvConcatOn, bvConcat, bvIsZero, bvToBool, boolToBv, tvLit, tvBind, bvBind, tvConcatOn}
 use Rattle.smt.specs.Builder.{tvConcat, tvExtract, tvIs0, tvIs1, tvEq, tvRefines, tvNot, tvAnd, tvOr, tvXor, tvMux}
 use Rattle.smt.specs.Builder.{collect, netOf, valueOf, currNet, pastNet, currValue, pastValue, outputNets, invertNet}
-use Rattle.smt.specs.Builder.{clockNet, bvNoX, carryX, tvAdc, tvEquals, tvLess, tvMul, tvBinary, Prepared, tvShift}
+use Rattle.smt.specs.Builder.{clockNet, bvNoX, carryX, tvAdc, tvEquals, tvLess, tvStrict, mayDivide, tvBinary}
+use Rattle.smt.specs.Builder.{Prepared, tvShift}
 use Rattle.smt.specs.Builder.{firstMatch, overwritten, net, value, controlNet, prepareAt, shifted, compared, product}
 use Rattle.smt.specs.Builder.{sum, matchOf, matchCell, enabled, resetTo, loaded, cleared, hasClear, dffCell, adcCell}
 use Rattle.smt.specs.Builder.{cell}
@@ -166,7 +167,7 @@ unfolding invertNet _>>=_ reads
 paired-invertNet w a s = none-read
 
 paired-tvBinary : (o : Binary) (a b : TritVec) (n w : ℕ) → Paired (tvBinary o a b n w)
-unfolding tvEquals tvLess tvMul bvNoX bvIsZero boolToBv _>>=_ reads
+unfolding tvEquals tvLess tvStrict mayDivide bvNoX bvIsZero boolToBv _>>=_ reads
 paired-tvBinary cells.and a b n w = paired-tvAnd a b w
 paired-tvBinary cells.or a b n w = paired-tvOr a b w
 paired-tvBinary cells.xor a b n w = paired-tvXor a b
@@ -174,6 +175,10 @@ paired-tvBinary cells.eq a b n w = λ s. none-read
 paired-tvBinary cells.ult a b n w = λ s. none-read
 paired-tvBinary cells.slt a b n w = λ s. none-read
 paired-tvBinary cells.mul a b n w = λ s. none-read
+paired-tvBinary cells.udiv a b n w = λ s. none-read
+paired-tvBinary cells.umod a b n w = λ s. none-read
+paired-tvBinary cells.sdivTrunc a b n w = λ s. none-read
+paired-tvBinary cells.smodTrunc a b n w = λ s. none-read
 
 paired-tvShift : (onX onY : BinaryOp) (n : ℕ) (p : Prepared) → Paired (tvShift onX onY n p)
 unfolding tvShift bvIsZero tvExtract _>>=_ reads

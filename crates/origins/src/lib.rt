@@ -30,6 +30,10 @@ fn binary_origin(op: BinaryOp, a: Term) -> Origin
         BinaryOp::Lshr => Origin::Same(a),
         BinaryOp::Ashr => Origin::Same(a),
         BinaryOp::Mul => Origin::Same(a),
+        BinaryOp::Udiv => Origin::Same(a),
+        BinaryOp::Urem => Origin::Same(a),
+        BinaryOp::Sdiv => Origin::Same(a),
+        BinaryOp::Srem => Origin::Same(a),
     }
 }
 

@@ -170,7 +170,7 @@ fn turn() -> bool {
 }
 
 fn main() {
-    let mut left: u32 = 1000;
+    let mut left: u32 = 2000;
     while 0 < left {
         if turn() {
             left -= 1;

@@ -1,4 +1,4 @@
--- Document 01, faults 7 and 9, and "Operations and bodies": the widths of a cell's vectors.
+-- Documents 01 and 02, faults 7 and 9, and "Operations and bodies": the widths of a cell's vectors.
 use mathlib.Core.Path.{_≡_}
 use Prim.Native.Nat.{ℕ, _+_, _≤_, _<_}
 use lib.ListN.{length}
@@ -6,7 +6,7 @@ use Rattle.cell.specs.Cell.{Cell, Binary, Shift}
 use Rattle.cell.specs.Cell as c
 use Rattle.cell.specs.Each.{Each}
 
--- Fault 7: Eq, ULt, SLt and SShr have at least one net.
+-- Fault 7: Eq, ULt, SLt, SShr and the signed divisions have at least one net.
 abbrev pub Wide : Binary → ℕ → Type 0
 Wide c.and n = Unit {0}
 Wide c.or n = Unit {0}
@@ -15,6 +15,10 @@ Wide c.mul n = Unit {0}
 Wide c.eq n = 0 < n
 Wide c.ult n = 0 < n
 Wide c.slt n = 0 < n
+Wide c.udiv n = Unit {0}
+Wide c.umod n = Unit {0}
+Wide c.sdivTrunc n = 0 < n
+Wide c.smodTrunc n = 0 < n
 
 abbrev pub WideShift : Shift → ℕ → Type 0
 WideShift c.shl n = Unit {0}

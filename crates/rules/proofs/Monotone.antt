@@ -3,8 +3,8 @@ use mathlib.Core.Path.{_≡_, refl, sym, _∙_}
 use mathlib.Core.Bool.{Bool, true, false, cond, _||_}
 use mathlib.Core.List.{List, [], _∷_, map}
 use mathlib.Core.List.{List·Memᴰ, List·Memᴰ·head, List·Memᴰ·tail, Memᴰ·append-left, Memᴰ·append-right}
-use Prim.Native.Nat.{ℕ, suc, _+_, _-_, _*_}
-use lib.Dec.{T, ltb}
+use Prim.Native.Nat.{ℕ, suc, _+_, _-_, _*_, _/_, _%_}
+use lib.Dec.{T, eqb, ltb}
 use lib.ListN.{length, getD, take, replicate}
 use Rattle.logic.specs.Net.{Net}
 use Rattle.logic.specs.declared.Trit.{Trit}
@@ -87,8 +87,8 @@ eq-monotone {a} {a′} {b} {b′} h k = go (r.anyMismatch a b) (anyX a || anyX b
         let none = neither (anyX a) (anyX b) ex in
         rw (← f.refine-defined h (none .0), ← f.refine-defined k (none .1), em, ex) tt
 
--- ---- ULt, SLt, Mul: undefined wherever an operand has an X. Then all is X, which refines every vector of the width;
--- without X the operands stay.
+-- ---- ULt, SLt, Mul and the divisions: undefined wherever an operand has an X. Then all is X, which refines every
+-- vector of the width; without X the operands stay.
 module _ (undefined : List Trit → List Trit → Bool)
     (no-x : (a b : List Trit) → undefined a b ≡ false → r.someX a b ≡ false) where
   strict : {a a′ b b′ : List Trit} → Refine a a′ → Refine b b′ → (n : ℕ) (result : List Trit → List Trit → List Trit)
@@ -110,6 +110,13 @@ on-x : {a a′ b b′ : List Trit} → Refine a a′ → Refine b b′ → (n : 
     → Refine (r.defined (r.someX a b) n (result a b)) (r.defined (r.someX a′ b′) n (result a′ b′))
 on-x = strict (λ a b. r.someX a b) (λ a b e. e)
 
+divided-monotone : {a a′ b b′ : List Trit} → Refine a a′ → Refine b b′ → (result : List Trit → List Trit → ℕ)
+    → Refine (r.divided a b (result a b)) (r.divided a′ b′ (result a′ b′))
+divided-monotone {a} h k result =
+    rw (← f.refine-length h)
+    (strict (λ x y. r.undivided x y) (λ x y e. neither (r.someX x y) (eqb (number y) 0) e .0) h k (length a)
+    (λ x y. r.trits (length a) (result x y)) (tab-width (length a) _))
+
 pub binary-monotone : (op : Binary) {a a′ b b′ : List Trit} → Refine a a′ → Refine b b′
     → Refine (r.binary op a b) (r.binary op a′ b′)
 binary-monotone c.and h k = f.refine-zip t.and t.and and-monotone h k
@@ -121,6 +128,10 @@ binary-monotone c.slt h k = on-x h k 1 (λ a b. trit (r.signedLess a b) ∷ []) 
 binary-monotone c.mul {a} h k =
     rw (← f.refine-length h)
     (on-x h k (length a) (λ x y. r.trits (length a) (number x * number y)) (tab-width (length a) _))
+binary-monotone c.udiv h k = divided-monotone h k (λ a b. number a / number b)
+binary-monotone c.umod h k = divided-monotone h k (λ a b. number a % number b)
+binary-monotone c.sdivTrunc h k = divided-monotone h k (λ a b. r.quotient a b)
+binary-monotone c.smodTrunc h k = divided-monotone h k (λ a b. r.remainder a b)
 
 -- ---- Adc: bit i, where it is no X, reads only defined trits, and those stay.
 pub adc-monotone : {a a′ b b′ : List Trit} → Refine a a′ → Refine b b′ → (c c′ : Trit) → Refines c c′

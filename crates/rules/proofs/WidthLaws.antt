@@ -2,7 +2,7 @@
 use mathlib.Core.Path.{_≡_, refl, sym, ap, _∙_}
 use mathlib.Core.Bool.{Bool, true, false, cond}
 use mathlib.Core.List.{List, [], _∷_}
-use Prim.Native.Nat.{ℕ, zero, suc, _+_, _*_, _≤_}
+use Prim.Native.Nat.{ℕ, zero, suc, _+_, _*_, _/_, _%_, _≤_}
 use native.Mathlib.Nat.{suc-inj, suc-ne-zero}
 use native.Mathlib.Omega.{arith}
 use lib.ListN.{length, replicate, length-map, length-append, length-take, length-drop, length-replicate}
@@ -54,6 +54,9 @@ pub unary-width : (op : Unary) {n : ℕ} {a : List Trit} → Width n a → Width
 unary-width c.buf p = p
 unary-width c.not {a = a} p = record { is = length-map a t.not ∙ p .is }
 
+pub divided-width : {n : ℕ} {a : List Trit} → Width n a → (b : List Trit) (result : ℕ) → Width n (r.divided a b result)
+divided-width {n} {a} p b result = rw (p .is) (defined-width (r.undivided a b) n _ (tab-width n (bitAt result)))
+
 pub binary-width : (op : Binary) {n : ℕ} {a b : List Trit} → Width n a → Width n b
     → Width (binaryWidth op n) (r.binary op a b)
 binary-width c.and p q = zip-width t.and p q
@@ -64,6 +67,10 @@ binary-width c.ult {a = a} {b = b} p q = defined-width (r.someX a b) 1 _ (one-wi
 binary-width c.slt {a = a} {b = b} p q = defined-width (r.someX a b) 1 _ (one-width (trit (r.signedLess a b)))
 binary-width c.mul {n} {a} {b} p q =
     rw (p .is) (defined-width (r.someX a b) n _ (tab-width n (bitAt (number a * number b))))
+binary-width c.udiv {a = a} {b = b} p q = divided-width p b (number a / number b)
+binary-width c.umod {a = a} {b = b} p q = divided-width p b (number a % number b)
+binary-width c.sdivTrunc {a = a} {b = b} p q = divided-width p b (r.quotient a b)
+binary-width c.smodTrunc {a = a} {b = b} p q = divided-width p b (r.remainder a b)
 
 pub adc-width : {n : ℕ} {a : List Trit} → Width n a → (b : List Trit) (carry : Trit) → Width (n + 1) (r.adc a b carry)
 adc-width {a = a} p b carry = rw (← p .is) (tab-width (length a + 1) (r.adcBit a b carry))

@@ -1,4 +1,5 @@
--- Document 01, "Examples": the starred set, one list and one claim, computed by the cell rules.
+-- Document 01, "Examples": the starred set, one list and one claim, computed by the cell rules; and examples of the
+-- divisions of document 02, change 3.
 use mathlib.Core.List.{List, [], _∷_, map, reverse}
 use Rattle.logic.specs.Net.{Net, constant}
 use Rattle.logic.specs.declared.Trit.{Trit}
@@ -45,4 +46,23 @@ examples =
     ∷ (c.shift c.sshr (nets (X ∷ O ∷ [])) (nets (I ∷ [])) 1 ⟶ (X ∷ X ∷ []))
     ∷ (c.shift c.xshr (nets (I ∷ O ∷ [])) (nets (I ∷ [])) 1 ⟶ (X ∷ I ∷ []))
     ∷ (c.match [] (constant I) (([] ∷ []) ∷ []) ⟶ (I ∷ []))
+    ∷ []
+
+-- 7 by 2, unsigned; by zero; with an X. -7 by 2 and 7 by -2: truncated towards zero, the remainder with the sign of the
+-- first. The least number by minus one.
+abbrev pub divisions : List Example
+divisions =
+    (c.binary c.udiv (nets (O ∷ I ∷ I ∷ I ∷ [])) (nets (O ∷ O ∷ I ∷ O ∷ [])) ⟶ (O ∷ O ∷ I ∷ I ∷ []))
+    ∷ (c.binary c.umod (nets (O ∷ I ∷ I ∷ I ∷ [])) (nets (O ∷ O ∷ I ∷ O ∷ [])) ⟶ (O ∷ O ∷ O ∷ I ∷ []))
+    ∷ (c.binary c.udiv (nets (I ∷ O ∷ [])) (nets (O ∷ O ∷ [])) ⟶ (X ∷ X ∷ []))
+    ∷ (c.binary c.umod (nets (I ∷ O ∷ [])) (nets (O ∷ O ∷ [])) ⟶ (X ∷ X ∷ []))
+    ∷ (c.binary c.udiv (nets (O ∷ O ∷ [])) (nets (X ∷ I ∷ [])) ⟶ (X ∷ X ∷ []))
+    ∷ (c.binary c.smodTrunc (nets (X ∷ O ∷ [])) (nets (O ∷ I ∷ [])) ⟶ (X ∷ X ∷ []))
+    ∷ (c.binary c.sdivTrunc (nets (I ∷ O ∷ O ∷ I ∷ [])) (nets (O ∷ O ∷ I ∷ O ∷ [])) ⟶ (I ∷ I ∷ O ∷ I ∷ []))
+    ∷ (c.binary c.smodTrunc (nets (I ∷ O ∷ O ∷ I ∷ [])) (nets (O ∷ O ∷ I ∷ O ∷ [])) ⟶ (I ∷ I ∷ I ∷ I ∷ []))
+    ∷ (c.binary c.sdivTrunc (nets (O ∷ I ∷ I ∷ I ∷ [])) (nets (I ∷ I ∷ I ∷ O ∷ [])) ⟶ (I ∷ I ∷ O ∷ I ∷ []))
+    ∷ (c.binary c.smodTrunc (nets (O ∷ I ∷ I ∷ I ∷ [])) (nets (I ∷ I ∷ I ∷ O ∷ [])) ⟶ (O ∷ O ∷ O ∷ I ∷ []))
+    ∷ (c.binary c.sdivTrunc (nets (I ∷ O ∷ [])) (nets (O ∷ O ∷ [])) ⟶ (X ∷ X ∷ []))
+    ∷ (c.binary c.sdivTrunc (nets (I ∷ O ∷ [])) (nets (I ∷ I ∷ [])) ⟶ (I ∷ O ∷ []))
+    ∷ (c.binary c.smodTrunc (nets (I ∷ O ∷ [])) (nets (I ∷ I ∷ [])) ⟶ (O ∷ O ∷ []))
     ∷ []

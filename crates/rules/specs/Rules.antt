@@ -1,7 +1,8 @@
--- Document 01, "Cell rules, over trits": the rule of each operation, on vectors of trits, low first, in its order.
-use mathlib.Core.Bool.{Bool, true, false, cond, _||_}
+-- Document 01, "Cell rules, over trits", and document 02, change 3: the rule of each operation, on vectors of trits,
+-- low first, in their order.
+use mathlib.Core.Bool.{Bool, true, false, not, cond, _||_}
 use mathlib.Core.List.{List, [], _∷_, _++_, map}
-use Prim.Native.Nat.{ℕ, suc, _+_, _-_, _*_}
+use Prim.Native.Nat.{ℕ, suc, _+_, _-_, _*_, _/_, _%_, _^_}
 use lib.Dec.{eqb, ltb}
 use lib.ListN.{length, getD, take, drop, replicate}
 use Rattle.logic.specs.Table.{zipWith, tab}
@@ -74,7 +75,29 @@ signedLess a b = cond (negative a) (cond (negative b) (less a b) true) (cond (ne
 abbrev pub defined : Bool → ℕ → List Trit → List Trit
 defined undefined n result = cond undefined (replicate n Undef) result
 
--- ULt, SLt, Mul: all X on any X.
+-- A signed number of n bits by its sign and its size, and the size of a vector: a negative one is 2 ^ n less its size.
+abbrev pub signed : Bool → ℕ → ℕ → ℕ
+signed minus n size = cond minus (2 ^ n - size) size
+
+abbrev pub size : List Trit → ℕ
+size a = signed (negative a) (length a) (number a)
+
+-- Division of signed numbers, truncated towards zero: the quotient is negative where one operand is, the remainder
+-- where the first is.
+abbrev pub quotient : List Trit → List Trit → ℕ
+quotient a b = signed (cond (negative a) (not (negative b)) (negative b)) (length a) (size a / size b)
+
+abbrev pub remainder : List Trit → List Trit → ℕ
+remainder a b = signed (negative a) (length a) (size a % size b)
+
+-- The divisions: all X on any X or a divisor of zero.
+abbrev pub undivided : List Trit → List Trit → Bool
+undivided a b = someX a b || eqb (number b) 0
+
+abbrev pub divided : List Trit → List Trit → ℕ → List Trit
+divided a b result = defined (undivided a b) (length a) (trits (length a) result)
+
+-- ULt, SLt, Mul: all X on any X; the divisions as above.
 abbrev pub binary : Binary → List Trit → List Trit → List Trit
 binary c.and a b = zipWith t.and a b
 binary c.or a b = zipWith t.or a b
@@ -83,6 +106,10 @@ binary c.eq a b = eq a b ∷ []
 binary c.ult a b = defined (someX a b) 1 (trit (less a b) ∷ [])
 binary c.slt a b = defined (someX a b) 1 (trit (signedLess a b) ∷ [])
 binary c.mul a b = defined (someX a b) (length a) (trits (length a) (number a * number b))
+binary c.udiv a b = divided a b (number a / number b)
+binary c.umod a b = divided a b (number a % number b)
+binary c.sdivTrunc a b = divided a b (quotient a b)
+binary c.smodTrunc a b = divided a b (remainder a b)
 
 -- Shifts by k places: bit i comes from i - k, or from i + k; the rest is filled.
 abbrev pub left : ℕ → List Trit → List Trit

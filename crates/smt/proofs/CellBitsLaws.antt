@@ -42,6 +42,10 @@ wide cells.mul n h some = some
 wide cells.eq n h some = h
 wide cells.ult n h some = h
 wide cells.slt n h some = h
+wide cells.udiv n h some = some
+wide cells.umod n h some = some
+wide cells.sdivTrunc n h some = h
+wide cells.smodTrunc n h some = h
 
 pub length-overwritten : {A : Type 0} (value : List A) (offset : ℕ) (update : List A)
     → offset + length update ≤ length value

@@ -46,33 +46,15 @@ use Rattle.smt.proofs.CellBitsLaws.{length-overwritten, cell-wp}
 use Rattle.smt.proofs.Shows.{Shown, empty, BitsShow, shown-is, shown-x, shown-y, shown-ts, one-more, getD-any}
 use Rattle.smt.proofs.Shows.{not-shows, and-shows, or-shows, xor-shows, mux-shows, lit-shows, invert-shows}
 use Rattle.smt.proofs.Shows.{Singles, none, more, concat-shows, shown-at, extract-shows}
-use Rattle.smt.proofs.ShowsNumber.{zero-x, no-x, equals-shows, ult-shows, slt-shows, mul-shows, adc-shows}
+use Rattle.smt.proofs.ShowsNumber.{zero-x, equals-shows, ult-shows, slt-shows, mul-shows, adc-shows}
+use Rattle.smt.proofs.ShowsDivision.{udiv-shows, umod-shows, sdiv-shows, smod-shows}
 use Rattle.smt.proofs.ShowsShift.{getD-pad, by-number, anyX-zeros, moved-shows, shl-lanes, lshr-lanes}
 use Rattle.smt.proofs.ShowsShift.{ashr-lanes, xshr-lanes}
 use Rattle.smt.specs.CellShows.{tritsOf, TermsShow}
 
--- The operations that shift keep the width.
-abbrev IsShift : BinaryOp → Type 0
-IsShift c.bvand = ⊥
-IsShift c.bvor = ⊥
-IsShift c.bvxor = ⊥
-IsShift c.bvadd = ⊥
-IsShift c.bvcomp = ⊥
-IsShift c.bvshl = Unit {0}
-IsShift c.bvlshr = Unit {0}
-IsShift c.bvashr = Unit {0}
-IsShift c.bvmul = ⊥
-
-length-shift : (o : BinaryOp) → IsShift o → (s by : Bits) → length (denoteOp o s by) ≡ length s
-length-shift c.bvand h = absurd h
-length-shift c.bvor h = absurd h
-length-shift c.bvxor h = absurd h
-length-shift c.bvadd h = absurd h
-length-shift c.bvcomp h = absurd h
-length-shift c.bvshl h = length-bvshl
-length-shift c.bvlshr h = length-bvlshr
-length-shift c.bvashr h = length-bvashr
-length-shift c.bvmul h = absurd h
+-- An operation that keeps the width of its first operand.
+abbrev Keeps : BinaryOp → Type 0
+Keeps o = (s t : Bits) → length (denoteOp o s t) ≡ length s
 
 -- ---- nets
 
@@ -194,7 +176,11 @@ module _ (readsPast : ℕ → Bool) (b : NetBits) where
   binary-shows cells.eq p q = equals-shows p q
   binary-shows cells.ult p q = ult-shows p q
   binary-shows cells.slt p q = slt-shows p q
-  binary-shows cells.mul p q = rw (no-x p q) (mul-shows p q _ (λ e. e))
+  binary-shows cells.mul p q = mul-shows p q
+  binary-shows cells.udiv p q = udiv-shows p q
+  binary-shows cells.umod p q = umod-shows p q
+  binary-shows cells.sdivTrunc p q = sdiv-shows p q
+  binary-shows cells.smodTrunc p q = smod-shows p q
 
   -- ---- shifts
 
@@ -228,7 +214,7 @@ module _ (readsPast : ℕ → Bool) (b : NetBits) where
     places = map reading amount
 
     pub shifted-shows : (ts : List Trit) (f : ℕ → ℕ → Trit) → 0 < n → n ≤ length nets → BitsShow w wider ts
-        → IsShift onX → IsShift onY
+        → Keeps onX → Keeps onY
         → ((by : Bits) (i : ℕ) → i < n
         → shows (getD (denoteOp onX (wider .x) by) i false) (getD (denoteOp onY (wider .y) by) i false)
         ≡ f (bv2nat by) i)
@@ -244,7 +230,7 @@ module _ (readsPast : ℕ → Bool) (b : NetBits) where
         rw (zero-x q, anyX-zeros places j)
         (moved-shows n w (denoteOp onX (wider .x) by) (denoteOp onY (wider .y) by) (anyX places)
         (f (number places * stride)) some (omega arith)
-        (length-shift onX lx (wider .x) by ∙ shown-x p) (length-shift onY ly (wider .y) by ∙ shown-y p)
+        (lx (wider .x) by ∙ shown-x p) (ly (wider .y) by ∙ shown-y p)
         λ u i l. h by i l ∙ ap (λ (k : ℕ). f k i)
         (by-number w (amountBits .x) (amountBits .y) places j stride q (rw (length-map amount reading) (e .1)) u))
 
@@ -274,7 +260,7 @@ module _ (readsPast : ℕ → Bool) (b : NetBits) where
         rw (length-map nets reading)
         (shifted-shows _ _ false n nets amount stride _ (λ k i. cond (ltb i k) Zero (getD ts (i - k) Zero)) some
         (omega arith) p
-        tt tt λ by i h. shl-lanes ts (top - n) p by i (below i h))
+        length-bvshl length-bvshl λ by i h. shl-lanes ts (top - n) p by i (below i h))
 
     ushr-shows : by-rule cells.ushr
     unfolding shiftCellBits
@@ -282,7 +268,7 @@ module _ (readsPast : ℕ → Bool) (b : NetBits) where
         let p = padded-shows nets (top - n) (constant Zero) top filled in
         rw (length-map nets reading)
         (shifted-shows _ _ false n nets amount stride _ (λ k i. getD ts (i + k) Zero) some (omega arith) p
-        tt tt λ by i h. lshr-lanes ts (top - n) p by i (below i h))
+        length-bvlshr length-bvlshr λ by i h. lshr-lanes ts (top - n) p by i (below i h))
 
     sshr-shows : by-rule cells.sshr
     unfolding shiftCellBits
@@ -295,8 +281,8 @@ module _ (readsPast : ℕ → Bool) (b : NetBits) where
         ∙ getD-any ts (n - 1) (reading fill) Undef (rw (length-map nets reading) (omega arith)) ∙ e in
         rw (length-map nets reading, e)
         (shifted-shows _ _ true n nets amount stride _ (λ k i. getD ts (i + k) (reading fill)) some (omega arith) p
-        tt tt λ by i h. ashr-lanes ts (top - n) (reading fill) p (rw (length-map nets reading) some) same by i
-        (below i h))
+        length-bvashr length-bvashr λ by i h.
+        ashr-lanes ts (top - n) (reading fill) p (rw (length-map nets reading) some) same by i (below i h))
 
   -- XShr has an X on top of its value.
   xshr-shows : (nets amount : List Net) (stride : ℕ) → 0 < length nets
@@ -317,7 +303,7 @@ module _ (readsPast : ℕ → Bool) (b : NetBits) where
       rw (length-map nets reading)
       (shifted-shows _ _ true (length nets) topped amount stride _ (λ k i. getD trits (i + k) Undef) some
       (omega arith) p
-      tt tt λ by i h.
+      length-bvashr length-bvlshr λ by i h.
       xshr-lanes (trits ++ (Undef ∷ [])) (w - length topped) p (simp length-append (omega arith))
       (on-top trits Undef) by i (omega arith)
       ∙ getD-pad trits 1 Undef (i + bv2nat by))

@@ -1,9 +1,11 @@
 pub mod CellBitsLaws
 pub mod CellShowsLaws
 pub mod FormulaLaws
+pub mod KeptLaws
 pub mod ProgLaws
 pub mod Refines
 pub mod Shows
+pub mod ShowsDivision
 pub mod ShowsNumber
 pub mod ShowsShift
 pub mod Terms

@@ -15,19 +15,22 @@ use Rattle.logic.specs.Trit.{shows}
 use Rattle.logic.specs.declared.Trit.{Trit}
 use Rattle.logic.specs.declared.Trit.the-variants.{Zero, One, Undef}
 use Rattle.bitvec.specs.Bits.{Bits, bit, bv2nat, nat2bv, odd}
-use Rattle.bitvec.specs.Ops.{same, equal, concat, bvnot, bvand, bvor, bvxor, bvadd, bvult, bvslt, msb}
-use Rattle.bitvec.proofs.Laws.{length-nat2bv, bv2nat-nat2bv, nat2bv-mod}
+use Rattle.bitvec.specs.Ops.{same, equal, concat, bvnot, bvand, bvor, bvxor, bvadd, bvult, bvslt, msb, bvmul}
+use Rattle.bitvec.proofs.Laws.{length-nat2bv, length-bvmul, bv2nat-nat2bv, nat2bv-mod}
 use Rattle.bitvec.proofs.Numbers.{bvslt-signs}
 use Rattle.bitvec.proofs.Shifts.{bv2nat-zeros}
+use Rattle.engine.specs.Call.{BinaryOp}
 use Rattle.engine.specs.Call as c
+use Rattle.engine.specs.Meaning.{denoteOp}
+use Rattle.cell.specs.Cell as cells
 use Rattle.rules.specs.Trits.{isX, anyX, digit, number, trit, bitAt}
 use Rattle.rules.specs.Rules as r
 use Rattle.rules.proofs.Number.{sum-low}
 use Rattle.rules.proofs.RefineLaws.{neither}
 use Rattle.smt.specs.Builder.{zeros, ones}
 use Rattle.smt.proofs.WpLaws.{equal-eq}
-use Rattle.smt.specs.Formula.{tb, isZero, noX, oneBit, equalsBits, lessBits, undefX, mulBits, carryOr, carryBits}
-use Rattle.smt.specs.Formula.{adcBits}
+use Rattle.smt.specs.Formula.{tb, isZero, noX, oneBit, equalsBits, lessBits, undefX, strictBits, carryOr}
+use Rattle.smt.specs.Formula.{carryBits, adcBits}
 use Rattle.smt.proofs.Shows.{Shown, empty, lane, BitsShow, shown-x, shown-y, shown-ts, one-more}
 
 -- ---- X or not
@@ -147,7 +150,7 @@ less-shows true l m h = one-trit true m
 less-shows false l m h = rw (h refl) (one-trit false m)
 
 -- The sign: the top trit.
-negative-msb : {n : ℕ} {x y : Bits} {ts : List Trit} → Shown n x y ts → anyX ts ≡ false → r.negative ts ≡ msb y
+pub negative-msb : {n : ℕ} {x y : Bits} {ts : List Trit} → Shown n x y ts → anyX ts ≡ false → r.negative ts ≡ msb y
 negative-msb {y = y} {ts = ts} p e = ap r.negative (defined-ts p e) ∙ go y
   where
     top : (y : Bits) (i : ℕ) → eqb (digit (getD (map trit y) i Zero)) 1 ≡ getD y i false
@@ -221,18 +224,25 @@ undefined-shows : (undefined : Bool) (n m : ℕ) (y : Bits) → length y ≡ n �
 undefined-shows true n m y e h = ones-shows n y e
 undefined-shows false n m y e h = rw (h refl) (number-shows n m)
 
+-- An operation on y that keeps the width, where its number is known: all X where it is undefined, else that number.
+pub strict-shows : {n : ℕ} {x y u v : Bits} {ts us : List Trit} → Shown n x y ts → Shown n u v us
+    → (o : BinaryOp) (undefined : Bool) (m : ℕ) → length (denoteOp o y v) ≡ length y
+    → (undefined ≡ false → denoteOp o y v ≡ nat2bv (length y) m)
+    → BitsShow n (strictBits o (not undefined) (tb x y) (tb u v) n)
+    (r.defined undefined (length ts) (r.trits (length ts) m))
+unfolding strictBits
+strict-shows {n} {y = y} {v = v} p q o undefined m keeps numbers =
+    rw (shown-ts p)
+    (undefined-shows undefined n m (denoteOp o y v) (keeps ∙ shown-y p)
+    (λ d. numbers d ∙ ap (λ (k : ℕ). nat2bv k m) (shown-y p)))
+
 pub mul-shows : {n : ℕ} {x y u v : Bits} {ts us : List Trit} → Shown n x y ts → Shown n u v us
-    → (undefined : Bool) → (undefined ≡ false → r.someX ts us ≡ false)
-    → BitsShow n (mulBits (not undefined) (tb x y) (tb u v) n)
-    (r.defined undefined (length ts) (r.trits (length ts) (number ts * number us)))
-unfolding mulBits
-mul-shows {n} {y = y} {v = v} {ts = ts} {us = us} p q undefined h =
-    rw (shown-y p, shown-ts p)
-    (undefined-shows undefined n (number ts * number us) (nat2bv n (bv2nat y * bv2nat v)) (length-nat2bv n _) numbers)
+    → BitsShow n (strictBits c.bvmul (noX (tb x y) (tb u v) n) (tb x y) (tb u v) n) (r.binary cells.mul ts us)
+mul-shows {y = y} {v = v} {ts = ts} {us = us} p q =
+    rw (no-x p q) (strict-shows p q c.bvmul (r.someX ts us) (number ts * number us) (length-bvmul y v) numbers)
   where
-    numbers : undefined ≡ false → nat2bv n (bv2nat y * bv2nat v) ≡ nat2bv n (number ts * number us)
-    numbers d =
-        let none = neither (anyX ts) (anyX us) (h d) in rw (number-defined p (none .0), number-defined q (none .1))
+    numbers : r.someX ts us ≡ false → bvmul y v ≡ nat2bv (length y) (number ts * number us)
+    numbers e = let none = neither (anyX ts) (anyX us) e in rw (number-defined p (none .0), number-defined q (none .1))
 
 -- ---- Adc
 

@@ -20,13 +20,13 @@ use Rattle.smt.specs.Prog.{Prog, _>>=_, Age, isUndef, isOne, BitVec, bv,
 use Rattle.smt.specs.Builder.{bvConcatOn, bvConcat, bvIsZero, bvToBool, boolToBv, tvLit, tvConst, tvConcatOn}
 use Rattle.smt.specs.Builder.{tvConcat, tvExtract, tvIs0, tvIs1, tvEq, tvRefines, tvNot, tvAnd, tvOr, tvXor}
 use Rattle.smt.specs.Builder.{tvMux, collect, netOf, valueOf, invertNet, bvNoX, carryX, tvAdc, tvEquals, tvLess}
-use Rattle.smt.specs.Builder.{tvMul, tvBinary, tvShift, Prepared}
+use Rattle.smt.specs.Builder.{tvStrict, mayDivide, tvDivide, tvBinary, tvShift, Prepared}
 use Rattle.smt.specs.Wp.{wp}
 use Rattle.smt.proofs.WpLaws.{wp-seq}
 use Rattle.smt.specs.Formula.{TritBits, tb, NetBits, netBits, bitOf, readBits, litBits, concatBits, extractBits}
 use Rattle.smt.specs.Formula.{notBits, andBits, orBits, xorBits, muxBits, invertBits, sameBits, refinesBits}
-use Rattle.smt.specs.Formula.{equalsBits, noX, lessBits, mulBits, carryOr, carryBits, adcBits, shiftBits}
-use Rattle.smt.specs.Formula.{binaryBits}
+use Rattle.smt.specs.Formula.{equalsBits, noX, lessBits, strictBits, divides, divideBits, carryOr, carryBits}
+use Rattle.smt.specs.Formula.{adcBits, shiftBits, binaryBits}
 use Rattle.smt.proofs.FormulaLaws.{one}
 
 module _ (ρ : Assignment) (v : ℕ → Value) where
@@ -179,11 +179,22 @@ module _ (ρ : Assignment) (v : ℕ → Value) where
   unfolding bvNoX bvIsZero _>>=_
   bvNoX-wp a b n A B ha hb = λ k1 e1 k2 e2 k3 e3 k4 e4 k5 e5. cc
 
-  pub tvMul-wp : (k : ℕ) (a b : TritVec) (n : ℕ) (defined : Bool) (A B : TritBits) → v k ≡ bool defined
-      → Is ρ v a A → Is ρ v b B
-      → wp ρ v (tvMul k a b n) (λ r. Is ρ v r (mulBits defined A B n))
-  unfolding tvMul _>>=_ mulBits
-  tvMul-wp k a b n defined A B hk ha hb = λ k1 e1 k2 e2 x ex y ey. (cc, cc)
+  pub tvStrict-wp : (o : BinaryOp) (k : ℕ) (a b : TritVec) (n : ℕ) (defined : Bool) (A B : TritBits)
+      → v k ≡ bool defined → Is ρ v a A → Is ρ v b B
+      → wp ρ v (tvStrict o k a b n) (λ r. Is ρ v r (strictBits o defined A B n))
+  unfolding tvStrict _>>=_ strictBits
+  tvStrict-wp o k a b n defined A B hk ha hb = λ k1 e1 k2 e2 x ex y ey. (cc, cc)
+
+  mayDivide-wp : (a b : TritVec) (n : ℕ) (A B : TritBits) → Is ρ v a A → Is ρ v b B
+      → wp ρ v (mayDivide a b n) (λ k. v k ≡ bool (divides A B n))
+  unfolding mayDivide bvIsZero _>>=_
+  mayDivide-wp a b n A B ha hb =
+      wp-seq ρ v (bvNoX a b n) _ _ _ (bvNoX-wp a b n A B ha hb) λ k hk k1 e1 k2 e2 k3 e3 k4 e4. cc
+
+  pub tvDivide-wp : (o : BinaryOp) (a b : TritVec) (n : ℕ) (A B : TritBits) → Is ρ v a A → Is ρ v b B
+      → wp ρ v (tvDivide o a b n) (λ r. Is ρ v r (divideBits o A B n))
+  tvDivide-wp o a b n A B ha hb =
+      wp-seq ρ v (mayDivide a b n) _ _ _ (mayDivide-wp a b n A B ha hb) λ k hk. tvStrict-wp o k a b n _ A B hk ha hb
 
   pub tvBinary-wp : (o : Binary) (a b : TritVec) (n w : ℕ) (A B : TritBits) → Is ρ v a A → Is ρ v b B
       → wp ρ v (tvBinary o a b n w) (λ r. Is ρ v r (binaryBits o A B n))
@@ -194,7 +205,12 @@ module _ (ρ : Assignment) (v : ℕ → Value) where
   tvBinary-wp cells.ult a b n w = tvLess-wp c.bvult a b n
   tvBinary-wp cells.slt a b n w = tvLess-wp c.bvslt a b n
   tvBinary-wp cells.mul a b n w =
-      λ A B ha hb. wp-seq ρ v (bvNoX a b n) _ _ _ (bvNoX-wp a b n A B ha hb) λ k hk. tvMul-wp k a b n _ A B hk ha hb
+      λ A B ha hb. wp-seq ρ v (bvNoX a b n) _ _ _ (bvNoX-wp a b n A B ha hb) λ k hk.
+      tvStrict-wp c.bvmul k a b n _ A B hk ha hb
+  tvBinary-wp cells.udiv a b n w = tvDivide-wp c.bvudiv a b n
+  tvBinary-wp cells.umod a b n w = tvDivide-wp c.bvurem a b n
+  tvBinary-wp cells.sdivTrunc a b n w = tvDivide-wp c.bvsdiv a b n
+  tvBinary-wp cells.smodTrunc a b n w = tvDivide-wp c.bvsrem a b n
 
   -- What prepare_shift made: a value and an amount at width w, and the places to shift by.
   pub record Prepares (p : Prepared) (w : ℕ) (value amount : TritBits) (by : Bits) : Type 0 where

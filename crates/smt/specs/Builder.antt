@@ -352,14 +352,25 @@ tvLess o a b n = do
   y ← boolToBv less
   ret (tv x y)
 
--- All X unless the term `defined` holds.
-unfoldable pub tvMul : ℕ → TritVec → TritVec → ℕ → Prog TritVec
-tvMul defined a b n = do
+-- An operation on y; all X unless the term `defined` holds.
+unfoldable pub tvStrict : BinaryOp → ℕ → TritVec → TritVec → ℕ → Prog TritVec
+tvStrict o defined a b n = do
   none ← buildBitvecLit (zeros n)
   all ← buildBitvecLit (ones n)
   x ← buildBitvecIte defined none all
-  y ← buildBvmul (a .y) (b .y)
+  y ← buildOp2 o (a .y) (b .y)
   ret (tv x y)
+
+-- The divisions (document 02, change 3): no operand has an X, and the divisor is not zero.
+unfoldable pub mayDivide : TritVec → TritVec → ℕ → Prog ℕ
+mayDivide a b n = do
+  noX ← bvNoX a b n
+  byZero ← bvIsZero (b .y) n
+  notByZero ← buildNot byZero
+  buildAnd (noX ∷ notByZero ∷ [])
+
+abbrev pub tvDivide : BinaryOp → TritVec → TritVec → ℕ → Prog TritVec
+tvDivide o a b n = mayDivide a b n >>= λ defined. tvStrict o defined a b n
 
 -- The operations on two vectors of n nets, with an output of w.
 abbrev pub tvBinary : Binary → TritVec → TritVec → ℕ → ℕ → Prog TritVec
@@ -369,7 +380,11 @@ tvBinary cells.xor a b n w = tvXor a b
 tvBinary cells.eq a b n w = tvEquals a b n
 tvBinary cells.ult a b n w = tvLess c.bvult a b n
 tvBinary cells.slt a b n w = tvLess c.bvslt a b n
-tvBinary cells.mul a b n w = bvNoX a b n >>= λ noX. tvMul noX a b n
+tvBinary cells.mul a b n w = bvNoX a b n >>= λ noX. tvStrict c.bvmul noX a b n
+tvBinary cells.udiv a b n w = tvDivide c.bvudiv a b n
+tvBinary cells.umod a b n w = tvDivide c.bvurem a b n
+tvBinary cells.sdivTrunc a b n w = tvDivide c.bvsdiv a b n
+tvBinary cells.smodTrunc a b n w = tvDivide c.bvsrem a b n
 
 -- The four shifts, from what prepare_shift made: the operations on x and on y, and the value's width.
 unfoldable pub tvShift : BinaryOp → BinaryOp → ℕ → Prepared → Prog TritVec

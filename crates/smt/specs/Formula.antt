@@ -8,7 +8,7 @@ use Rattle.logic.specs.Trit.{xOf, yOf}
 use Rattle.logic.specs.Net.{Net, constant, slot}
 use Rattle.logic.specs.declared.Trit.{Trit}
 use Rattle.bitvec.specs.Bits.{Bits}
-use Rattle.bitvec.specs.Ops.{equal, concat, extract, bvnot, bvand, bvor, bvxor, bvadd, bvcomp, bvmul}
+use Rattle.bitvec.specs.Ops.{equal, concat, extract, bvnot, bvand, bvor, bvxor, bvadd, bvcomp}
 use Rattle.engine.specs.Call.{BinaryOp, Compare}
 use Rattle.engine.specs.Meaning.{Assignment, denoteOp, denoteCompare}
 use Rattle.cell.specs.Cell.{Binary}
@@ -125,8 +125,16 @@ lessBits o a b n = tb (oneBit (not (noX a b n))) (oneBit (denoteCompare o (a .y)
 abbrev pub undefX : Bool → ℕ → Bits
 undefX defined n = cond defined (zeros n) (ones n)
 
-unfoldable pub mulBits : Bool → TritBits → TritBits → ℕ → TritBits
-mulBits defined a b n = tb (undefX defined n) (bvmul (a .y) (b .y))
+-- An operation on y; all X unless `defined`.
+unfoldable pub strictBits : BinaryOp → Bool → TritBits → TritBits → ℕ → TritBits
+strictBits o defined a b n = tb (undefX defined n) (denoteOp o (a .y) (b .y))
+
+-- Has no operand an X, and is the divisor not zero?
+abbrev pub divides : TritBits → TritBits → ℕ → Bool
+divides a b n = noX a b n && (not (isZero (b .y) n) && true)
+
+abbrev pub divideBits : BinaryOp → TritBits → TritBits → ℕ → TritBits
+divideBits o a b n = strictBits o (divides a b n) a b n
 
 -- The carry's x: the running or, and the last once more.
 abbrev pub carryOr : Bool → Bool → Bool → Bool
@@ -154,4 +162,8 @@ binaryBits cells.xor a b n = xorBits a b
 binaryBits cells.eq a b n = equalsBits a b n
 binaryBits cells.ult a b n = lessBits c.bvult a b n
 binaryBits cells.slt a b n = lessBits c.bvslt a b n
-binaryBits cells.mul a b n = mulBits (noX a b n) a b n
+binaryBits cells.mul a b n = strictBits c.bvmul (noX a b n) a b n
+binaryBits cells.udiv a b n = divideBits c.bvudiv a b n
+binaryBits cells.umod a b n = divideBits c.bvurem a b n
+binaryBits cells.sdivTrunc a b n = divideBits c.bvsdiv a b n
+binaryBits cells.smodTrunc a b n = divideBits c.bvsrem a b n

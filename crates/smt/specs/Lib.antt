@@ -5,3 +5,4 @@ pub mod Wp
 pub mod Formula
 pub mod CellBits
 pub mod CellShows
+pub mod Kept

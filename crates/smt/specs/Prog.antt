@@ -102,6 +102,10 @@ resultWidth c.bvshl w = w
 resultWidth c.bvlshr w = w
 resultWidth c.bvashr w = w
 resultWidth c.bvmul w = w
+resultWidth c.bvudiv w = w
+resultWidth c.bvurem w = w
+resultWidth c.bvsdiv w = w
+resultWidth c.bvsrem w = w
 
 abbrev pub buildOp2 : BinaryOp → BitVec → BitVec → Prog BitVec
 buildOp2 o a b = vector (resultWidth o (a .width)) (c.op2 o (a .term) (b .term))

@@ -20,7 +20,8 @@ use Rattle.engine.specs.Sorts.{Sort, binarySort, countLimit}
 use Rattle.smt.specs.Prog.{Prog, ret, op, declare, bind, bind2, _>>=_, Age, BitVec, bv, TritVec, tv, resultWidth}
 use Rattle.smt.specs.Builder.{bvConcatOn, bvConcat, bvIsZero, bvToBool, boolToBv, tvLit, tvConst, tvBind, tvConcatOn}
 use Rattle.smt.specs.Builder.{tvConcat, tvExtract, tvIs0, tvIs1, tvEq, tvRefines, tvNot, tvAnd, tvOr, tvXor, tvMux}
-use Rattle.smt.specs.Builder.{collect, netOf, valueOf, invertNet, bvNoX, carryX, tvAdc, tvEquals, tvLess, tvMul}
+use Rattle.smt.specs.Builder.{collect, netOf, valueOf, invertNet, bvNoX, carryX, tvAdc, tvEquals, tvLess, tvStrict}
+use Rattle.smt.specs.Builder.{mayDivide, tvDivide}
 use Rattle.smt.specs.Builder.{tvBinary, tvShift, Prepared}
 
 -- The sort of a term, and what its arguments must be, of the sorts of the terms; n terms are there.
@@ -367,12 +368,18 @@ module _ (slots : ℕ) (σ : ℕ → Sort) where
             ),
       )
 
-  tvMul-safe : (n w k : ℕ) (a b : TritVec) → Width w → Truth n σ k → TritsOf w n a → TritsOf w n b
-      → safe n (tvMul k a b w) (TritsOf w)
-  unfolding tvMul _>>=_
-  tvMul-safe n w k a b h g p q =
-      let z = length-replicate w false in
-      let o = length-replicate w true in
+  -- An operation whose result is as wide as its operands.
+  abbrev pub Keeps : BinaryOp → Type 0
+  Keeps o = (w : ℕ) → (binarySort o w ≡ w) × (resultWidth o w ≡ w)
+
+  tvStrict-safe : (o : BinaryOp) (n w k : ℕ) (a b : TritVec) → Keeps o → Width w → Truth n σ k → TritsOf w n a
+      → TritsOf w n b → safe n (tvStrict o k a b w) (TritsOf w)
+  unfolding tvStrict _>>=_
+  tvStrict-safe o n w k a b keeps h g p q =
+      let none = length-replicate w false in
+      let all = length-replicate w true in
+      let sy = keeps (σ (a .y .term)) .0 in
+      let wy = keeps (a .y .width) .1 in
       omega arith
 
   tvEquals-safe : (n w : ℕ) (a b : TritVec) → Width w → TritsOf w n a → TritsOf w n b
@@ -411,6 +418,20 @@ module _ (slots : ℕ) (σ : ℕ → Sort) where
     ),
   )
 
+  mayDivide-safe : (n w : ℕ) (a b : TritVec) → Width w → TritsOf w n a → TritsOf w n b
+      → safe n (mayDivide a b w) (λ m k. Truth m σ k)
+  unfolding mayDivide _>>=_
+  mayDivide-safe n w a b h p q =
+      safe-seq n (bvNoX a b w) _ (λ m k. Truth m σ k) (λ m k. Truth m σ k) (bvNoX-safe n w a b h p q) λ i k li g.
+      safe-seq i (bvIsZero (b .y) w) _ (λ m k. Truth m σ k) (λ m k. Truth m σ k)
+      (bvIsZero-safe i w (b .y) h (omega arith)) λ j z lj gz. (gz, λ e. omega arith)
+
+  tvDivide-safe : (o : BinaryOp) (n w : ℕ) (a b : TritVec) → Keeps o → Width w → TritsOf w n a → TritsOf w n b
+      → safe n (tvDivide o a b w) (TritsOf w)
+  tvDivide-safe o n w a b keeps h p q =
+      safe-seq n (mayDivide a b w) _ (λ m k. Truth m σ k) (TritsOf w) (mayDivide-safe n w a b h p q) λ i k li g.
+      tvStrict-safe o i w k a b keeps h g (omega arith) (omega arith)
+
   pub tvBinary-safe : (o : Binary) (n w : ℕ) (a b : TritVec) → Width w → TritsOf w n a → TritsOf w n b
       → safe n (tvBinary o a b w (binaryWidth o w)) (TritsOf (binaryWidth o w))
   tvBinary-safe cells.and n w a b = tvAnd-safe n w a b
@@ -421,7 +442,11 @@ module _ (slots : ℕ) (σ : ℕ → Sort) where
   tvBinary-safe cells.slt n w a b = tvLess-safe n w c.bvslt a b
   tvBinary-safe cells.mul n w a b = λ h p q.
       safe-seq n (bvNoX a b w) _ (λ m k. Truth m σ k) (TritsOf w) (bvNoX-safe n w a b h p q) λ i k li g.
-      tvMul-safe i w k a b h g (omega arith) (omega arith)
+      tvStrict-safe c.bvmul i w k a b (λ _. (refl, refl)) h g (omega arith) (omega arith)
+  tvBinary-safe cells.udiv n w a b = tvDivide-safe c.bvudiv n w a b λ _. (refl, refl)
+  tvBinary-safe cells.umod n w a b = tvDivide-safe c.bvurem n w a b λ _. (refl, refl)
+  tvBinary-safe cells.sdivTrunc n w a b = tvDivide-safe c.bvsdiv n w a b λ _. (refl, refl)
+  tvBinary-safe cells.smodTrunc n w a b = tvDivide-safe c.bvsrem n w a b λ _. (refl, refl)
 
   -- What prepare_shift made.
   pub record PreparedOf (w n : ℕ) (p : Prepared) : Type 0 where
@@ -429,10 +454,6 @@ module _ (slots : ℕ) (σ : ℕ → Sort) where
     pub value : TritsOf w n (p .value)
     pub amount : TritsOf w n (p .amount)
     pub amountMul : VectorOf w n (p .amountMul)
-
-  -- An operation whose result is as wide as its operands.
-  abbrev pub Keeps : BinaryOp → Type 0
-  Keeps o = (w : ℕ) → (binarySort o w ≡ w) × (resultWidth o w ≡ w)
 
   pub tvShift-safe : (onX onY : BinaryOp) (n w v : ℕ) (p : Prepared) → Keeps onX → Keeps onY → Width w → 0 < v → v ≤ w
       → PreparedOf w n p → safe n (tvShift onX onY v p) (TritsOf v)

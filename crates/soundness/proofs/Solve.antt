@@ -12,6 +12,7 @@ use lib.Seq.{getD-append-add}
 use Rattle.bitvec.specs.Bits.{Bits}
 use Rattle.bitvec.proofs.Laws.{length-concat, length-extract, length-bvnot, length-bvand, length-bvor, length-bvxor}
 use Rattle.bitvec.proofs.Laws.{length-bvadd, length-bvshl, length-bvlshr, length-bvashr, length-bvmul}
+use Rattle.bitvec.proofs.Laws.{length-bvudiv, length-bvurem, length-bvsdiv, length-bvsrem}
 use Rattle.bitvec.proofs.Numbers.{equal-refl}
 use Rattle.engine.specs.Call.{Name, Letter, Suffix, Term, Call, BinaryOp}
 use Rattle.engine.specs.Call as c
@@ -101,6 +102,10 @@ module _ (v : ℕ → Value) where
   op2-sort c.bvlshr s t e = length-bvlshr s t
   op2-sort c.bvashr s t e = length-bvashr s t
   op2-sort c.bvmul s t e = length-bvmul s t
+  op2-sort c.bvudiv s t e = length-bvudiv s t
+  op2-sort c.bvurem s t e = length-bvurem s t
+  op2-sort c.bvsdiv s t e = length-bvsdiv s t
+  op2-sort c.bvsrem s t e = length-bvsrem s t
 
   pub denote-sort : (n : ℕ) (t : Term) → Fine n sorts t → sortOfValue (denote v t) ≡ sortUnder sorts t
   denote-sort n (c.boolLit b) h = refl

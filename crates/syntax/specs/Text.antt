@@ -37,6 +37,10 @@ binaryText c.bvshl = ascii "bvshl"
 binaryText c.bvlshr = ascii "bvlshr"
 binaryText c.bvashr = ascii "bvashr"
 binaryText c.bvmul = ascii "bvmul"
+binaryText c.bvudiv = ascii "bvudiv"
+binaryText c.bvurem = ascii "bvurem"
+binaryText c.bvsdiv = ascii "bvsdiv"
+binaryText c.bvsrem = ascii "bvsrem"
 
 abbrev pub compareText : Compare → List ℕ
 compareText c.bvult = ascii "bvult"

@@ -26,6 +26,10 @@ fn put_binary(text: &mut [u8], at: usize, op: BinaryOp) -> usize
         BinaryOp::Lshr => text::put_bytes(text, at, b"bvlshr"),
         BinaryOp::Ashr => text::put_bytes(text, at, b"bvashr"),
         BinaryOp::Mul => text::put_bytes(text, at, b"bvmul"),
+        BinaryOp::Udiv => text::put_bytes(text, at, b"bvudiv"),
+        BinaryOp::Urem => text::put_bytes(text, at, b"bvurem"),
+        BinaryOp::Sdiv => text::put_bytes(text, at, b"bvsdiv"),
+        BinaryOp::Srem => text::put_bytes(text, at, b"bvsrem"),
     }
 }
 

@@ -52,6 +52,10 @@ pub fn binary_value(op: BinaryOp, width: u32, s: u64, t: u64) -> u64
         BinaryOp::Lshr => bitvec::bvlshr(width, s, t),
         BinaryOp::Ashr => bitvec::bvashr(width, s, t),
         BinaryOp::Mul => bitvec::bvmul(width, s, t),
+        BinaryOp::Udiv => bitvec::bvudiv(width, s, t),
+        BinaryOp::Urem => bitvec::bvurem(width, s, t),
+        BinaryOp::Sdiv => bitvec::bvsdiv(width, s, t),
+        BinaryOp::Srem => bitvec::bvsrem(width, s, t),
     }
 }
 

@@ -1,7 +1,7 @@
-// Replays the stored lists of the oracle through `verify` (tests/verify_lists.py). An accepted list is a word 0, its
-// lengths D, C and M, then D words of the list, C call words and M marks of the Rust; a refused one is a word 1, D, the
-// fault's number and place, then D words. Each lent slice is filled first, and compared whole. The last line counts the
-// lists that are answered as stored.
+// Replays the stored lists of the oracle, and those of docs/DIVISIONS.md, through `verify` (tests/verify_lists.py). An
+// accepted list is a word 0, its lengths D, C and M, then D words of the list, C call words and M marks, those of the
+// Rust or of that page; a refused one is a word 1, D, the fault's number and place, then D words. Each lent slice is
+// filled first, and compared whole. The last line counts the lists that are answered as stored.
 use builder::Counts;
 use libc::STDOUT_FILENO;
 use requirement::Verified;

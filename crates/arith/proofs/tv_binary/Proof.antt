@@ -65,8 +65,40 @@ returns-7 c =
     λ low. (
       n,
       λ names marks. rw op
-          (ran-bind _ (known .bv-no-x .ensures low n n names marks) (made .tv-mul .ensures low n names marks)),
+          (ran-bind _ (known .bv-no-x .ensures low n n names marks) (made .tv-strict .ensures low names marks)),
     )
+
+returns-8 : tie.Need-returns-8
+returns-8 c =
+    let made = c .before .before in
+    let told = made .before .before in
+    let n = told .before .before .before .args .n in
+    let op = told .enum-told8 .given .1 in
+    λ low. (n, λ names marks. rw op (made .tv-divide .ensures low names marks))
+
+returns-9 : tie.Need-returns-9
+returns-9 c =
+    let made = c .before .before in
+    let told = made .before .before in
+    let n = told .before .before .before .args .n in
+    let op = told .enum-told9 .given .1 in
+    λ low. (n, λ names marks. rw op (made .tv-divide2 .ensures low names marks))
+
+returns-10 : tie.Need-returns-10
+returns-10 c =
+    let made = c .before .before in
+    let told = made .before .before in
+    let n = told .before .before .before .args .n in
+    let op = told .enum-told10 .given .1 in
+    λ low. (n, λ names marks. rw op (made .tv-divide3 .ensures low names marks))
+
+returns-11 : tie.Need-returns-11
+returns-11 c =
+    let made = c .before .before in
+    let told = made .before .before in
+    let n = told .before .before .before .args .n in
+    let op = told .enum-told11 .given .1 in
+    λ low. (n, λ names marks. rw op (made .tv-divide4 .ensures low names marks))
 
 pub tv-binary-spec : {M : Type 1} → statement M
 tv-binary-spec =
@@ -75,5 +107,8 @@ tv-binary-spec =
     (λ c. search needs) (λ c κs. search needs) (λ c. search needs) (λ c κs. search needs) (λ c. search needs)
     (λ c κs. search needs) (λ c. search needs) (λ c κs. search needs) (λ c. search needs) (λ c κs. search needs)
     (λ c. search needs) (λ c κs. search needs) (λ c. search needs) (λ c κs. search needs) (λ c κs. search needs)
-    (λ c. search needs) returns (λ c. search needs) returns-2 (λ c. search needs) returns-3 (λ c. search needs)
-    returns-4 (λ c. search needs) returns-5 (λ c. search needs) returns-6 (λ c. search needs) returns-7)
+    (λ c. search needs) (λ c κs. search needs) (λ c. search needs) (λ c κs. search needs) (λ c. search needs)
+    (λ c κs. search needs) (λ c. search needs) (λ c κs. search needs) (λ c. search needs) returns (λ c. search needs)
+    returns-2 (λ c. search needs) returns-3 (λ c. search needs) returns-4 (λ c. search needs) returns-5
+    (λ c. search needs) returns-6 (λ c. search needs) returns-7 (λ c. search needs) returns-8 (λ c. search needs)
+    returns-9 (λ c. search needs) returns-10 (λ c. search needs) returns-11)

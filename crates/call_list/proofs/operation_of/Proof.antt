@@ -101,7 +101,23 @@ unfolding opOf
 returns-24 c = rw (c .match .keys24)
 
 returns-25 : tie.Need-returns-25
-returns-25 c = no-operation (c .before .args .number) (c .match .rest)
+unfolding opOf
+returns-25 c = rw (c .match .keys25)
+
+returns-26 : tie.Need-returns-26
+unfolding opOf
+returns-26 c = rw (c .match .keys26)
+
+returns-27 : tie.Need-returns-27
+unfolding opOf
+returns-27 c = rw (c .match .keys27)
+
+returns-28 : tie.Need-returns-28
+unfolding opOf
+returns-28 c = rw (c .match .keys28)
+
+returns-29 : tie.Need-returns-29
+returns-29 c = no-operation (c .before .args .number) (c .match .rest)
 
 pub operation-of-spec : {M : Type 1} → statement M
 operation-of-spec =
@@ -109,4 +125,4 @@ operation-of-spec =
     (tie.spec
     returns returns-2 returns-3 returns-4 returns-5 returns-6 returns-7 returns-8 returns-9 returns-10 returns-11
     returns-12 returns-13 returns-14 returns-15 returns-16 returns-17 returns-18 returns-19 returns-20 returns-21
-    returns-22 returns-23 returns-24 returns-25)
+    returns-22 returns-23 returns-24 returns-25 returns-26 returns-27 returns-28 returns-29)

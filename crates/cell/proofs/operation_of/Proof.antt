@@ -19,8 +19,8 @@ avoids-le : (k n : ℕ) → Avoids k n → k ≤ n
 avoids-le zero n h = omega arith
 avoids-le (suc k) n h = let low = avoids-le k n (h .0) in let other = h .1 in omega arith
 
-returns-24 : tie.Need-returns-24
-returns-24 c =
+returns-28 : tie.Need-returns-28
+returns-28 c =
     let number = c .before .args .number in
     sym (List·getD-eq-default (map Known operations) Unknown (avoids-le (length operations) number (c .match .rest)))
 
@@ -34,4 +34,6 @@ operation-of-spec =
     (λ c. rw (c .match .keys12)) (λ c. rw (c .match .keys13)) (λ c. rw (c .match .keys14))
     (λ c. rw (c .match .keys15)) (λ c. rw (c .match .keys16)) (λ c. rw (c .match .keys17))
     (λ c. rw (c .match .keys18)) (λ c. rw (c .match .keys19)) (λ c. rw (c .match .keys20))
-    (λ c. rw (c .match .keys21)) (λ c. rw (c .match .keys22)) (λ c. rw (c .match .keys23)) returns-24)
+    (λ c. rw (c .match .keys21)) (λ c. rw (c .match .keys22)) (λ c. rw (c .match .keys23))
+    (λ c. rw (c .match .keys24)) (λ c. rw (c .match .keys25)) (λ c. rw (c .match .keys26))
+    (λ c. rw (c .match .keys27)) returns-28)

@@ -30,6 +30,22 @@ returns-8 c = let w = c .before .before in rw (w .before .before .before .enum-t
 returns-9 : tie.Need-returns-9
 returns-9 c = let w = c .before .before in rw (w .before .before .before .enum-told9 .given .1) (w .put-bytes9 .ensures)
 
+returns-10 : tie.Need-returns-10
+returns-10 c =
+    let w = c .before .before in rw (w .before .before .before .enum-told10 .given .1) (w .put-bytes10 .ensures)
+
+returns-11 : tie.Need-returns-11
+returns-11 c =
+    let w = c .before .before in rw (w .before .before .before .enum-told11 .given .1) (w .put-bytes11 .ensures)
+
+returns-12 : tie.Need-returns-12
+returns-12 c =
+    let w = c .before .before in rw (w .before .before .before .enum-told12 .given .1) (w .put-bytes12 .ensures)
+
+returns-13 : tie.Need-returns-13
+returns-13 c =
+    let w = c .before .before in rw (w .before .before .before .enum-told13 .given .1) (w .put-bytes13 .ensures)
+
 pub put-binary-spec : {M : Type 1} → statement M
 put-binary-spec =
     tie.close
@@ -39,6 +55,10 @@ put-binary-spec =
     (λ c. search needs) (λ c κs. search needs) (λ c. search needs) (λ c. search needs) (λ c κs. search needs)
     (λ c. search needs) (λ c. search needs) (λ c κs. search needs) (λ c. search needs) (λ c. search needs)
     (λ c κs. search needs) (λ c. search needs) (λ c. search needs) (λ c κs. search needs) (λ c. search needs)
-    (λ c. search needs) (λ c κs. search needs) (λ c. search needs) returns (λ c. search needs) returns-2
-    (λ c. search needs) returns-3 (λ c. search needs) returns-4 (λ c. search needs) returns-5 (λ c. search needs)
-    returns-6 (λ c. search needs) returns-7 (λ c. search needs) returns-8 (λ c. search needs) returns-9)
+    (λ c. search needs) (λ c κs. search needs) (λ c. search needs) (λ c. search needs) (λ c κs. search needs)
+    (λ c. search needs) (λ c. search needs) (λ c κs. search needs) (λ c. search needs) (λ c. search needs)
+    (λ c κs. search needs) (λ c. search needs) (λ c. search needs) (λ c κs. search needs) (λ c. search needs) returns
+    (λ c. search needs) returns-2 (λ c. search needs) returns-3 (λ c. search needs) returns-4 (λ c. search needs)
+    returns-5 (λ c. search needs) returns-6 (λ c. search needs) returns-7 (λ c. search needs) returns-8
+    (λ c. search needs) returns-9 (λ c. search needs) returns-10 (λ c. search needs) returns-11 (λ c. search needs)
+    returns-12 (λ c. search needs) returns-13)
