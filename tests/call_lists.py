@@ -5,18 +5,24 @@ malformed at .." says of each list, and what its evaluation gives.
     tests/call_lists.py [--check]
 
 The sentence and SMT-LIB's operations are written anew here, not taken from the code. After the lists made below come the call
-lists of the Rust that oracle/sample/calls.txt holds, all of them well formed."""
+lists of the Rust that oracle/sample/calls.txt holds, all of them well formed, and those of the divisions, with trits on their
+operands (tests/divisions.py)."""
 import pathlib
 import random
 import struct
 import sys
 
+import divisions
+from division_table import NAMES, divided
+
 ROOT = pathlib.Path(__file__).resolve().parent.parent
 K = 1 << 29
 OPERATIONS = (
     ["bool_lit", "bool_ite", "not", "and", "lit", "equal", "ite", "concat", "extract", "bvnot"]
-    + ["binary"] * 4 + ["bvcomp"] + ["compare"] * 2 + ["binary"] * 4 + ["declare", "assert", "check"]
+    + ["binary"] * 4 + ["bvcomp"] + ["compare"] * 2 + ["binary"] * 4 + ["declare", "assert", "check"] + ["binary"] * 4
 )
+DIVISIONS = range(24, 28)
+OF_TWO = (*range(10, 21), *DIVISIONS)
 COUNT = {
     "bool_lit": 1, "bool_ite": 3, "not": 1, "equal": 2, "ite": 3, "concat": 2, "extract": 3, "bvnot": 1,
     "binary": 2, "bvcomp": 2, "compare": 2, "declare": 4, "assert": 1, "check": 0,
@@ -91,7 +97,7 @@ def verdict(w):
 
     while at < len(w):
         op, n = pay(w[at]) % 32, pay(w[at]) // 32
-        if checked or kind(w[at]) != 2 or op > 23 or at + n >= len(w):
+        if checked or kind(w[at]) != 2 or op > 27 or at + n >= len(w):
             return f"malformed at {at}"
         o, a = OPERATIONS[op], w[at + 1 : at + 1 + n]
         if not head_stands(o, n, a, names):
@@ -124,11 +130,15 @@ def made_here():
     p = true + declare(0, 0, 1, 8) + declare(0, 0, 2, 8) + declare(2, 5, 0, 1)
     c([]); c(true); c(p); c([head(23, 0)]); c(p, [head(22, 1), term(0)], [head(23, 0)])
     # heads
-    for w in ([0], [num(0)], [term(0)], [5 * K], [head(0, 1)], [head(24, 0)], [head(31, 0)], [head(23, 1), num(0)],
+    for w in ([0], [num(0)], [term(0)], [5 * K], [head(0, 1)], [head(28, 0)], [head(31, 0)], [head(23, 1), num(0)],
               [head(0, 0)], [head(0, 2), num(0), num(0)], [head(3, 0)]):
         c(w); c(p, w)
     for op, n in ((1, 2), (2, 2), (5, 1), (6, 2), (7, 3), (8, 2), (9, 2), (10, 1), (14, 3), (15, 1), (21, 3), (22, 0)):
         c(p, [head(op, n)] + [term(0)] * n)
+    for op in DIVISIONS:
+        c(p, [head(op, 0)]); c(p, [head(op, 1), term(1)]); c(p, [head(op, 3)] + [term(1)] * 3)
+    for op in range(28, 32):
+        c(p, [head(op, 2), term(1), term(2)])
     # literals
     c([head(4, 2), num(1), num(1)]); c([head(4, 2), num(16), num(65535)]); c([head(4, 5), num(64)] + [num(65535)] * 4)
     c([head(4, 3), num(17), num(7), num(1)]); c([head(4, 1), num(1)]); c([head(4, 2), num(17), num(0)])
@@ -153,10 +163,13 @@ def made_here():
               (term(0), num(0), term(1)), (num(0), term(0), term(1)), (num(0), num(0), term(0))):
         c(p, [head(8, 3), *a])
     c(p, [head(9, 1), term(1)]); c(p, [head(9, 1), term(0)])
-    for op in range(10, 21):
+    for op in OF_TWO:
         c(p, [head(op, 2), term(1), term(2)], [head(5, 2), term(4), term(4)])
-    for op in (10, 13, 14, 15, 16, 17, 20):
+    for op in (10, 13, 14, 15, 16, 17, 20, *DIVISIONS):
         c(p, [head(op, 2), term(1), term(3)]); c(p, [head(op, 2), term(0), term(1)])
+    for op in DIVISIONS:
+        c(p, [head(op, 2), term(0), term(0)]); c(p, [head(op, 2), term(1), num(3)])
+        c(p, [head(op, 2), term(1), term(2)], [head(5, 2), term(4), term(3)])
     c(p, [head(14, 2), term(1), term(2)], [head(5, 2), term(4), term(3)])
     c(p, [head(15, 2), term(1), term(2)], [head(2, 1), term(4)])
     # names
@@ -184,7 +197,9 @@ def signed(x, w): return x - (1 << w) if x >> (w - 1) else x
 
 
 def binary(op, x, y, w):
-    """bvand bvor bvxor bvadd bvcomp bvult bvslt bvshl bvlshr bvashr bvmul, by their numbers."""
+    """bvand bvor bvxor bvadd bvcomp bvult bvslt bvshl bvlshr bvashr bvmul and the divisions, by their numbers."""
+    if op in DIVISIONS:
+        return divided(NAMES[op - DIVISIONS[0]], w, x, y)
     return {
         10: lambda: x & y, 11: lambda: x | y, 12: lambda: x ^ y, 13: lambda: x + y, 14: lambda: int(x == y),
         15: lambda: int(x < y), 16: lambda: int(signed(x, w) < signed(y, w)), 17: lambda: x << y if y < w else 0,
@@ -265,12 +280,12 @@ def operations_at(width, x, y):
     digits = [(x >> (16 * i)) % 65536 for i in range((width + 15) // 16)]
     w = declare(0, 0, 1, width) + declare(0, 0, 2, width) + [head(4, 1 + len(digits)), num(width)] + [num(d) for d in digits]
     w += [head(5, 2), term(0), term(1)] + [head(6, 3), term(3), term(0), term(1)] + [head(9, 1), term(0)]
-    for op in range(10, 21):
+    for op in OF_TWO:
         w += [head(op, 2), term(0), term(1)]
     for i, j in ((high, low), (high, high), (low, low), (high // 2, low), (high, high // 2)):
         w += [head(8, 3), num(i), num(j), term(0)]
     if left:
-        w += declare(1, 3, 0, left) + [head(7, 2), term(0), term(22)] + [head(7, 2), term(22), term(1)]
+        w += declare(1, 3, 0, left) + [head(7, 2), term(0), term(26)] + [head(7, 2), term(26), term(1)]
     return w, [x, y] + [(1 << left) - 2] * (left > 1) + [1] * (left == 1)
 
 
@@ -279,10 +294,11 @@ def evaluated_here():
     for width in (1, 17, 63, 64):
         ones, top = (1 << width) - 1, 1 << (width - 1)
         amounts = {0, 1, width - 1, width, width + 1, ones}
-        pairs = [(ones, 1 & ones), (top, ones), (ones, top), (0, 0), (0x9E3779B97F4A7C15 & ones, 0xD1B54A32D192ED03 & ones)]
+        pairs = [(ones, 1 & ones), (top, ones), (ones, top), (0, 0), (ones, 0), (top - 1, 0)]
+        pairs.append((0x9E3779B97F4A7C15 & ones, 0xD1B54A32D192ED03 & ones))
         for x, y in pairs + [(top + 1 & ones, y & ones) for y in sorted(amounts)]:
             w, bits = operations_at(width, x, y)
-            out.append((w, bits, 26))
+            out.append((w, bits, 30))
     false, true, byte = [head(0, 1), num(0)], [head(0, 1), num(1)], declare(2, 9, 0, 8)
     says = lambda k: [head(22, 1), term(k)]
     p = false + true + [head(2, 1), term(0)] + [head(1, 3), term(1), term(0), term(2)]
@@ -316,6 +332,10 @@ def cases():
     for w in of_sample():
         assert verdict(w).startswith("well formed")
         yield w, [chance.getrandbits(a[3]) for op, a in records(w) if op == 21], int(verdict(w).split()[2]) + 2
+    for w, bits, false in divisions.evaluated():
+        room = sum(op not in (22, 23) for op, _ in records(w))
+        assert evaluation(w, bits, room)[0] == f"evaluated {false}"
+        yield w, bits, room
     for w in past_tables():
         yield w, [5, 6], 3
 

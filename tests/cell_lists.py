@@ -1,6 +1,7 @@
 #!/usr/bin/env python3
 # Writes the input of the crate cells_test: for every operation, lists of one cell at widths 0 (where allowed), 1, 2, 17 and 63 over three Inputs
-# of 63 nets, with constants, inverted controls and both flags among the operands; and, by the oracle (oracle/build first), the Rust's answer to each.
+# of 63 nets, with constants, inverted controls and both flags among the operands; and, by the oracle (oracle/build first), the Rust's answer to each,
+# for a division its answer for a Mul, changed as docs/DIVISIONS.md says.
 import os, random, struct, subprocess
 
 os.chdir(os.path.join(os.path.dirname(os.path.abspath(__file__)), '..'))
@@ -76,6 +77,9 @@ def bodies():
     yield 'Void', 0, []
     yield 'Note', 0, []
     yield 'Input', 63, numbers(63)
+    for n in WIDTHS:
+        for op in ['UDiv', 'UMod'] + ['SDivTrunc', 'SModTrunc'] * (n > 0):
+            yield op, n, numbers(n) + nets(2 * n)
 
 
 def lists():
@@ -84,16 +88,16 @@ def lists():
         yield ', '.join(head + [' '.join([op] + body)])
 
 
-def oracle(command, text):
-    return subprocess.run([ORACLE, command], input=text, capture_output=True, text=True, check=True).stdout
+def oracle(text, *command):
+    return subprocess.run([ORACLE, *command], input=text, capture_output=True, text=True, check=True).stdout
 
 
 texts = list(lists())
-words = oracle('words', '\n'.join(texts) + '\n')
+words = oracle('\n'.join(texts) + '\n', 'words')
 with open('crates/cells_test/stdin', 'wb') as out:
     for line in words.splitlines():
         one = [int(w, 16) for w in line.split()]
         out.write(struct.pack('<%dI' % (1 + len(one)), len(one), *one))
 with open('crates/cells_test/stdout', 'w') as out:
-    out.write(oracle('digest', words))
+    out.write(oracle(words, 'digest', 'divisions'))
 print(len(texts), 'lists')

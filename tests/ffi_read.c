@@ -30,14 +30,16 @@ static uint32_t many[16385];
 int main(void)
 {
     const uint32_t example[] = { NUM(2), NUM(0), NUM(0), NUM(1), HEAD(21, 1), NUM(1), HEAD(2, 2), NUM(1), SLOT(0), SLOT(1), SLOT(0) };
-    const uint32_t unknown[] = { NUM(1), NUM(0), NUM(0), NUM(0), HEAD(23, 0) };
+    const uint32_t last[] = { NUM(1), NUM(0), NUM(0), NUM(0), HEAD(26, 3), NUM(1), NET(1), NET(1) };
+    const uint32_t unknown[] = { NUM(1), NUM(0), NUM(0), NUM(0), HEAD(27, 0) };
     const uint32_t beyond[] = { NUM(1), NUM(0), NUM(0), NUM(0), HEAD(1, 2), NUM(1), SLOT(1) };
     const uint32_t wide[] = { NUM(64), NUM(0), NUM(0), NUM(0), HEAD(21, 1), NUM(64) };
 
     expect("document 01's example", example, 11, 2);
     expect("empty list", example, 0, FAULT(1, 0));
     expect("cut short", example, 10, FAULT(1, 10));
-    expect("operation 23", unknown, 5, FAULT(3, 4));
+    expect("operation 26", last, 8, 1);
+    expect("operation 27", unknown, 5, FAULT(3, 4));
     expect("slot beyond the total", beyond, 7, FAULT(6, 6));
     expect("Input #64", wide, 6, FAULT(4, 5));
     if (vm_read(many, 16385) == FAULT(4, 16384)) right++; else wrong++;

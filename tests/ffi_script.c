@@ -5,6 +5,7 @@
 
 #define HEAD(op, count) ((2u << 29) + (op) + 32u * (count))
 #define NUMBER(n) ((3u << 29) + (n))
+#define TERM(k) ((4u << 29) + (k))
 
 static int failed = 0;
 
@@ -12,6 +13,23 @@ static void expect(const char *what, int holds) {
     if (!holds) {
         printf("%s: not as expected\n", what);
         failed = 1;
+    }
+}
+
+/* A name of 8 bits divided by itself in four ways; no operation after these is known. */
+static void divisions(void) {
+    uint32_t calls[] = {HEAD(21, 4), NUMBER(2), NUMBER(0), NUMBER(0), NUMBER(8), HEAD(24, 2), TERM(0), TERM(0),
+                        HEAD(25, 2), TERM(0),   TERM(0),   HEAD(26, 2), TERM(0), TERM(0), HEAD(27, 2), TERM(0), TERM(0)};
+    const char *script = "(set-option :produce-models true)\n(set-logic QF_BV)\n(declare-const t0 (_ BitVec 8))\n"
+                         "(define-fun k1 () (_ BitVec 8) (bvudiv t0 t0))\n(define-fun k2 () (_ BitVec 8) (bvurem t0 t0))\n"
+                         "(define-fun k3 () (_ BitVec 8) (bvsdiv t0 t0))\n(define-fun k4 () (_ BitVec 8) (bvsrem t0 t0))\n"
+                         "; nothing asked\n";
+    uint8_t text[512];
+    size_t n = strlen(script);
+    expect("divisions", vm_script(calls, 17, NULL, 0, text, sizeof text) == n && memcmp(text, script, n) == 0);
+    for (uint32_t op = 28; op < 32; op++) {
+        calls[14] = HEAD(op, 2);
+        expect("no operation", vm_script(calls, 17, NULL, 0, text, sizeof text) == 19 * ((uint64_t)1 << 48) + 14);
     }
 }
 
@@ -35,6 +53,7 @@ int main(void) {
     expect("unknown", vm_answer((const uint8_t *)"unknown", 7, marks, 1, trits, 2) == 18 * fault && trits[0] == 9);
     expect("sat", vm_answer((const uint8_t *)answer, strlen(answer), marks, 1, trits, 2) == 1 && trits[0] == 1 && trits[1] == 9);
     expect("table", vm_answer((const uint8_t *)answer, strlen(answer), marks, 1, trits, 0) == 15 * fault + 1);
+    divisions();
     printf(failed ? "ffi_script: failed\n" : "ffi_script: ok\n");
     return failed;
 }

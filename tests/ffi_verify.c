@@ -58,6 +58,58 @@ static const uint32_t script[] = {
     HEAD(23, 0)                                            /* check */
 };
 
+/* The calls of two Inputs of a bit and a division of the first by the second; its operation is put at DIVIDES. */
+enum { DIVIDES = 56 };
+static uint32_t division[] = {
+    HEAD(21, 4), NUM(0), NUM(0), NUM(1), NUM(1),           /* k0 n0x */
+    HEAD(21, 4), NUM(0), NUM(0), NUM(2), NUM(1),           /* k1 n0y */
+    HEAD(21, 4), NUM(0), NUM(1), NUM(1), NUM(1),           /* k2 n1x */
+    HEAD(21, 4), NUM(0), NUM(1), NUM(2), NUM(1),           /* k3 n1y */
+    HEAD(4, 2),  NUM(1), NUM(0),                           /* k4 0 */
+    HEAD(5, 2),  TERM(0), TERM(4),                         /* k5 = */
+    HEAD(4, 2),  NUM(1), NUM(0),                           /* k6 0 */
+    HEAD(5, 2),  TERM(2), TERM(6),                         /* k7 = */
+    HEAD(3, 2),  TERM(5), TERM(7),                         /* k8 and: no X */
+    HEAD(4, 2),  NUM(1), NUM(0),                           /* k9 0 */
+    HEAD(5, 2),  TERM(3), TERM(9),                         /* k10 =: the divisor is zero */
+    HEAD(2, 1),  TERM(10),                                 /* k11 not */
+    HEAD(3, 2),  TERM(8), TERM(11),                        /* k12 and */
+    HEAD(4, 2),  NUM(1), NUM(0),                           /* k13 0 */
+    HEAD(4, 2),  NUM(1), NUM(1),                           /* k14 1 */
+    HEAD(6, 3),  TERM(12), TERM(13), TERM(14),             /* k15 ite */
+    0,           TERM(1), TERM(3),                         /* k16 */
+    HEAD(21, 4), NUM(0), NUM(2), NUM(1), NUM(1),           /* k17 n2x */
+    HEAD(21, 4), NUM(0), NUM(2), NUM(2), NUM(1),           /* k18 n2y */
+    HEAD(5, 2),  TERM(17), TERM(15),                       /* k19 = */
+    HEAD(5, 2),  TERM(18), TERM(16),                       /* k20 = */
+    HEAD(3, 2),  TERM(19), TERM(20),                       /* k21 and */
+    HEAD(22, 1), TERM(21)                                  /* assert */
+};
+
+/* Operations 23 to 26, of which the unsigned two make no call at width 0, and 27 to 31, which are none. */
+static void divisions(void) {
+    uint32_t list[] = {NUM(3), NUM(0), NUM(0), NUM(0), HEAD(21, 1), NUM(1), HEAD(21, 1), NUM(1), 0, NUM(1), SLOT(0),
+                       SLOT(1)};
+    uint32_t empty[] = {NUM(1), NUM(0), NUM(0), NUM(0), 0, NUM(0)};
+    const size_t n = sizeof division / sizeof *division;
+    for (uint32_t op = 23; op < 27; op++) {
+        list[8] = HEAD(op, 3);
+        empty[4] = HEAD(op, 1);
+        division[DIVIDES] = HEAD(op + 1, 2);
+        memcpy(calls, filled, sizeof calls);
+        memcpy(recorded, blank, sizeof recorded);
+        if (op < 25) expect("of no width", vm_verify(empty, 6, calls, 0, recorded, 1) == 0);
+        else refused("signed, of no width", empty, 6, ROOM, SLOTS, FAULT(7, 5));
+        expect("division", vm_verify(list, 12, calls, n, recorded, 3) == n && memcmp(calls, division, sizeof division) == 0);
+    }
+    memcpy(calls, filled, sizeof calls);
+    memcpy(recorded, blank, sizeof recorded);
+    for (uint32_t op = 27; op < 32; op++) {
+        list[8] = HEAD(op, 3);
+        refused("no operation", list, 12, ROOM, SLOTS, FAULT(3, 8));
+    }
+}
+
 int main(void) {
     const uint32_t example[] = {NUM(2), NUM(0), NUM(0), NUM(1), HEAD(21, 1), NUM(1), HEAD(2, 2), NUM(1), SLOT(0),
                                 SLOT(1), SLOT(0)};
@@ -101,6 +153,7 @@ int main(void) {
     expect("words past them", memcmp(calls + 33, filled + 33, (ROOM - 33) * sizeof *calls) == 0);
     expect("its marks", recorded[0] == 1 && recorded[1] == 1 && memcmp(recorded + 2, blank + 2, SLOTS - 2) == 0);
 
+    divisions();
     printf(failed ? "ffi_verify: failed\n" : "ffi_verify: ok\n");
     return failed;
 }

@@ -6,17 +6,11 @@ os.chdir(os.path.join(os.path.dirname(os.path.abspath(__file__)), '..'))
 sys.path.insert(0, 'tools')
 import notation
 
-# The oracle also has the names of operations that document 01 does not.
-LATER = {'UDiv': 'op23', 'UMod': 'op24', 'SDivTrunc': 'op25', 'SModTrunc': 'op26'}
-
 
 def stored(name):
     for words, text in zip(open(f'oracle/sample/{name}.txt'), open(f'oracle/sample/{name}-lists.txt')):
         found = [int(word, 16) for word in words.split()]
-        text = text.rstrip('\n').split(' | ')[0]
-        for operation, number in LATER.items():
-            text = text.replace(operation, number)
-        yield found[3:3 + found[0]], text
+        yield found[3:3 + found[0]], text.rstrip('\n').split(' | ')[0]
 
 
 def refused(text):

@@ -25,7 +25,7 @@ def input_of(text):
 def script_of(content):
     words = struct.unpack('<%dI' % (len(content) // 4), content)
     line = ' '.join('%08x' % word for word in words) + '\n'
-    return subprocess.run([ORACLE, 'script'], input=line.encode(), stdout=subprocess.PIPE, check=True).stdout[:-1]
+    return subprocess.run([ORACLE, 'script', 'divisions'], input=line.encode(), stdout=subprocess.PIPE, check=True).stdout[:-1]
 
 
 def framed(content):

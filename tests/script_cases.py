@@ -1,11 +1,15 @@
 #!/usr/bin/env python3
 """Call lists with their recorded marks, and their scripts by document 01's sentences, written here in Python and not taken from the
-code. Writes crates/script_test/stdin and stdout; with `every` writes the case of every operation to standard output instead."""
-import struct, sys, pathlib
+code. Writes crates/script_test/stdin and stdout; with `every` writes the case of every operation to standard output instead, with
+`divisions SEED` one of random divisions, each asserted to have its quotient or remainder, and with `evaluated SEED` the same list as
+the program read_calls takes it."""
+import pathlib, random, struct, sys
+
+from division_table import divided
 
 HEAD, NUMBER, TERM = 2 << 29, 3 << 29, 4 << 29
 BINARY = {10: "bvand", 11: "bvor", 12: "bvxor", 13: "bvadd", 14: "bvcomp", 15: "bvult", 16: "bvslt", 17: "bvshl", 18: "bvlshr",
-          19: "bvashr", 20: "bvmul"}
+          19: "bvashr", 20: "bvmul", 24: "bvudiv", 25: "bvurem", 26: "bvsdiv", 27: "bvsrem"}
 BOOL, BIT = "Bool", "(_ BitVec 1)"
 
 class Calls:
@@ -97,12 +101,33 @@ def every():
     c.check()
     return c
 
+def divisions(seed):
+    """The four divisions of random operands, each asserted to be what Python's integers give; a divisor is often zero."""
+    c, chance = Calls(), random.Random(seed)
+    for _ in range(20):
+        width = chance.randint(1, 64)
+        edges = [0, 1 << (width - 1), (1 << width) - 1]
+        s, t = (chance.choice(edges + [chance.getrandbits(chance.randint(1, width)) for _ in edges]) for _ in "st")
+        a, b = c.literal(width, s), c.literal(width, t)
+        for op in range(24, 28):
+            made = c.apply(op, BINARY[op], "(_ BitVec %d)" % width, a, b)
+            c.claim(c.apply(5, "=", BOOL, made, c.literal(width, divided(BINARY[op], width, s, t))))
+    c.check()
+    return c
+
 def packed(calls, marks, room=65536):
     w = calls if isinstance(calls, list) else calls.words
     return struct.pack("<%dI" % (len(w) + 3), len(w), len(marks), room, *w) + bytes(marks)
 
 if sys.argv[1:] == ["every"]:
     sys.stdout.buffer.write(packed(every(), [1, 0, 0, 2]))
+    sys.exit()
+if sys.argv[1:2] == ["divisions"]:
+    sys.stdout.buffer.write(packed(divisions(int(sys.argv[2])), []))
+    sys.exit()
+if sys.argv[1:2] == ["evaluated"]:
+    c = divisions(int(sys.argv[2]))
+    sys.stdout.buffer.write(struct.pack("<%dI" % (len(c.words) + 3), len(c.words), *c.words, 0, len(c.terms)))
     sys.exit()
 ex, ev, unchecked, empty = example(), every(), Calls(), Calls()
 unchecked.declare("n", 0, "x", 1), unchecked.declare("n", 0, "y", 1)
@@ -132,6 +157,11 @@ cases = [(packed(ex, [1, 1]), script(ex, [1, 1])), (packed(ex, [1, 1], size), sc
          (packed(ex.words[:-1] + [NUMBER], [3], 0), "refused 19 at %d\n" % (len(ex.words) - 1)),
          (packed(ex.words + [HEAD + 23], [3], 0), "refused 19 at %d\n" % len(ex.words)),
          (packed([HEAD + 9 + 32, TERM], [3], 0), "refused 19 at 1\n"), (packed([HEAD + 3], [3], 0), "refused 19 at 0\n")]
+for op in range(28, 32):
+    unknown = Calls()
+    number = unknown.declare("t", 0, "", 8)
+    unknown.record(op, unknown.refs(number, number))
+    cases.append((packed(unknown, [], 0), "refused 19 at 5\n"))
 crate = pathlib.Path(__file__).resolve().parent.parent / "crates" / "script_test"
 (crate / "stdin").write_bytes(b"".join(c for c, _ in cases))
 (crate / "stdout").write_text("".join(t for _, t in cases))

@@ -1,7 +1,7 @@
 #!/usr/bin/env python3
 # Random accepted designs through z3 and cvc5: no error line, both agree, every reply reads back, the evaluator confirms
 # every example, working out from an example's sources gives the example, and where sources are few the verdict is that
-# of trying all of them.
+# of trying all of them. Before them, divisions of constants give what working out does.
 #
 #   tests/vm_solvers.py [COUNT [SEED]]      1,000 designs from seed 1
 import itertools, os, random, sys, time
@@ -15,7 +15,7 @@ import design
 import notation
 import solver
 from verdict import BROKEN, HOLDS, NOTHING_ASKED, Result
-from vm_working_out import Design
+from vm_working_out import DIVISIONS, Design, divide
 
 FEW = 3 ** 6
 CONSTANT_RUNS = ('clear value', 'reset value')
@@ -193,15 +193,35 @@ class Watched(solver.Solvers):
         return reply
 
 
+def divisions():
+    """Designs of constants divided, each output replaced by the constant that it must be, and that by the output."""
+    for operation, (n, trits) in itertools.product(DIVISIONS, ((1, '01X'), (2, '01X'), (3, '01'))):
+        operands = [list(operand) for operand in itertools.product(trits, repeat=n)]
+        for left in operands:
+            cells, pairs = [], []
+            for at, right in enumerate(operands):
+                first = 2 * n * at
+                cells.append(' '.join([operation, f'#{n}'] + left + right))
+                cells.append(' '.join(['Buf', f'#{n}'] + divide(operation, left, right)))
+                pairs += [f's{slot} s{slot + n}' for slot in range(first, first + n)]
+                pairs += [f's{slot + n} s{slot}' for slot in range(first, first + n)]
+            head = f'#{2 * n * len(operands)} #0 #0 #{len(pairs)}'
+            yield f'{operation} of {"".join(reversed(left))}', notation.parse('\n'.join([head] + cells + pairs))[0]
+
+
 def main(count=1000, seed=1):
     verifier, solvers = core.Core(core.progress('solvers')), Watched()
     checkers = [checking.Checker(verifier, lambda name=name: [solver.command(name)], 60, solvers)
                 for name in ('z3', 'cvc5')]
+    held = {}
+    for what, words in divisions():
+        judge(what, [checker.check(Result(what, words=words)) for checker in checkers], held)
+    print(f'solvers: {held["HOLDS"]} designs of divided constants hold')
     tally, began = {}, time.time()
     for at in range(seed, seed + count):
         words = accepted(at, verifier)
         results = [checker.check(Result(f'seed {at}', words=words)) for checker in checkers]
-        judge(at, results, tally)
+        judge(f'seed {at}', results, tally)
         if sys.stderr.isatty():
             print(f'\r{at - seed + 1} of {count}', end='', file=sys.stderr)
     counts = ', '.join(f'{number} {what}' for what, number in sorted(tally.items()))
@@ -226,23 +246,25 @@ def judge(at, results, tally):
     text = ', '.join(notation.show(first.words))
     told = first.headline, second.headline
     if told[0] != told[1] or first.verdict not in (HOLDS, BROKEN, NOTHING_ASKED):
-        raise SystemExit(f'seed {at}: {told}, {first.sentences}, {second.sentences}: {text}')
+        raise SystemExit(f'{at}: {told}, {first.sentences}, {second.sentences}: {text}')
     if len(design.obligations(first)) != len(first.obligations):
-        raise SystemExit(f'seed {at}: the edits of the obligations are not told: {text}')
+        raise SystemExit(f'{at}: the edits of the obligations are not told: {text}')
     tally[first.headline] = tally.get(first.headline, 0) + 1
+    if any(cell.operation in DIVISIONS for cell in first.cells):
+        note(tally, 'with a division')
     worked = Design(first)
     given = sources(first, worked)
     for result in results:
         if result.verdict == BROKEN:
             fits = example_fits(worked, result, given)
             if fits is False:
-                raise SystemExit(f'seed {at}: the example of {result.solver} is not what working out gives: {text}')
+                raise SystemExit(f'{at}: the example of {result.solver} is not what working out gives: {text}')
             note(tally, 'examples worked out' if fits else 'examples with a loop')
     if first.verdict == NOTHING_ASKED or 3 ** len(given) > FEW:
         return
     broken = tried(worked, given)
     if broken is not None and (broken != (first.verdict == BROKEN) or first.vacuous):
-        raise SystemExit(f'seed {at}: {told[0]}, but trying all sources says {"broken" if broken else "holds"}: {text}')
+        raise SystemExit(f'{at}: {told[0]}, but trying all sources says {"broken" if broken else "holds"}: {text}')
     note(tally, 'tried with all sources' if broken is not None else 'with few sources and a loop')
 
 

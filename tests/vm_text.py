@@ -1,6 +1,7 @@
 #!/usr/bin/env python3
 # What vm says without the proved archive and without a solver: notation with names, bad files and texts, bad arguments,
-# words and faults. Every refusal is a sentence and has its exit status; there is never a traceback.
+# words and faults. Every refusal is a sentence and has its exit status; there is never a traceback. Also the divisions
+# of tests/vm_working_out.py, on examples worked out by hand.
 import importlib.machinery, importlib.util, io, os, struct, sys, tempfile
 
 ROOT = os.path.dirname(os.path.dirname(os.path.abspath(__file__)))
@@ -12,6 +13,7 @@ import shown
 import solver
 import source
 import verdict
+import vm_working_out
 
 done = 0
 
@@ -70,6 +72,23 @@ def names():
     ring = notation.parse('#1 #0 #0 #0, Not #1 s0')[0]
     same(notation.parse('#1 #0 #0 #0, r: Not #1 r')[0], ring, 'a name before its cell')
     same(notation.parse('#2 #0 #0 #0, c: Input #1, Aig !c c')[0][7:9], [1 << 29 | 2, 2], 'an inverted name')
+
+
+def divisions():
+    """The words of the four cells, and what they give, trits highest first."""
+    for operation, name in enumerate(vm_working_out.DIVISIONS, 23):
+        text = f'#6 #0 #0 #1, a: Input #2, b: Input #2, q: {name} #2 a[0..1] b[0..1], q[1] a[1]'
+        words = [2 << 29 | operation + 32 * 5, 3 << 29 | 2, 2, 3, 4, 5, 7, 3]
+        same(notation.parse(text)[0][8:], words, f'words of {name}')
+    for left, right, *given in (('1001', '0010', '0100', '0001', '1101', '1111'),
+                                ('0111', '1110', '0000', '0111', '1101', '0001'),
+                                ('1001', '1110', '0000', '1001', '0011', '1111'),
+                                ('1000', '1111', '0000', '1000', '1000', '0000'),
+                                ('1000', '0000') + ('XXXX',) * 4, ('0000', '0000') + ('XXXX',) * 4,
+                                ('000X', '0001') + ('XXXX',) * 4, ('0110', 'X001') + ('XXXX',) * 4):
+        for name, expected in zip(vm_working_out.DIVISIONS, given):
+            found = vm_working_out.divide(name, list(reversed(left)), list(reversed(right)))
+            same(''.join(reversed(found)), expected, f'{name} of {left} by {right}')
 
 
 def bad_texts():
@@ -179,6 +198,6 @@ command = loaded()
 os.environ.update(PATH='', VIRGINALMIMAS_ARCHIVE='/nowhere', VM_TRACE='1')
 with tempfile.TemporaryDirectory() as folder:
     os.chdir(folder)
-    for group in (names, bad_texts, both_ways, files, commands, replies):
+    for group in (names, divisions, bad_texts, both_ways, files, commands, replies):
         group()
 print(f'vm without an archive: {done} tests passed')

@@ -1,9 +1,11 @@
-"""Document 01's "Reading nets" and "Cell rules", written from the paper as a second opinion, for tests alone.
+"""Document 01's "Reading nets" and "Cell rules", with document 02's divisions, written from the paper as a second
+opinion, for tests alone.
 
 A trit is '0', '1' or 'X'. A design is a result of vm with its cells and replacements; given trits are two tables by
 slot, now and was.
 """
 GIVEN = ('Input', 'IoBuf')
+DIVISIONS = ('UDiv', 'UMod', 'SDivTrunc', 'SModTrunc')
 
 
 def invert(a):
@@ -53,6 +55,16 @@ def equal(left, right):
 
 def signed(trits):
     return number(trits) - 2 ** len(trits) * (trits[-1] == '1')
+
+
+def divide(operation, left, right):
+    """The quotient towards zero, or what it leaves of the dividend."""
+    order = signed if operation in ('SDivTrunc', 'SModTrunc') else number
+    if 'X' in left + right or order(right) == 0:
+        return ['X'] * len(left)
+    a, b = order(left), order(right)
+    quotient = abs(a) // abs(b) * (1 if (a < 0) == (b < 0) else -1)
+    return bits(quotient if operation in ('UDiv', 'SDivTrunc') else a - b * quotient, len(left))
 
 
 def shift(operation, value, amount, stride):
@@ -137,6 +149,8 @@ class Design:
                 return bits(number(left) * number(right), cell.width)
             order = number if named == 'ULt' else signed
             return [str(int(order(left) < order(right)))]
+        if named in DIVISIONS:
+            return divide(named, left, right)
         if named in ('Shl', 'UShr', 'SShr', 'XShr'):
             return shift(named, pins['value'], pins['amount'], cell.numbers['stride'])
         if named == 'Match':

@@ -10,6 +10,7 @@ LAYOUTS = {
     'Buf': (('n',), VALUE), 'Not': (('n',), VALUE),
     'And': (('n',), TWO), 'Or': (('n',), TWO), 'Xor': (('n',), TWO), 'Mul': (('n',), TWO),
     'Eq': (('n',), TWO), 'ULt': (('n',), TWO), 'SLt': (('n',), TWO),
+    'UDiv': (('n',), TWO), 'UMod': (('n',), TWO), 'SDivTrunc': (('n',), TWO), 'SModTrunc': (('n',), TWO),
     'Mux': (('n',), (('select', 1), ('one', 'n'), ('zero', 'n'))),
     'Adc': (('n',), TWO + (('carry', 1),)),
     'Aig': ((), (('left', 1), ('right', 1))),

@@ -20,7 +20,7 @@ import difflib
 import re
 
 OPERATIONS = ('Void Buf Not And Or Xor Mux Adc Aig Eq ULt SLt Shl UShr SShr XShr Mul Match Assign Dff IoBuf Input '
-              'Note').split()
+              'Note UDiv UMod SDivTrunc SModTrunc').split()
 NET, INVERTED, HEAD, NUMBER, TERM = range(5)
 LAST = 2 ** 29 - 1
 CONSTANTS = {'0': 0, '1': 1, 'X': LAST}

@@ -3,11 +3,11 @@
 use netlist::REACHED;
 
 use crate::features::{self, Tally};
-use crate::generate::{self, Size};
+use crate::generate::{self, Among, Size};
 use crate::list::{Cell, List};
 use crate::random::Random;
 use crate::read::{self, Fault};
-use crate::record::{Answer, CALLS, Name, REFUSED_CALL, Record};
+use crate::record::{Answer, CALLS, CHECK, Name, REFUSED_CALL, Record};
 use crate::rust::{self, Way};
 use crate::{damage, words};
 
@@ -50,8 +50,7 @@ impl Extremes {
         self.meet("slots", list.slots() as usize);
         self.meet("cell replacements", list.cell_replacements.len());
         self.meet("net replacements", list.net_replacements.len());
-        let new = list.cell_replacements.iter().map(|(_, cell)| cell);
-        for cell in list.base.iter().chain(&list.added).chain(new) {
+        for cell in list.cells() {
             self.meet("output width", cell.output_width() as usize);
             match cell {
                 Cell::Two(_, a, _) | Cell::One(_, a) | Cell::Adc(a, ..) => self.meet("n", a.len()),
@@ -74,13 +73,13 @@ impl Extremes {
 }
 
 /// Generated lists: the reader takes each apart as it was put together, the Rust makes its calls without a stand-in
-/// and without a trap but the known one, and the marks are what the Rust itself asks for after sat.
-fn check_accepted(seed: u64, count: u64, size: Size, findings: &mut Findings) {
-    let (mut met, mut calls, mut panics) = (Tally::new(), [0; 24], Tally::new());
+/// and without a trap but the known ones, and the marks are what the Rust itself asks for after sat.
+fn check_accepted(seed: u64, count: u64, size: Size, among: Among, findings: &mut Findings) {
+    let (mut met, mut calls, mut panics) = (Tally::new(), [0; CALLS.len()], Tally::new());
     let mut extremes = Extremes::default();
     let (mut list_words, mut call_words, mut longest, mut obliged) = (0, 0, (0, 0), 0);
     for index in 0..count {
-        let list = generate::generate(seed, index, size);
+        let list = generate::generate(seed, index, size, among);
         let words = list.words();
         findings.expect(read::read(&words) == Ok(list.clone()), "the reader gives another list back", index);
         list_words += words.len();
@@ -102,7 +101,7 @@ fn check_accepted(seed: u64, count: u64, size: Size, findings: &mut Findings) {
             *sum += here;
         }
 
-        let checks = run.record.calls[CALLS.len() - 1];
+        let checks = run.record.calls[CHECK as usize];
         if checks > 0 {
             obliged += 1;
             let sat = rust::run(&list, Way::AsListed, Answer::SatThenStop, false);
@@ -128,10 +127,10 @@ fn decided_by_prefix(fault: Fault) -> bool {
 
 /// Damaged lists: the reader answers on each; a fault that the words up to its place decide stays when the words after
 /// it change; a list that is accepted is written back as it was; and what the Rust does with refused ones is counted.
-fn check_damaged(seed: u64, count: u64, findings: &mut Findings) {
+fn check_damaged(seed: u64, count: u64, among: Among, findings: &mut Findings) {
     let (mut faults, mut of_the_rust) = (Tally::new(), Tally::new());
     for index in 0..count {
-        let mut list = damage::damage(seed, index);
+        let mut list = damage::damage(seed, index, among);
         let answer = read::read(&list);
         let fault = match answer {
             Ok(whole) => {
@@ -180,10 +179,10 @@ fn print_tally(title: &str, tally: &Tally) {
 }
 
 /// All runs; whether nothing was found.
-pub fn check(seed: u64, count: u64, size: Size) -> bool {
+pub fn check(seed: u64, count: u64, size: Size, among: Among) -> bool {
     let mut findings = Findings::default();
-    check_accepted(seed, count, size, &mut findings);
-    check_damaged(seed, count, &mut findings);
+    check_accepted(seed, count, size, among, &mut findings);
+    check_damaged(seed, count, among, &mut findings);
     print_tally("findings", &findings.0);
     findings.0.is_empty()
 }

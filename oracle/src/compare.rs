@@ -2,12 +2,11 @@
 //! counts must be equal, and what is not written must stay as it was.
 
 use crate::features::{self, Tally};
-use crate::generate::{self, Size};
+use crate::generate::{self, Among, Size};
 use crate::list::List;
 use crate::read::{self, Fault};
-use crate::record::{Answer, CALLS};
-use crate::rust::{self, Way};
-use crate::{damage, port, words};
+use crate::record::CALLS;
+use crate::{damage, division, port, words};
 
 /// Elements beside a lent slice that must stay as they were, on either side.
 const MARGIN: usize = 16;
@@ -206,9 +205,9 @@ impl Comparison {
             Err(fault) => return self.refused(words, fault, name),
         };
         self.count("accepted", 1);
-        let run = rust::run(&list, Way::AsListed, Answer::Unsat, true);
+        let run = division::run(&list);
         if run.panic.is_some() {
-            self.expect(features::known_trap(&list), "the Rust panicked", name);
+            self.expect(features::dff_by_void(&list), "the Rust panicked", name);
             return self.trapped(words, list.slots() as usize, name);
         }
         let counts = Counts::of(&run.record.words);
@@ -218,14 +217,14 @@ impl Comparison {
 }
 
 /// So many generated lists of a size and so many damaged ones; whether nothing differs.
-pub fn compare(seed: u64, count: u64, size: Size) -> bool {
+pub fn compare(seed: u64, count: u64, size: Size, among: Among) -> bool {
     let mut comparison = Comparison::default();
     for index in 0..count {
-        let list = generate::generate(seed, index, size);
+        let list = generate::generate(seed, index, size, among);
         comparison.list(&list.words(), Ok(list), &format!("list {index}"));
     }
     for index in 0..count {
-        let words = damage::damage(seed, index);
+        let words = damage::damage(seed, index, among);
         comparison.list(&words, read::read(&words), &format!("damaged list {index}"));
     }
     println!("{} lists, half of them damaged", 2 * count);

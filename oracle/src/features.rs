@@ -141,8 +141,13 @@ pub fn features(list: &List) -> Vec<String> {
     met
 }
 
-/// Whether the Rust is known to trap on the list: a Dff's net is replaced by an added Void's.
-pub fn known_trap(list: &List) -> bool {
+/// Whether a Dff's net is replaced by an added Void's.
+pub fn dff_by_void(list: &List) -> bool {
     let by_void = |(from, to): &(Net, Net)| pair(list, *from, *to).ends_with("Dff by added Void");
     list.net_replacements.iter().any(by_void)
+}
+
+/// Whether the Rust is known to trap on the list: by such a pair, or by a division that has a width.
+pub fn known_trap(list: &List) -> bool {
+    dff_by_void(list) || list.cells().any(|cell| cell.divides() && cell.output_width() > 0)
 }

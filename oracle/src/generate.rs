@@ -20,6 +20,15 @@ pub enum Size {
     Mixed,
 }
 
+/// Which operations a list may hold.
+#[derive(Debug, Clone, Copy, PartialEq, Eq)]
+pub enum Among {
+    /// Those that the Rust makes calls for.
+    Lowered,
+    /// The divisions too.
+    Divisions,
+}
+
 /// The operation of a cell and the numbers of its body, without its nets.
 #[derive(Debug, Clone)]
 struct Shape {
@@ -73,6 +82,8 @@ const OPERATIONS: [u32; 31] = [
     list::INPUT, list::NOTE,
 ];
 
+const DIVISIONS: [u32; 4] = [list::UDIV, list::UMOD, list::SDIVTRUNC, list::SMODTRUNC];
+
 const NARROW: [u32; 12] = [0, 1, 1, 1, 1, 2, 2, 2, 3, 3, 4, 5];
 const ANY_WIDTH: [u32; 20] = [0, 0, 1, 1, 1, 2, 2, 2, 3, 4, 8, 15, 16, 17, 17, 31, 32, 33, 62, 63];
 const STRIDES: [u32; 16] = [0, 0, 1, 1, 1, 2, 3, 4, 7, 8, 63, 64, 1_000, 1 << 15, 1 << 28, (1 << 29) - 1];
@@ -80,6 +91,7 @@ const STRIDES: [u32; 16] = [0, 0, 1, 1, 1, 2, 3, 4, 7, 8, 63, 64, 1_000, 1 << 15
 pub struct Generator {
     random: Random,
     size: Size,
+    among: Among,
     /// Which slots of the base hold Voids.
     base_voids: Vec<bool>,
     /// Slots that a net word may name.
@@ -93,7 +105,7 @@ pub struct Generator {
 }
 
 /// The list of this index under this seed.
-pub fn generate(seed: u64, index: u64, size: Size) -> List {
+pub fn generate(seed: u64, index: u64, size: Size, among: Among) -> List {
     let mut random = Random::new(seed, index);
     let size = match size {
         Size::Mixed => match random.below(200) {
@@ -104,12 +116,12 @@ pub fn generate(seed: u64, index: u64, size: Size) -> List {
         },
         size => size,
     };
-    Generator::new(random, size).list()
+    Generator::new(random, size, among).list()
 }
 
 /// A list of an Input and one cell of this operation and width, one of whose nets is replaced.
 pub fn single(seed: u64, index: u64, op: u32, n: u32) -> List {
-    let mut generator = Generator::new(Random::new(seed, index), Size::Tiny);
+    let mut generator = Generator::new(Random::new(seed, index), Size::Tiny, Among::Lowered);
     let input = generator.shape_of(list::INPUT, n.clamp(1, 4));
     let mut shape = generator.shape_of(op, n);
     if op == list::MATCH {
@@ -131,10 +143,11 @@ fn fit(mut list: List) -> List {
 }
 
 impl Generator {
-    fn new(random: Random, size: Size) -> Self {
+    fn new(random: Random, size: Size, among: Among) -> Self {
         Generator {
             random,
             size,
+            among,
             base_voids: vec![],
             readable: vec![],
             dff_slots: vec![],
@@ -194,8 +207,13 @@ impl Generator {
         }
     }
 
+    fn operation(&mut self) -> u32 {
+        let divides = self.among == Among::Divisions && self.random.percent(30);
+        self.random.pick(if divides { &DIVISIONS } else { &OPERATIONS })
+    }
+
     fn shape(&mut self) -> Shape {
-        let op = self.random.pick(&OPERATIONS);
+        let op = self.operation();
         let n = self.width();
         self.shape_of(op, n)
     }
@@ -203,7 +221,7 @@ impl Generator {
     /// A shape of this operation whose n is about this.
     fn shape_of(&mut self, op: u32, n: u32) -> Shape {
         let n = match op {
-            list::EQ | list::ULT | list::SLT | list::SSHR => n.max(1),
+            list::EQ | list::ULT | list::SLT | list::SSHR | list::SDIVTRUNC | list::SMODTRUNC => n.max(1),
             list::VOID | list::NOTE | list::AIG => 0,
             _ => n,
         };
@@ -247,7 +265,7 @@ impl Generator {
     /// A shape of this output width, for a replacement's new cell.
     fn shape_of_width(&mut self, width: u32) -> Shape {
         loop {
-            let op = self.random.pick(&OPERATIONS);
+            let op = self.operation();
             let shape = match op {
                 list::VOID | list::INPUT | list::NOTE => continue,
                 list::ADC if width == 0 => continue,

@@ -52,9 +52,10 @@ pub const DFF: u32 = 19;
 pub const IOBUF: u32 = 20;
 pub const INPUT: u32 = 21;
 pub const NOTE: u32 = 22;
-/// Document 01 has no operation from here on. To see what the Rust does with them, 23 to 26 are taken for four of its
-/// divisions, laid out like Mul.
+// The divisions, which document 02 adds: laid out like Mul. There is no operation after them.
 pub const UDIV: u32 = 23;
+pub const UMOD: u32 = 24;
+pub const SDIVTRUNC: u32 = 25;
 pub const SMODTRUNC: u32 = 26;
 
 #[rustfmt::skip]
@@ -145,6 +146,10 @@ impl Cell {
     /// The slots that the cell takes.
     pub fn slots(&self) -> u32 {
         self.output_width().max(1)
+    }
+
+    pub fn divides(&self) -> bool {
+        matches!(self.operation(), UDIV..=SMODTRUNC)
     }
 
     /// The cell's record: its head and its body.
@@ -244,6 +249,11 @@ impl List {
 
     pub fn slots(&self) -> u32 {
         self.base_slots() + self.added.iter().map(Cell::slots).sum::<u32>()
+    }
+
+    /// All cells, the new ones of replacements last.
+    pub fn cells(&self) -> impl Iterator<Item = &Cell> {
+        self.base.iter().chain(&self.added).chain(self.cell_replacements.iter().map(|(_, new)| new))
     }
 
     pub fn words(&self) -> Vec<u32> {

@@ -4,6 +4,7 @@ mod check;
 #[cfg(port)]
 mod compare;
 mod damage;
+mod division;
 mod expect;
 mod features;
 mod generate;
@@ -23,22 +24,25 @@ use std::io::{self, BufRead, Write};
 use std::path::Path;
 use std::process::ExitCode;
 
-use generate::Size;
+use generate::{Among, Size};
 use list::List;
-use record::Answer;
-use rust::Way;
+use record::{Answer, Digest};
+use rust::{Run, Way};
 
 const USAGE: &str = "usage: oracle COMMAND
-  calls [anyway|public]   lists to the calls and marks of the Rust
-  digest                  the same, the words and marks as one number
+  calls [anyway|public|divisions]
+                          lists to the calls and marks of the Rust
+  digest [divisions]      the same, the words and marks as one number
   read                    lists to `accepted` or `refused N at P`
   show, words             lists to document 01's notation, and back
-  script                  lists to the text of the Rust's calls
+  script [divisions]      lists to the text of the Rust's calls
   sat                     lists to what the Rust does when the solver says sat
-  generate SEED COUNT [tiny|small|medium|long|mixed]
-  damage SEED COUNT
-  check SEED COUNT [SIZE] many lists through everything, with the figures
-  compare SEED COUNT [SIZE] many lists through the proved archive and the Rust, with the figures
+  generate [divisions] SEED COUNT [tiny|small|medium|long|mixed]
+  damage [divisions] SEED COUNT
+  check [divisions] SEED COUNT [SIZE]
+                          many lists through everything, with the figures
+  compare [divisions] SEED COUNT [SIZE]
+                          many lists through the proved archive and the Rust, with the figures
   expect                  a document's rows of lists with expected answers: which differ
   sample SEED FOLDER      writes the stored sample
 Lists are lines of words on standard input, eight hexadecimal digits each.";
@@ -60,25 +64,21 @@ fn main() -> ExitCode {
 /// Runs a command; whether all was well, or what cannot be done.
 fn command(arguments: &[&str]) -> Result<bool, String> {
     match arguments {
+        [name @ ("generate" | "damage" | "check" | "compare"), "divisions", rest @ ..] => {
+            on_lists(&[&[*name], rest].concat(), Among::Divisions)
+        }
         ["calls"] => lines(|line| on_words(line, |words| calls(words, false, Way::AsListed))),
         ["calls", "anyway"] => lines(|line| on_words(line, |words| calls(words, true, Way::AsListed))),
         ["calls", "public"] => lines(|line| on_words(line, |words| calls(words, true, Way::PublicCalls))),
+        ["calls", "divisions"] => lines(|line| on_words(line, calls_with_divisions)),
         ["digest"] => lines(|line| on_words(line, digest)),
+        ["digest", "divisions"] => lines(|line| on_words(line, digest_with_divisions)),
         ["read"] => lines(|line| on_words(line, expect::by_the_rules)),
         ["show"] => lines(|line| on_words(line, notation::show)),
         ["words"] => lines(|line| notation::parse(line).map(|words| words::to_line(&words))),
-        ["script"] => lines(|line| on_words(line, script_text)),
+        ["script"] => lines(|line| on_words(line, |words| script_text(words, false))),
+        ["script", "divisions"] => lines(|line| on_words(line, |words| script_text(words, true))),
         ["sat"] => lines(|line| on_words(line, after_sat)),
-        ["generate", seed, count] => generated(number(seed)?, number(count)?, Size::Mixed),
-        ["generate", seed, count, size] => generated(number(seed)?, number(count)?, size_of(size)?),
-        ["damage", seed, count] => {
-            let seed = number(seed)?;
-            write_lines((0..number(count)?).map(|index| words::to_line(&damage::damage(seed, index))))
-        }
-        ["check", seed, count] => Ok(check::check(number(seed)?, number(count)?, Size::Mixed)),
-        ["check", seed, count, size] => Ok(check::check(number(seed)?, number(count)?, size_of(size)?)),
-        ["compare", seed, count] => compared(number(seed)?, number(count)?, Size::Mixed),
-        ["compare", seed, count, size] => compared(number(seed)?, number(count)?, size_of(size)?),
         ["expect"] => {
             let text = io::read_to_string(io::stdin()).map_err(|error| error.to_string())?;
             let (compared, differing) = expect::compare_all(&text).map_err(|token| format!("'{token}' is no word"))?;
@@ -86,6 +86,26 @@ fn command(arguments: &[&str]) -> Result<bool, String> {
             Ok(differing == 0)
         }
         ["sample", seed, folder] => sample::sample(number(seed)?, Path::new(folder)),
+        _ => on_lists(arguments, Among::Lowered),
+    }
+}
+
+/// Runs a command on lists from a seed.
+fn on_lists(arguments: &[&str], among: Among) -> Result<bool, String> {
+    match arguments {
+        ["damage", seed, count] => {
+            let seed = number(seed)?;
+            write_lines((0..number(count)?).map(|index| words::to_line(&damage::damage(seed, index, among))))
+        }
+        [name @ ("generate" | "check" | "compare"), seed, count, size @ ..] if size.len() < 2 => {
+            let size = size.first().map_or(Ok(Size::Mixed), |size| size_of(size))?;
+            let run = match *name {
+                "generate" => generated,
+                "check" => |seed, count, size, among| Ok(check::check(seed, count, size, among)),
+                _ => compared,
+            };
+            run(number(seed)?, number(count)?, size, among)
+        }
         _ => Err(USAGE.to_string()),
     }
 }
@@ -131,33 +151,39 @@ fn on_words(line: &str, answer: impl FnOnce(&[u32]) -> String) -> Result<String,
 }
 
 #[cfg(port)]
-fn compared(seed: u64, count: u64, size: Size) -> Result<bool, String> {
-    Ok(compare::compare(seed, count, size))
+fn compared(seed: u64, count: u64, size: Size, among: Among) -> Result<bool, String> {
+    Ok(compare::compare(seed, count, size, among))
 }
 
 #[cfg(not(port))]
-fn compared(_seed: u64, _count: u64, _size: Size) -> Result<bool, String> {
+fn compared(_seed: u64, _count: u64, _size: Size, _among: Among) -> Result<bool, String> {
     Err("built without the archive: `rt staticlib virginalmimas`, then oracle/build".to_string())
 }
 
-fn generated(seed: u64, count: u64, size: Size) -> Result<bool, String> {
-    write_lines((0..count).map(|index| words::to_line(&generate::generate(seed, index, size).words())))
+fn generated(seed: u64, count: u64, size: Size, among: Among) -> Result<bool, String> {
+    write_lines((0..count).map(|index| words::to_line(&generate::generate(seed, index, size, among).words())))
 }
 
 /// The calls of the Rust on a list: how many call words and marks there are, then the words, then the marks.
 fn calls(words: &[u32], anyway: bool, way: Way) -> String {
-    on_list(words, anyway, |list| {
-        let run = rust::run(list, way, Answer::Unsat, true);
-        match run.panic {
-            Some(message) => expect::panic_text(&message),
-            None => {
-                let mut line = vec![run.record.words.len() as u32, run.record.marks.len() as u32];
-                line.extend(run.record.words);
-                line.extend(run.record.marks);
-                words::to_line(&line)
-            }
+    on_list(words, anyway, |list| calls_line(rust::run(list, way, Answer::Unsat, true)))
+}
+
+/// The same, with the calls that a division has here.
+fn calls_with_divisions(words: &[u32]) -> String {
+    on_list(words, false, |list| calls_line(division::run(list)))
+}
+
+fn calls_line(run: Run) -> String {
+    match run.panic {
+        Some(message) => expect::panic_text(&message),
+        None => {
+            let mut line = vec![run.record.words.len() as u32, run.record.marks.len() as u32];
+            line.extend(run.record.words);
+            line.extend(run.record.marks);
+            words::to_line(&line)
         }
-    })
+    }
 }
 
 fn digest(words: &[u32]) -> String {
@@ -173,9 +199,20 @@ fn digest(words: &[u32]) -> String {
     })
 }
 
-fn script_text(words: &[u32]) -> String {
+fn digest_with_divisions(words: &[u32]) -> String {
     on_list(words, false, |list| {
-        let run = rust::run(list, Way::AsListed, Answer::Unsat, true);
+        let run = division::run(list);
+        let (calls, marks) = (&run.record.words, &run.record.marks);
+        let mut digest = Digest::default();
+        calls.iter().chain(marks).for_each(|word| digest.add(*word));
+        let line = format!("{} {} {:016x}", calls.len(), marks.len(), digest.0);
+        run.panic.map_or(line, |message| expect::panic_text(&message))
+    })
+}
+
+fn script_text(words: &[u32], divisions: bool) -> String {
+    on_list(words, false, |list| {
+        let run = if divisions { division::run(list) } else { rust::run(list, Way::AsListed, Answer::Unsat, true) };
         match run.panic {
             Some(message) => expect::panic_text(&message),
             None => script::script(&run.record.words, &run.record.marks),

@@ -1,5 +1,6 @@
-//! The list reader, written from document 01 ("Words", "Faults and what stays"): what a list holds, or the number and
-//! the place of its first fault. It shares nothing with the Rattle reader that it is to be compared with.
+//! The list reader, written from document 01 ("Words", "Faults and what stays") with the divisions of document 02: what
+//! a list holds, or the number and the place of its first fault. It shares nothing with the Rattle reader that it is to
+//! be compared with.
 
 use crate::list::{self, Cell, Control, Dff, List, Net};
 use crate::words::{self, HEAD, INVERTED, NET, NUMBER};
@@ -26,13 +27,13 @@ const ALTERNATES: u32 = 64;
 /// What stands for a bound when the layout alone is read, so that no list asks the Rust for hours of work.
 const LAYOUT_BOUND: u32 = 65_535;
 
-/// Reads a list by all of document 01's rules.
+/// Reads a list by all the rules.
 pub fn read(words: &[u32]) -> Result<List, Fault> {
     Reader::new(words, true).list()
 }
 
 /// Reads a list by its layout alone: kinds, counts and constants. The rules that the types of the Rust know nothing of
-/// (3 for the divisions, 4, 6, 7, 9, 10, 11, 12, 13) are passed over, to see what the Rust does with such a list.
+/// (4, 6, 7, 9, 10, 11, 12, 13) are passed over, to see what the Rust does with such a list.
 pub fn read_layout(words: &[u32]) -> Result<List, Fault> {
     Reader::new(words, false).list()
 }
@@ -61,7 +62,7 @@ impl<'a> Reader<'a> {
         Reader { words, strict, place: 0, end: 0, slots: 0, read_nets: vec![] }
     }
 
-    /// A rule of document 01 that the layout does not need.
+    /// A rule that the layout does not need.
     fn rule(&self, broken: bool, number: u32, place: usize) -> Read<()> {
         if broken && self.strict { refuse(number, place) } else { Ok(()) }
     }
@@ -168,8 +169,7 @@ impl<'a> Reader<'a> {
             return refuse(2, place);
         }
         let op = words::operation(head);
-        let last = if self.strict { list::NOTE } else { list::SMODTRUNC };
-        if op > last {
+        if op > list::SMODTRUNC {
             return refuse(3, place);
         }
         self.end = self.place + words::count(head);
@@ -191,11 +191,11 @@ impl<'a> Reader<'a> {
                 let n = self.number(WIDTH)?;
                 Cell::One(op, self.nets(n)?)
             }
-            list::AND | list::OR | list::XOR | list::MUL | list::UDIV..=list::SMODTRUNC => {
+            list::AND | list::OR | list::XOR | list::MUL | list::UDIV | list::UMOD => {
                 let n = self.number(WIDTH)?;
                 Cell::Two(op, self.nets(n)?, self.nets(n)?)
             }
-            list::EQ | list::ULT | list::SLT => {
+            list::EQ | list::ULT | list::SLT | list::SDIVTRUNC | list::SMODTRUNC => {
                 let n = self.width_above_0()?;
                 Cell::Two(op, self.nets(n)?, self.nets(n)?)
             }
@@ -278,7 +278,7 @@ impl<'a> Reader<'a> {
         if number > bound { refuse(4, place) } else { Ok(number) }
     }
 
-    /// #n of Eq, ULt, SLt and SShr.
+    /// #n of Eq, ULt, SLt, SShr and the signed divisions.
     fn width_above_0(&mut self) -> Read<u32> {
         let place = self.place;
         let n = self.number(WIDTH)?;

@@ -12,11 +12,11 @@ pub const REFUSED_CALL: &str = "engine: ";
 // Operations of call records, by their numbers.
 const BOOL_LITERAL: u32 = 0;
 const BOOL_ITE: u32 = 1;
-const NOT: u32 = 2;
-const AND: u32 = 3;
-const LITERAL: u32 = 4;
-const EQUAL: u32 = 5;
-const ITE: u32 = 6;
+pub const NOT: u32 = 2;
+pub const AND: u32 = 3;
+pub const LITERAL: u32 = 4;
+pub const EQUAL: u32 = 5;
+pub const ITE: u32 = 6;
 const CONCAT: u32 = 7;
 const EXTRACT: u32 = 8;
 const BVNOT: u32 = 9;
@@ -30,15 +30,18 @@ const BVSLT: u32 = 16;
 const BVSHL: u32 = 17;
 const BVLSHR: u32 = 18;
 const BVASHR: u32 = 19;
-const BVMUL: u32 = 20;
+pub const BVMUL: u32 = 20;
 const DECLARE: u32 = 21;
-const ASSERT: u32 = 22;
-const CHECK: u32 = 23;
+pub const ASSERT: u32 = 22;
+pub const CHECK: u32 = 23;
+/// The first of the divisions, which the Rust never calls.
+pub const BVUDIV: u32 = 24;
 
 #[rustfmt::skip]
-pub const CALLS: [&str; 24] = [
+pub const CALLS: [&str; 28] = [
     "bool literal", "bool ite", "not", "and", "literal", "equal", "ite", "concat", "extract", "bvnot", "bvand", "bvor",
     "bvxor", "bvadd", "bvcomp", "bvult", "bvslt", "bvshl", "bvlshr", "bvashr", "bvmul", "declare", "assert", "check",
+    "bvudiv", "bvurem", "bvsdiv", "bvsrem",
 ];
 
 /// A term of sort Bool, by its number.
@@ -82,7 +85,7 @@ pub struct Record {
     pub words: Vec<u32>,
     /// How many call words there were, and how many calls of each operation.
     pub count: u64,
-    pub calls: [u64; 24],
+    pub calls: [u64; CALLS.len()],
     /// A digest of the call words.
     pub digest: Digest,
     /// Per slot 0, 1 (n) or 2 (p), by the last declare of its n or p name.

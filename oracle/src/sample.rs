@@ -6,15 +6,16 @@ use std::path::Path;
 
 use crate::expect;
 use crate::features::{self, features};
-use crate::generate::{self, Size};
+use crate::generate::{self, Among, Size};
 use crate::list::{self, List, NAMES};
 use crate::record::Answer;
 use crate::rust::{self, Way};
 use crate::{damage, notation, read, words};
 
-/// How many lists the sample has, and how many refused ones of each fault go with it.
+/// How many lists the sample has, and how many refused ones of each fault go with it: without a division, with one.
 const LISTS: usize = 300;
 const REFUSED: usize = 23;
+const REFUSED_WITH_DIVISION: usize = 5;
 /// The faults of a design list are 1 to 13.
 const FAULTS: usize = 13;
 /// The longest call list of those that meet a need, and of the others; wide cells open the sample.
@@ -78,6 +79,7 @@ struct Needs(BTreeMap<String, u64>);
 impl Needs {
     fn new() -> Self {
         let mut needs = BTreeMap::new();
+        // The Rust has no calls for the operations after Note, the divisions.
         for (op, name) in NAMES.iter().enumerate().take(1 + list::NOTE as usize) {
             let op = op as u32;
             needs.insert(format!("cell {name}"), 8);
@@ -167,7 +169,7 @@ fn accepted(seed: u64) -> (Vec<Sampled>, Needs) {
         let met = needs.open().is_empty();
         let (candidates, most_words) = if met { (1, FEWER_CALL_WORDS) } else { (CANDIDATES, CALL_WORDS) };
         for _ in 0..candidates {
-            let list = generate::generate(seed, index, Size::Tiny);
+            let list = generate::generate(seed, index, Size::Tiny, Among::Lowered);
             index += 1;
             let gain = 1_000 * needs.gain(&list);
             if !met && gain == 0 || sample.iter().any(|before: &Sampled| before.list == list) {
@@ -187,22 +189,38 @@ fn accepted(seed: u64) -> (Vec<Sampled>, Needs) {
     (sample, needs)
 }
 
-/// Refused lists, each fault as often as the others.
-fn refused(seed: u64) -> Vec<(Vec<u32>, read::Fault)> {
+/// Whether a head of a division stands in a list.
+fn names_division(list: &[u32]) -> bool {
+    let divides = |word: &u32| matches!(words::operation(*word), list::UDIV..=list::SMODTRUNC);
+    list.iter().any(|word| words::kind(*word) == words::HEAD && divides(word))
+}
+
+/// Refused lists, so many of each fault; those that name a division, or those that do not.
+fn refused_among(seed: u64, among: Among, wanted: usize) -> Vec<(Vec<u32>, read::Fault)> {
     let mut of_each: BTreeMap<u32, usize> = BTreeMap::new();
     let mut sample: Vec<(Vec<u32>, read::Fault)> = vec![];
     for index in 0.. {
-        let list = damage::damage(seed, index);
+        let list = damage::damage(seed, index, among);
         let Err(fault) = read::read(&list) else { continue };
+        if list.len() > 60 || names_division(&list) != (among == Among::Divisions) {
+            continue;
+        }
         let many = of_each.entry(fault.number).or_default();
-        if list.len() <= 60 && *many < REFUSED && sample.iter().all(|(before, _)| *before != list) {
+        if *many < wanted && sample.iter().all(|(before, _)| *before != list) {
             *many += 1;
             sample.push((list, fault));
         }
-        if sample.len() == REFUSED * FAULTS {
+        if sample.len() == wanted * FAULTS {
             break;
         }
     }
+    sample
+}
+
+/// Refused lists, each fault as often as the others.
+fn refused(seed: u64) -> Vec<(Vec<u32>, read::Fault)> {
+    let mut sample = refused_among(seed, Among::Lowered, REFUSED);
+    sample.extend(refused_among(seed, Among::Divisions, REFUSED_WITH_DIVISION));
     sample.sort_by_key(|(list, fault)| (fault.number, list.len()));
     sample
 }

@@ -4,9 +4,9 @@ use crate::words;
 
 /// SMT-LIB's names of the calls that are written as an operation before its arguments.
 #[rustfmt::skip]
-const OPERATIONS: [&str; 21] = [
+const OPERATIONS: [&str; 28] = [
     "", "ite", "not", "and", "", "=", "ite", "concat", "", "bvnot", "bvand", "bvor", "bvxor", "bvadd", "bvcomp",
-    "bvult", "bvslt", "bvshl", "bvlshr", "bvashr", "bvmul",
+    "bvult", "bvslt", "bvshl", "bvlshr", "bvashr", "bvmul", "", "", "", "bvudiv", "bvurem", "bvsdiv", "bvsrem",
 ];
 
 /// The operations whose term is a Bool.
