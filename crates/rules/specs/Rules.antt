@@ -82,8 +82,8 @@ signed minus n size = cond minus (2 ^ n - size) size
 abbrev pub size : List Trit → ℕ
 size a = signed (negative a) (length a) (number a)
 
--- Division of signed numbers, truncated towards zero: the quotient is negative where one operand is, the remainder
--- where the first is.
+-- Division of signed numbers, truncated towards zero: the quotient is negative where one operand alone is, the
+-- remainder where the first is.
 abbrev pub quotient : List Trit → List Trit → ℕ
 quotient a b = signed (cond (negative a) (not (negative b)) (negative b)) (length a) (size a / size b)
 
