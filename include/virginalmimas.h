@@ -13,13 +13,14 @@
 #include <stddef.h>
 #include <stdint.h>
 
-#define VM_VERSION 1
+/* The version of the entries: each higher one adds entries and changes no declaration of a lower one. 2 added the entries that take a mode. */
+#define VM_VERSION 2
 #define VM_STACK (192 * 1024)
 
 /* The parts of an answer. */
 #define VM_NUMBER(answer) ((uint64_t)(answer) >> 48)
 #define VM_VALUE(answer) ((uint64_t)(answer) & 0xFFFFFFFFFFFFu)
-/* Of vm_verify and vm_counts, without a fault: whether anything is asked, and the number of call words. */
+/* Of vm_verify, vm_counts and the same in a mode, without a fault: whether anything is asked, and the number of call words. */
 #define VM_ASKED(answer) ((uint64_t)(answer) >> 47 & 1)
 #define VM_WORDS(answer) ((uint64_t)(answer) & 0x7FFFFFFFFFFFu)
 
@@ -44,6 +45,11 @@
 #define VM_UNKNOWN 18         /* the solver said unknown */
 #define VM_MALFORMED 19       /* a malformed call list */
 #define VM_BITS 20            /* bits or values too short, or bits above a width */
+#define VM_NO_MODE 23         /* a mode other than 0 and 1 */
+
+/* Modes: how the net of a Dff that is replaced by the net of a Dff is judged. Every other edit is judged alike in both. */
+#define VM_MODE_PORTED 0u     /* as the original: the pasts are joined, current to current, and then the ordinary obligation too */
+#define VM_MODE_INDUCTIVE 1u  /* by the induction step alone: the pasts are joined, and current to current */
 
 /* Kinds of words: the top three bits. */
 #define VM_KIND_NET 0u
@@ -76,6 +82,10 @@ uint64_t vm_verify(const uint32_t *list, size_t len, uint32_t *calls, size_t c, 
 /* What vm_verify would answer if its slices had room enough. The numbers of terms, temporaries and call words go into counts[0] to counts[2]; room
    for less than 3 is 14 at 3, after the list's own faults. */
 uint64_t vm_counts(const uint32_t *list, size_t len, uint64_t *counts, size_t c);
+
+/* The same in a mode; those above are in VM_MODE_PORTED. Another mode than the two is 23 at 0, before the list is looked at, and the slices stay. */
+uint64_t vm_verify_mode(uint32_t mode, const uint32_t *list, size_t n, uint32_t *calls, size_t c, uint8_t *recorded, size_t r);
+uint64_t vm_counts_mode(uint32_t mode, const uint32_t *list, size_t n, uint64_t *counts, size_t c);
 
 /* Checks a call list of n words: 19 at its place, or the number of its terms. The numbers of terms and of declared names, by which values and bits
    are allocated, go into sizes[0] and sizes[1]; room for less than 2 is 14 at 2. */

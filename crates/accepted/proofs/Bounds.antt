@@ -4,6 +4,7 @@ use mathlib.Core.List.{List}
 use Prim.Native.Nat.{ℕ, _+_}
 use native.Mathlib.Omega.{arith}
 use lib.ListN.{length}
+use Rattle.cell.specs.declared.Mode.{Mode}
 use Rattle.cell.specs.Design.{Placed, NetPair, Design, total}
 use Rattle.cell.specs.declared.Operation.{Operation}
 use Rattle.right.specs.Bounds.{Bounded, Bounds}
@@ -22,9 +23,9 @@ use Rattle.accepted.proofs.Laid.{walk-each, stages}
 abbrev BoundedAt : Placed → Type 0
 BoundedAt p = Bounded (p .cell)
 
-pub accepted-bounds : (w : List ℕ) {d : Design} {r p : ℕ} → read w ≡ accepted d r p → Bounds d
-accepted-bounds w e =
-    let all = stages (accepted-read w e) in
+pub accepted-bounds : (mode : Mode) (w : List ℕ) {d : Design} {r p : ℕ} → read mode w ≡ accepted d r p → Bounds d
+accepted-bounds mode w e =
+    let all = stages (accepted-read mode w e) in
     record {
       cells = walk-each BoundedAt (λ slot at op width after next is. cell-read (is .record-is) .bounded) (all .walk);
       newCells = climb-each _ _ BoundedAt (λ least at above next is. cell-read (is .record-is) .bounded) (all .reps);
@@ -45,9 +46,10 @@ walk-words (placed inside is rest) =
     let here = record-words (is .record-is) in let later = walk-words rest in omega arith
 
 -- An accepted list has exactly the words of its design.
-pub accepted-words : (w : List ℕ) {d : Design} {r p : ℕ} → read w ≡ accepted d r p → length w ≡ designWords d
-accepted-words w {d} e =
-    let all = stages (accepted-read w e) in
+pub accepted-words : (mode : Mode) (w : List ℕ) {d : Design} {r p : ℕ} → read mode w ≡ accepted d r p →
+    length w ≡ designWords d
+accepted-words mode w {d} e =
+    let all = stages (accepted-read mode w e) in
     let cells = walk-words (all .walk) in
     let reps =
     climb-words _ _ (λ (q : Placed). 1 + recordWords (q .cell))

@@ -9,6 +9,7 @@ use lib.ListN.{length, getD, replicate}
 use lib.Dec.{ltb}
 use borrow.Author.Tests.{lt-ltb, le-ltb, le-leb}
 use Rattle.logic.specs.Net.{payloadOfNet}
+use Rattle.cell.specs.declared.Mode.{Mode}
 use Rattle.cell.specs.Cell.{Cell, outputLen, slotsOf, standing, standsVoid}
 use Rattle.cell.specs.Cell as C
 use Rattle.cell.specs.Operation.{mayReplace}
@@ -191,7 +192,8 @@ pub record Stages (w : List ℕ) (d : Design) (replacements pairs last : ℕ) : 
       voidsAt w (Slots.isVoid (d .cells) (d .base)) (length (d .cells)) (length (d .cellReps)) (length (d .netReps))
       ≡ S.Clean last
 
-pub stages : {w : List ℕ} {d : Design} {r p : ℕ} (is : IsAccepted w d r p) → Stages w d r p (is .last)
+pub stages : {mode : Mode} {w : List ℕ} {d : Design} {r p : ℕ} (is : IsAccepted mode w d r p) →
+    Stages w d r p (is .last)
 stages {w} {d} {r} {p} is =
     let reps =
     climb-read (IsReplacement w (total d) (atSlot (d .cells)) (d .base)) (newCell w)
@@ -209,9 +211,9 @@ stages {w} {d} {r} {p} is =
       voids = rw (ap length (is .reps-are) ∙ reps .many, ap length (is .pairs-are) ∙ nets .many) (is .voids-read);
     }
 
-pub accepted-laid : (w : List ℕ) {d : Design} {r p : ℕ} → read w ≡ accepted d r p → Laid d
-accepted-laid w {d} e =
-    let all = stages (accepted-read w e) in
+pub accepted-laid : (mode : Mode) (w : List ℕ) {d : Design} {r p : ℕ} → read mode w ≡ accepted d r p → Laid d
+accepted-laid mode w {d} e =
+    let all = stages (accepted-read mode w e) in
     let run = walk-run (all .walk) in
     record {
       run = run;

@@ -9,6 +9,7 @@ use borrow.Author.Tests.{lt-ltb, le-leb, ne-eqb}
 use Rattle.logic.specs.Word.{kindOf}
 use Rattle.logic.specs.Net.{Net, constant, slot, driverOfNet}
 use Rattle.logic.proofs.NetLaws.{driver-of-payload}
+use Rattle.cell.specs.declared.Mode.{Mode}
 use Rattle.cell.specs.Cell.{Cell, standsDff}
 use Rattle.cell.specs.Operation.{numbersOf, fieldsOf, standingOf}
 use Rattle.cell.specs.Design.{Placed, NetPair, Design, total}
@@ -221,9 +222,9 @@ climb-scan R item visit Q one (taken {least = least} {at = at} {above = above} {
     (later .0, (here .1, later .1))
 
 -- ---- The whole list.
-pub accepted-voids : (w : List ℕ) {d : Design} {r p : ℕ} → read w ≡ accepted d r p → VoidsUnread d
+pub accepted-voids : (mode : Mode) (w : List ℕ) {d : Design} {r p : ℕ} → read mode w ≡ accepted d r p → VoidsUnread d
 unfolding void voidsAt Avoiding
-accepted-voids w {d} {r} {p} e = pass (stages (accepted-read w e))
+accepted-voids mode w {d} {r} {p} e = pass (stages (accepted-read mode w e))
   where
     pass : {last : ℕ} → Stages w d r p last → VoidsUnread d
     pass all =

@@ -1,6 +1,6 @@
--- Document 01, "Modules", order of work. The model of the order of work makes the Rust's calls, call for call, and its
--- marks, on every list of the stored sample: computed by the prover, from the words of the list to the words of the
--- calls.
+-- Document 01, "Modules", order of work. The model of the order of work, in mode 0, makes the Rust's calls, call for
+-- call, and its marks, on every list of the stored sample: computed by the prover, from the words of the list to the
+-- words of the calls.
 use mathlib.Core.Path.{_≡_, refl}
 use mathlib.Core.List.{map}
 use lib.Ieee as digits
@@ -27,7 +27,7 @@ use Rattle.requirement.specs.Verified as answer
 use Rattle.against_rust.specs.Rows.{Row, rows}
 
 abbrev pub answered : Row → Row
-answered r = record { list = r .list; calls = answer.callWords (r .list); marks = answer.marks (r .list) }
+answered r = record { list = r .list; calls = answer.callWords 0 (r .list); marks = answer.marks 0 (r .list) }
 
 pub equal : map answered rows ≡ rows
 unfolding digits.span digits.climb digits.size table.tab bits.bv2nat bits.nat2bv field.numberAt field.netAt field.bitAt
@@ -48,6 +48,6 @@ unfolding digits.span digits.climb digits.size table.tab bits.bv2nat bits.nat2bv
     builder.enabled builder.resetTo builder.loaded builder.cleared builder.dffCell builder.adcCell builder.cell
     emit.emit _>>=_ design.cellIn reading.replacementIn reading.nodeOf order.claim order.newCell order.replaceNet
     order.replaceVoidNet order.joinPasts order.currents order.newCellIn order.eachCell order.eachPair order.work
-    order.query order.askedCalls order.verify answer.temporaries answer.verified answer.callWords answer.marks
-    answer.callsAfter answer.recordedAfter
+    order.query order.askedCalls order.verify answer.temporaries answer.readIn answer.verified answer.callWords
+    answer.marks answer.callsAfter answer.recordedAfter
 equal = refl

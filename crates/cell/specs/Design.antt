@@ -1,5 +1,5 @@
 -- Document 01, "Words": a design list is #base #added #cellreps #netreps, then cells, cell replacements and net
--- replacements.
+-- replacements. Document 02, change 7: a design is verified in a mode.
 use mathlib.Core.Bool.{Bool, cond, _&&_}
 use mathlib.Core.List.{List, [], _∷_}
 use Prim.Native.Nat.{ℕ, _+_}
@@ -7,6 +7,7 @@ use lib.Dec.{ltb, leb}
 use Rattle.logic.specs.Net.{Net}
 use Rattle.cell.specs.Cell.{Cell, slotsOf}
 use Rattle.cell.specs.Cell as c
+use Rattle.cell.specs.declared.Mode.{Mode}
 
 -- A cell at its first slot; in a cell replacement, the new cell at the replaced slot.
 pub record Placed : Type 0 where
@@ -18,8 +19,10 @@ pub record NetPair : Type 0 where
   pub from : Net
   pub to : Net
 
--- base and added count slots; the cells stand in slot order, those of the base first.
+-- The mode is the caller's choice, not the list's; base and added count slots; the cells stand in slot order, those of
+-- the base first.
 pub record Design : Type 0 where
+  pub mode : Mode
   pub base : ℕ
   pub added : ℕ
   pub cells : List Placed

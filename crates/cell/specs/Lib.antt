@@ -1,4 +1,5 @@
 pub mod Cell
+pub mod Mode
 pub mod Design
 pub mod Role
 pub mod Each

@@ -7,6 +7,19 @@ ghost use mathlib.Core.Path.{_≡_};
 ghost use Rattle.cell.specs.Cell.{binaryWidth};
 ghost use Rattle.cell.specs.Operation.{operationOf, lead, body, layoutOf, numbersIn, fieldsIn, numbersOf};
 ghost use Rattle.cell.specs.Operation.{fieldsOf, standingOf, mayReplace};
+ghost use Rattle.cell.specs.Mode.{modeOf};
+
+// How a Dff's net replaced by a Dff's is judged: as the original judges it, or by its induction step alone.
+pub enum Mode {
+    Ported,
+    Inductive,
+}
+
+// What a caller's number chooses.
+pub enum Chosen {
+    Known(Mode),
+    Unknown,
+}
 
 // The operations; those on one vector, those on two and the shifts are told apart by their operator.
 pub enum Operation {
@@ -69,6 +82,17 @@ pub struct Fields {
     pub constants: usize,
     pub patterns: usize,
     pub width: usize,
+}
+
+// The mode of a number.
+pub fn mode_of(number: u32) -> Chosen
+    ensures { λ r. ⌜ r ≡ modeOf number ⌝ }
+{
+    match number {
+        0 => Chosen::Known(Mode::Ported),
+        1 => Chosen::Known(Mode::Inductive),
+        _ => Chosen::Unknown,
+    }
 }
 
 // The operation of a number.

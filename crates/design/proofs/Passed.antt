@@ -13,14 +13,14 @@ use Rattle.engine.specs.Emit.{Wrote}
 use Rattle.engine.proofs.EmitLaws.{length-overwrite}
 use Rattle.smt.specs.Prog.{_>>=_}
 use Rattle.smt.specs.Emit.{St, emit}
-use Rattle.design_list.specs.Read.{accepted, read}
+use Rattle.design_list.specs.Read.{accepted}
 use Rattle.order.specs.Verify.{steps, start, built, query, askedCalls, verify}
 use Rattle.order.proofs.Numbered.{terms-append, work-next}
 use Rattle.builder.specs.declared.Counts.{Counts}
 use Rattle.builder.specs.Ran.{stateOf}
 use Rattle.builder.proofs.Laws.{wrote-calls}
 use Rattle.net_steps.specs.Did.{Did, Asks, queryTerms}
-use Rattle.requirement.specs.Verified.{temporaries}
+use Rattle.requirement.specs.Verified.{temporaries, readIn}
 use Rattle.requirement.proofs.AnsweredLaws.{few-counts, temporaries-are}
 use Rattle.running.specs.Passes.{nothing}
 use Rattle.requirement.proofs.Passes.{Passed}
@@ -43,14 +43,14 @@ counts-are : (c : Counts) {t m n : ℕ} → c .terms ≡ t → c .temporaries �
     → c ≡ record { terms = t; temporaries = m; words = n }
 counts-are c p q r = rw (← p, ← q, ← r)
 
-module _ (w : List ℕ) {d : Design} {reps pairs : ℕ} (is : read w ≡ accepted d reps pairs) where
+module _ (mode : ℕ) (w : List ℕ) {d : Design} {reps pairs : ℕ} (is : readIn mode w ≡ accepted d reps pairs) where
   pub passed : {calls calls₁ calls₂ names₁ marks₁ eqs : List ℕ} {c₁ c₂ : Counts} → length calls < 2 ^ 64
       → Did (steps d) calls (replicate (4 * total d) 0) (replicate (total d) 0) nothing calls₁ names₁ marks₁ c₁ eqs
       → Asks eqs calls₁ c₁ calls₂ c₂
       → Passed d calls calls₂ marks₁ c₂ eqs
   unfolding verify
   passed {calls} {calls₁} {calls₂} {names₁} {marks₁} {eqs} {c₁} {c₂} short did asks =
-      let few = few-counts w is 0 0 in
+      let few = few-counts mode w is 0 0 in
       let many = verify-terms d in
       let temps = temporaries-are d in
       let ran =

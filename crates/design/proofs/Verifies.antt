@@ -9,6 +9,9 @@ use lib.ListN.{length, take, drop, replicate, length-take, length-replicate}
 use lib.Seq.{sets, sets-eq}
 use borrow.Author.Tests.{le-ltb}
 use Rattle.logic.specs.declared.Fault.{Fault}
+use Rattle.cell.specs.declared.Mode.{Mode}
+use Rattle.cell.specs.declared.Chosen.the-variants.{Unknown}
+use Rattle.cell.specs.Mode.{modeOf, numberOf}
 use Rattle.cell.specs.Design.{Design, total}
 use Rattle.engine.specs.Encode.{encode}
 use Rattle.engine.specs.Emit.{overwrite}
@@ -31,10 +34,10 @@ use Rattle.requirement.specs.declared.Verified.the-variants.{Refused}
 use Rattle.requirement.specs.declared.Room.{Room}
 use Rattle.requirement.specs.declared.Room.the-variants.{Short}
 use Rattle.requirement.specs.Verified.{told, toldBy, verified, unroomed, over, callWords, marks, writtenMarks}
-use Rattle.requirement.specs.Verified.{roomFor, inRoom, ofDesign}
+use Rattle.requirement.specs.Verified.{readIn, roomFor, inRoom, ofDesign}
 use Rattle.requirement.proofs.AnsweredLaws.{refused-as-read, unroomed-refused, unroomed-accepted, answered}
 use Rattle.requirement.proofs.AnsweredLaws.{roomed-as, untouched, slices-after}
-use Rattle.requirement.proofs.Required.{words-are}
+use Rattle.requirement.proofs.Required.{mode-unknown, read-numbered, words-are}
 use Rattle.design.specs.Verifies.{Ready, Blank, Tallied, Passes, Verifies}
 use Rattle.design.proofs.Passed.{passed}
 
@@ -78,16 +81,20 @@ told-as zero (o ∷ l) n h = absurd (omega arith)
 told-as (suc k) [] n h = absurd (omega arith)
 told-as (suc k) (o ∷ l) n h = refl
 
-module _ {w : List ℕ} {x : Extent} {table : List ℕ} (ready : Ready w x table) where
+module _ {mode : Mode} {w : List ℕ} {x : Extent} {table : List ℕ} (ready : Ready mode w x table) where
+  -- By the number of its mode.
+  pub numbered : readIn (numberOf mode) w ≡ accepted (ready .d) (x .replacements) (x .pairs)
+  numbered = read-numbered mode w ∙ ready .is
+
   pub table-low : length table ≤ 4096
-  table-low = let low = accepted-read w (ready .is) .low in let size = ready .size in omega arith
+  table-low = let low = accepted-read mode w (ready .is) .low in let size = ready .size in omega arith
 
   -- Room for the obligations of a small design, and of any.
   pub small-room : length table ≤ 256 → x .netreps ≤ 384 → mostObligations (ready .d) ≤ 1024
   small-room slots pairs = let size = ready .size in let same = ready .netreps in omega arith
 
   pub large-room : mostObligations (ready .d) ≤ 12288
-  large-room = most-low w (ready .is)
+  large-room = most-low mode w (ready .is)
 
   pub passes : {calls names marks eqs calls′ names′ marks′ eqs′ : List ℕ} {p : Tally} → length calls < 2 ^ 64 →
       Blank table names marks
@@ -101,7 +108,7 @@ module _ {w : List ℕ} {x : Extent} {table : List ℕ} (ready : Ready w x table
       let fit : p .obligations ≤ length eqs′ = omega arith in
       let first = ap (λ (n : ℕ). take n eqs′) same ∙ ran .works .first room in
       let did = rw (blank .unnamed, blank .unmarked, ready .size, ← first) at (ran .works .did) in
-      let all = passed w (ready .is) short did (ran .asks) in
+      let all = passed (numberOf mode) w numbered short did (ran .asks) in
       record {
         wrote = all .wrote;
         counts = all .counts;
@@ -117,69 +124,73 @@ module _ {w : List ℕ} {x : Extent} {table : List ℕ} (ready : Ready w x table
   pub room-is : {p : Tally} → Tallied (ready .d) p → p .counts .words ≡ length (encode (verify (ready .d)))
   room-is counted = ap (λ (c : Counts). c .words) (counted .counts)
 
-  pub told-unroomed : {p : Tally} → Tallied (ready .d) p → toldBy (p .obligations) (p .counts) ≡ unroomed w
+  pub told-unroomed : {p : Tally} → Tallied (ready .d) p →
+      toldBy (p .obligations) (p .counts) ≡ unroomed (numberOf mode) w
   told-unroomed {p} counted =
       counted .asked (p .counts) ∙ ap (told ((built (ready .d)) .res)) (counted .counts)
-      ∙ sym (unroomed-accepted w (ready .is))
+      ∙ sym (unroomed-accepted (numberOf mode) w numbered)
 
 -- ---- the answer
 
-refuses : (w calls recorded : List ℕ) {e : Fault} → verified w (length calls) (length recorded) ≡ Refused e
-    → Verifies w calls recorded calls recorded (Refused e)
-refuses w calls recorded h =
-    let same = untouched w calls recorded h in record { answer = sym h; called = sym (same .0); marked = sym (same .1) }
+refuses : (mode : ℕ) (w calls recorded : List ℕ) {e : Fault} →
+    verified mode w (length calls) (length recorded) ≡ Refused e →
+    Verifies mode w calls recorded calls recorded (Refused e)
+refuses mode w calls recorded h =
+    let same = untouched mode w calls recorded h in
+    record { answer = sym h; called = sym (same .0); marked = sym (same .1) }
 
-module _ {w : List ℕ} {x : Extent} {table : List ℕ} (ready : Ready w x table) (calls recorded : List ℕ) {words : ℕ}
-    (room : words ≡ length (encode (verify (ready .d)))) where
-  needs-words : words ≡ length (callWords w)
-  needs-words = room ∙ ap length (sym (words-are w (ready .is)))
+module _ {mode : Mode} {w : List ℕ} {x : Extent} {table : List ℕ} (ready : Ready mode w x table)
+    (calls recorded : List ℕ) {words : ℕ} (room : words ≡ length (encode (verify (ready .d)))) where
+  needs-words : words ≡ length (callWords (numberOf mode) w)
+  needs-words = room ∙ ap length (sym (words-are (numberOf mode) w (numbered ready)))
 
   pub short-room : {place : ℕ} → Short place ≡ roomFor words (length calls) (length table) (length recorded) →
-      Verifies w calls recorded calls recorded (Refused (record { number = 14; place = place }))
+      Verifies (numberOf mode) w calls recorded calls recorded (Refused (record { number = 14; place = place }))
   short-room short =
       let needed = rw (room, ready .size) at short in
-      refuses w calls recorded
-      (roomed-as w (ready .is) (length calls) (length recorded)
+      refuses (numberOf mode) w calls recorded
+      (roomed-as (numberOf mode) w (numbered ready) (length calls) (length recorded)
       ∙ ap (λ (r : Room). inRoom r (ofDesign (ready .d))) (sym needed))
 
   pub both-fit : {calls′ marks′ : List ℕ} {p : Tally} → words ≤ length calls → length table ≤ length recorded →
       length marks′ ≡ length table
       → Passes (ready .d) calls calls′ marks′ p
-      → Verifies w calls recorded calls′ (marks′ ++ drop (length table) recorded) (toldBy (p .obligations) (p .counts))
+      → Verifies (numberOf mode) w calls recorded calls′ (marks′ ++ drop (length table) recorded)
+      (toldBy (p .obligations) (p .counts))
   unfolding overwrite marks
   both-fit {calls′} {marks′} {p} enough lent kept passes =
       let need = needs-words in
       let size = ready .size in
-      let is = ready .is in
+      let is = numbered ready in
       let all : List ℕ = encode (verify (ready .d)) in
-      let after = slices-after w calls recorded is (omega arith) (omega arith) in
-      let said = answered w is (length calls) (length recorded) (omega arith) (omega arith) in
+      let after = slices-after (numberOf mode) w calls recorded is (omega arith) (omega arith) in
+      let said = answered (numberOf mode) w is (length calls) (length recorded) (omega arith) (omega arith) in
       let wrote : calls′ ≡ over all calls = passes .wrote .words ∙ sets-eq all calls 0 (omega arith)
       ∙ rw (zero-add (length all)) in
-      let marked : marks′ ≡ marks w = passes .marks ∙ sym (ap writtenMarks is) in
+      let marked : marks′ ≡ marks (numberOf mode) w = passes .marks ∙ sym (ap writtenMarks is) in
       record {
         answer = passes .asked (p .counts) ∙ ap (told ((built (ready .d)) .res)) (passes .counts) ∙ sym said;
-        called = wrote ∙ ap (λ (l : List ℕ). over l calls) (sym (words-are w is)) ∙ sym (after .0);
+        called = wrote ∙ ap (λ (l : List ℕ). over l calls) (sym (words-are (numberOf mode) w is)) ∙ sym (after .0);
         marked = rw (← kept) (ap (λ (l : List ℕ). over l recorded) marked) ∙ sym (after .1);
       }
 
 -- ---- the list and its table
 
-record Reads (w : List ℕ) (x : Extent) : Type 0 where
+record Reads (mode : Mode) (w : List ℕ) (x : Extent) : Type 0 where
   d : Design
-  is : read w ≡ accepted d (x .replacements) (x .pairs)
+  is : read mode w ≡ accepted d (x .replacements) (x .pairs)
   slots : x .base + x .added ≡ total d
   netreps : x .netreps ≡ length (d .netReps)
 
-module _ (w : List ℕ) {before after : List ℕ} {a : SlotTable} (long : length before ≡ 4096)
-    (tabled : Tabled (read w) before after a) where
-  reads : {x : Extent} → a ≡ T.Filled x → Reads w x
-  reads {x} filled = go (read w) refl (sym (tabled .same) ∙ filled)
+module _ (mode : Mode) (w : List ℕ) {before after : List ℕ} {a : SlotTable} (long : length before ≡ 4096)
+    (tabled : Tabled (read mode w) before after a) where
+  reads : {x : Extent} → a ≡ T.Filled x → Reads mode w x
+  reads {x} filled = go (read mode w) refl (sym (tabled .same) ∙ filled)
     where
-      go : (r : Read) → read w ≡ r → tableAnswer (answer r) (length before) ≡ T.Filled x → Reads w x
+      go : (r : Read) → read mode w ≡ r → tableAnswer (answer r) (length before) ≡ T.Filled x → Reads mode w x
       go (refused e) is same = let z : _≡_ {A = ℕ} 0 1 = cc in absurd (omega arith)
       go (accepted d reps pairs) is same =
-          let low = accepted-read w is .low in
+          let low = accepted-read mode w is .low in
           let filled = rw (le-ltb (length before) (total d) (omega arith)) at same in
           let same-x : record {
             base = d .base;
@@ -200,19 +211,19 @@ module _ (w : List ℕ) {before after : List ℕ} {a : SlotTable} (long : length
   pub slots-low : {x : Extent} → a ≡ T.Filled x → x .base + x .added ≤ 4096
   slots-low filled =
       let known = reads filled in
-      let low = accepted-read w (known .is) .low in
+      let low = accepted-read mode w (known .is) .low in
       let same = known .slots in
       omega arith
 
-  pub ready-of : {x : Extent} → a ≡ T.Filled x → length after ≡ 4096 → Ready w x (take (x .base + x .added) after)
+  pub ready-of : {x : Extent} → a ≡ T.Filled x → length after ≡ 4096 → Ready mode w x (take (x .base + x .added) after)
   ready-of {x} filled kept =
       let known = reads filled in
       let low = slots-low filled in
       let same = known .slots in
       let count = taken-count (x .base + x .added) after (omega arith) in
-      let words : take (total (known .d)) (tableAfter (read w) before) ≡ take (x .base + x .added) after =
+      let words : take (total (known .d)) (tableAfter (read mode w) before) ≡ take (x .base + x .added) after =
       ap (λ (l : List ℕ). take (total (known .d)) l) (sym (tabled .slice)) ∙ ap (λ (n : ℕ). take n after) (sym same) in
-      let tells = subst (Tells (known .d)) words (table-tells w (known .is) before (omega arith)) in
+      let tells = subst (Tells (known .d)) words (table-tells mode w (known .is) before (omega arith)) in
       record {
         d = known .d;
         is = known .is;
@@ -221,20 +232,34 @@ module _ (w : List ℕ) {before after : List ℕ} {a : SlotTable} (long : length
         netreps = known .netreps;
       }
 
-  reads-refused : {e : Fault} → a ≡ T.Refused e → read w ≡ refused e
-  reads-refused {e} refuse = go (read w) refl (sym (tabled .same) ∙ refuse)
+  reads-refused : {e : Fault} → a ≡ T.Refused e → read mode w ≡ refused e
+  reads-refused {e} refuse = go (read mode w) refl (sym (tabled .same) ∙ refuse)
     where
-      go : (r : Read) → read w ≡ r → tableAnswer (answer r) (length before) ≡ T.Refused e → read w ≡ refused e
+      go : (r : Read) → read mode w ≡ r → tableAnswer (answer r) (length before) ≡ T.Refused e → read mode w ≡ refused e
       go (refused f) is same = let same-e : f ≡ e = cc in rw (← same-e) is
       go (accepted d reps pairs) is same =
-          let low = accepted-read w is .low in
+          let low = accepted-read mode w is .low in
           let filled = rw (le-ltb (length before) (total d) (omega arith)) at same in
           let z : _≡_ {A = ℕ} 0 1 = cc in absurd (omega arith)
 
   pub refused-of : {e : Fault} (calls recorded : List ℕ) → a ≡ T.Refused e →
-      Verifies w calls recorded calls recorded (Refused e)
+      Verifies (numberOf mode) w calls recorded calls recorded (Refused e)
   refused-of calls recorded refuse =
-      refuses w calls recorded (refused-as-read w (reads-refused refuse) (length calls) (length recorded))
+      refuses (numberOf mode) w calls recorded
+      (refused-as-read (numberOf mode) w (read-numbered mode w ∙ reads-refused refuse) (length calls) (length recorded))
 
-  pub refused-unroomed : {e : Fault} → a ≡ T.Refused e → Refused e ≡ unroomed w
-  refused-unroomed refuse = sym (unroomed-refused w (reads-refused refuse))
+  pub refused-unroomed : {e : Fault} → a ≡ T.Refused e → Refused e ≡ unroomed (numberOf mode) w
+  refused-unroomed refuse =
+      sym (unroomed-refused (numberOf mode) w (read-numbered mode w ∙ reads-refused refuse))
+
+-- ---- the mode
+
+module _ (mode : ℕ) (none : modeOf mode ≡ Unknown) where
+  pub unknown-verifies : (w calls recorded : List ℕ) →
+      Verifies mode w calls recorded calls recorded (Refused (record { number = 23; place = 0 }))
+  unknown-verifies w calls recorded =
+      refuses mode w calls recorded
+      (refused-as-read mode w (mode-unknown mode w none) (length calls) (length recorded))
+
+  pub unknown-unroomed : (w : List ℕ) → Refused (record { number = 23; place = 0 }) ≡ unroomed mode w
+  unknown-unroomed w = sym (unroomed-refused mode w (mode-unknown mode w none))

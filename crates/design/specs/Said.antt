@@ -10,7 +10,7 @@ use lib.ListN.{length, take}
 use Rattle.cell.specs.Design.{Design, total}
 use Rattle.engine.specs.Encode.{decode}
 use Rattle.engine.specs.WellFormed.{malformedAt}
-use Rattle.design_list.specs.Read.{accepted, read}
+use Rattle.design_list.specs.Read.{accepted}
 use Rattle.working_out.specs.Loop.{Loop}
 use Rattle.working_out.specs.Obligations.{obligations}
 use Rattle.builder.specs.declared.Counts.{Counts}
@@ -25,16 +25,16 @@ Says (Refused e) n = ⊥
 Says (NothingAsked m) n = m ≡ n
 Says (Asked m) n = m ≡ n
 
-pub record Said (w calls recorded : List ℕ) (r : Verified) (n : Counts) : Type 0 where
+pub record Said (mode : ℕ) (w calls recorded : List ℕ) (r : Verified) (n : Counts) : Type 0 where
   pub d : Design
   pub replacements : ℕ
   pub pairs : ℕ
-  pub is : read w ≡ accepted d replacements pairs
+  pub is : verified.readIn mode w ≡ accepted d replacements pairs
   -- The slices begin with as many call words as the answer counts, and with a mark for each slot.
   pub room : n .words ≤ length calls
-  pub words : take (n .words) calls ≡ verified.callWords w
+  pub words : take (n .words) calls ≡ verified.callWords mode w
   pub slots : total d ≤ length recorded
-  pub marks : take (total d) recorded ≡ verified.marks w
+  pub marks : take (total d) recorded ≡ verified.marks mode w
   -- Never 19, for evaluator and writer.
   pub formed : malformedAt (take (n .words) calls) ≡ none
   -- Nothing is asked exactly where there is no obligation.

@@ -8,6 +8,7 @@ use lib.ListN.{length}
 use lib.Dec.{ltb, eqb}
 use borrow.Author.Tests.{ltb-false, eqb-true}
 use Rattle.cell.specs.Design.{Placed, Design}
+use Rattle.cell.specs.declared.Mode.{Mode}
 use Rattle.fields.specs.declared.Scan.{Scan}
 use Rattle.fields.specs.declared.Scan.the-variants as S
 use Rattle.fields.specs.Field.{fault, onScan}
@@ -35,9 +36,10 @@ onward (S.Clean n) f e = record { place = n; clean = refl; rest = e }
 onward (S.Refused g) f e = let z : _≡_ {A = ℕ} 0 1 = cc in absurd (omega arith)
 
 moved :
-    (w : List ℕ) {d d′ : Design} {r r′ p p′ : ℕ} → accepted d r p ≡ accepted d′ r′ p′ → IsAccepted w d r p →
-    IsAccepted w d′ r′ p′
-moved w {d} {d′} {r} {r′} {p} {p′} e is =
+    (mode : Mode) (w : List ℕ) {d d′ : Design} {r r′ p p′ : ℕ} → accepted d r p ≡ accepted d′ r′ p′ →
+    IsAccepted mode w d r p →
+    IsAccepted mode w d′ r′ p′
+moved mode w {d} {d′} {r} {r′} {p} {p′} e is =
     let same-d : d ≡ d′ = cc in
     let same-r : r ≡ r′ = cc in
     let same-p : p ≡ p′ = cc in
@@ -52,7 +54,8 @@ finish-read w at {next} e = go (eqb at (length w)) refl e
     go true b e = eqb-true _ _ b
     go false b e = let z : _≡_ {A = ℕ} 0 1 = cc in absurd (omega arith)
 
-module _ (w : List ℕ) (h : Header) (short : length w ≤ 16384) (long : 4 ≤ length w) (head : headerAt w ≡ O.Read h) where
+module _ (mode : Mode) (w : List ℕ) (h : Header) (short : length w ≤ 16384) (long : 4 ≤ length w)
+    (head : headerAt w ≡ O.Read h) where
   cells : List Placed
   cells = cellsOf w (h .base) (h .base + h .added) .items
 
@@ -62,6 +65,7 @@ module _ (w : List ℕ) (h : Header) (short : length w ≤ 16384) (long : 4 ≤ 
 
   design : ℕ → ℕ → Design
   design pairs replacements = record {
+    mode = mode;
     base = h .base;
     added = h .added;
     cells = cells;
@@ -69,8 +73,8 @@ module _ (w : List ℕ) (h : Header) (short : length w ≤ 16384) (long : 4 ≤ 
     netReps = netRepsFrom w (h .base + h .added) (h .netreps) 0 pairs .items;
   }
 
-  cells-accepted : {d : Design} {replacements pairs : ℕ} → readCells w h ≡ accepted d replacements pairs →
-      IsAccepted w d replacements pairs
+  cells-accepted : {d : Design} {replacements pairs : ℕ} → readCells mode w h ≡ accepted d replacements pairs →
+      IsAccepted mode w d replacements pairs
   unfolding cells reps design readCells readCellReps readNetReps
   cells-accepted {d} {replacements} {pairs} e =
       let after-cells = onward (cellsOf w (h .base) (h .base + h .added) .scan) _ e in
@@ -83,8 +87,8 @@ module _ (w : List ℕ) (h : Header) (short : length w ≤ 16384) (long : 4 ≤ 
       let after-end = onward (finishAt w (after-pairs .place)) _ (after-pairs .rest) in
       let after-voids =
       onward (voidsAt w (isVoid cells (h .base)) (length cells) (h .cellreps) (h .netreps)) _ (after-end .rest) in
-      moved w (after-voids .rest)
-      (let whole : IsAccepted w (design (after-reps .place) (after-cells .place)) (after-cells .place)
+      moved mode w (after-voids .rest)
+      (let whole : IsAccepted mode w (design (after-reps .place) (after-cells .place)) (after-cells .place)
       (after-reps .place) = record {
         header = h;
         end = after-pairs .place;
@@ -93,6 +97,7 @@ module _ (w : List ℕ) (h : Header) (short : length w ≤ 16384) (long : 4 ≤ 
         long = long;
         low = header-read w head;
         header-read = head;
+        same-mode = refl;
         same-base = refl;
         same-added = refl;
         cells-read = after-cells .clean;
@@ -105,23 +110,23 @@ module _ (w : List ℕ) (h : Header) (short : length w ≤ 16384) (long : 4 ≤ 
         voids-read = after-voids .clean;
       } in whole)
 
-pub accepted-read : (w : List ℕ) {d : Design} {replacements pairs : ℕ} → read w ≡ accepted d replacements pairs →
-    IsAccepted w d replacements pairs
+pub accepted-read : (mode : Mode) (w : List ℕ) {d : Design} {replacements pairs : ℕ} →
+    read mode w ≡ accepted d replacements pairs → IsAccepted mode w d replacements pairs
 unfolding read
-accepted-read w {d} {replacements} {pairs} e = go (ltb 16384 (length w)) (ltb (length w) 4) refl refl e
+accepted-read mode w {d} {replacements} {pairs} e = go (ltb 16384 (length w)) (ltb (length w) 4) refl refl e
   where
     opened :
         length w ≤ 16384 → 4 ≤ length w → (o : Opening) → headerAt w ≡ o →
-        onOpening o refused (readCells w) ≡ accepted d replacements pairs →
-        IsAccepted w d replacements pairs
+        onOpening o refused (readCells mode w) ≡ accepted d replacements pairs →
+        IsAccepted mode w d replacements pairs
     opened short long (O.Refused f) o e = let z : _≡_ {A = ℕ} 0 1 = cc in absurd (omega arith)
-    opened short long (O.Read h) o e = cells-accepted w h short long o e
+    opened short long (O.Read h) o e = cells-accepted mode w h short long o e
 
     go :
         (over under : Bool) → ltb 16384 (length w) ≡ over → ltb (length w) 4 ≡ under →
         cond over (refused (fault 4 16384))
-        (cond under (refused (fault 1 (length w))) (onOpening (headerAt w) refused (readCells w)))
-        ≡ accepted d replacements pairs → IsAccepted w d replacements pairs
+        (cond under (refused (fault 1 (length w))) (onOpening (headerAt w) refused (readCells mode w)))
+        ≡ accepted d replacements pairs → IsAccepted mode w d replacements pairs
     go true under o u e = let z : _≡_ {A = ℕ} 0 1 = cc in absurd (omega arith)
     go false true o u e = let z : _≡_ {A = ℕ} 0 1 = cc in absurd (omega arith)
     go false false o u e = opened (ltb-false _ _ o) (ltb-false _ _ u) (headerAt w) refl e

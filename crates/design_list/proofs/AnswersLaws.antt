@@ -6,6 +6,7 @@ use native.Mathlib.Omega.{arith}
 use lib.ListN.{length}
 use lib.Seq.{sets}
 use Rattle.cell.specs.Design.{Placed}
+use Rattle.cell.specs.declared.Mode.{Mode}
 use Rattle.logic.specs.declared.Fault.{Fault}
 use Rattle.fields.specs.declared.Scan.{Scan}
 use Rattle.fields.specs.declared.Scan.the-variants as S
@@ -51,10 +52,10 @@ answer-scan : (s : Scan) (f : ℕ → Read) (g : ℕ → DesignRead) → ((n : �
 answer-scan (S.Clean n) f g same = same n refl
 answer-scan (S.Refused e) f g same = refl
 
-module _ (w : List ℕ) (h : Header) (cells : List Placed) where
+module _ (mode : Mode) (w : List ℕ) (h : Header) (cells : List Placed) where
   net-reps-answer :
       (reps : List Placed) (replacements pairs : ℕ) → length reps ≡ h .cellreps →
-      answer (readNetReps w h cells reps replacements pairs)
+      answer (readNetReps mode w h cells reps replacements pairs)
       ≡ netRepsAnswer w (isVoid cells (h .base)) h (length cells) replacements pairs
   unfolding readNetReps netRepsAnswer
   net-reps-answer reps replacements pairs many =
@@ -65,7 +66,7 @@ module _ (w : List ℕ) (h : Header) (cells : List Placed) where
 
   cell-reps-answer :
       (replacements : ℕ) →
-      answer (readCellReps w h cells replacements) ≡
+      answer (readCellReps mode w h cells replacements) ≡
       cellRepsAnswer w (replaces (atSlot cells) (h .base)) (isVoid cells (h .base)) h (length cells) replacements
   unfolding readCellReps cellRepsAnswer
   cell-reps-answer replacements =
@@ -74,14 +75,14 @@ module _ (w : List ℕ) (h : Header) (cells : List Placed) where
       (λ pairs read.
       net-reps-answer _ replacements pairs (ascending-length _ _ (h .cellreps) 0 replacements pairs read))
 
-module _ (w : List ℕ) (h : Header) where
-  pub cells-refused : {e : Fault} → C.Refused e ≡ counted (cellsRead w h) → D.Refused e ≡ answer (readCells w h)
+module _ (mode : Mode) (w : List ℕ) (h : Header) where
+  pub cells-refused : {e : Fault} → C.Refused e ≡ counted (cellsRead w h) → D.Refused e ≡ answer (readCells mode w h)
   unfolding readCells
   cells-refused {e} read = go ((cellsRead w h) .scan) read
     where
       go : (s : Scan) → C.Refused e ≡ onScan s C.Refused (λ (next : ℕ). C.Read (length ((cellsRead w h) .items)) next) →
           D.Refused e
-          ≡ answer (onScan s refused (λ (cellRepsAt : ℕ). readCellReps w h ((cellsRead w h) .items) cellRepsAt))
+          ≡ answer (onScan s refused (λ (cellRepsAt : ℕ). readCellReps mode w h ((cellsRead w h) .items) cellRepsAt))
       go (S.Refused f) s = cc
       go (S.Clean n) s = let z : _≡_ {A = ℕ} 0 1 = cc in absurd (omega arith)
 
@@ -90,14 +91,14 @@ module _ (w : List ℕ) (h : Header) where
       (t : List ℕ) {count next : ℕ} → h .base + h .added ≤ length t → C.Read count next ≡ counted (cellsRead w h) →
       cellRepsAnswer w (replaces (atSlotIn (sets t 0 (slotWords (h .base) ((cellsRead w h) .items)))) (h .base))
       (isVoidIn (sets t 0 (slotWords (h .base) ((cellsRead w h) .items))) (h .base)) h count next
-      ≡ answer (readCells w h)
+      ≡ answer (readCells mode w h)
   unfolding readCells
   cells-answer t {count} {next} room read = go ((cellsRead w h) .scan) refl read
     where
       after : (cellsRead w h) .scan ≡ S.Clean next → count ≡ length ((cellsRead w h) .items) →
           cellRepsAnswer w (replaces (atSlotIn (sets t 0 (slotWords (h .base) ((cellsRead w h) .items)))) (h .base))
           (isVoidIn (sets t 0 (slotWords (h .base) ((cellsRead w h) .items))) (h .base)) h count next
-          ≡ answer (readCellReps w h ((cellsRead w h) .items) next)
+          ≡ answer (readCellReps mode w h ((cellsRead w h) .items) next)
       after clean many =
           let walk = walk-cells w (h .base) (h .added) next clean in
           let covered : length (covering ((cellsRead w h) .items)) ≡ h .base + h .added = walk-total walk in
@@ -106,16 +107,16 @@ module _ (w : List ℕ) (h : Header) where
             voids-same (h .base) ((cellsRead w h) .items) t (omega arith) (omega arith) (walk-narrow walk),
             many,
           )
-          (sym (cell-reps-answer w h ((cellsRead w h) .items) next))
+          (sym (cell-reps-answer mode w h ((cellsRead w h) .items) next))
 
       go :
           (s : Scan) → (cellsRead w h) .scan ≡ s →
           C.Read count next ≡ onScan s C.Refused (λ (next : ℕ). C.Read (length ((cellsRead w h) .items)) next) →
           cellRepsAnswer w (replaces (atSlotIn (sets t 0 (slotWords (h .base) ((cellsRead w h) .items)))) (h .base))
           (isVoidIn (sets t 0 (slotWords (h .base) ((cellsRead w h) .items))) (h .base)) h count next
-          ≡ answer (onScan s refused (λ (cellRepsAt : ℕ). readCellReps w h ((cellsRead w h) .items) cellRepsAt))
+          ≡ answer (onScan s refused (λ (cellRepsAt : ℕ). readCellReps mode w h ((cellsRead w h) .items) cellRepsAt))
       go (S.Refused f) s e = let z : _≡_ {A = ℕ} 0 1 = cc in absurd (omega arith)
       go (S.Clean n) s e =
           let place : n ≡ next = cc in
           after (s ∙ ap S.Clean place) (cc)
-          ∙ ap (λ (i : ℕ). answer (readCellReps w h ((cellsRead w h) .items) i)) (sym place)
+          ∙ ap (λ (i : ℕ). answer (readCellReps mode w h ((cellsRead w h) .items) i)) (sym place)

@@ -12,6 +12,7 @@ use native.Mathlib.Nat.{zero-add}
 use borrow.Author.Tests.{lt-ltb, le-ltb}
 use Rattle.logic.specs.declared.Fault.{Fault}
 use Rattle.cell.specs.Design.{Design, total}
+use Rattle.cell.specs.declared.Mode.{Mode}
 use Rattle.fields.specs.declared.Scan.{Scan}
 use Rattle.fields.specs.declared.Scan.the-variants as S
 use Rattle.fields.specs.Field.{onScan}
@@ -46,10 +47,11 @@ stored-scan t t′ (S.Clean n) f same = same n
 stored-scan t t′ (S.Refused e) f same = tt
 
 pub stored-cells :
-    (w : List ℕ) (h : Header) (t t′ : List ℕ) → t′ ≡ sets t 0 (slotWords (h .base) (cellsRead w h .items)) →
-    Stored (readCells w h) t t′
+    (mode : Mode) (w : List ℕ) (h : Header) (t t′ : List ℕ) →
+    t′ ≡ sets t 0 (slotWords (h .base) (cellsRead w h .items)) →
+    Stored (readCells mode w h) t t′
 unfolding Stored readCells readCellReps readNetReps
-stored-cells w h t t′ same =
+stored-cells mode w h t t′ same =
     stored-scan t t′ (cellsRead w h .scan) _ (λ replacements.
     stored-scan t t′ (reps replacements) _ (λ pairs.
     stored-scan t t′ (netRepsFrom w (h .base + h .added) (h .netreps) 0 pairs .scan) _ (λ next.
@@ -109,9 +111,10 @@ accepting (accepted d replacements pairs) {x} same =
       same-total = sym (ap (λ (y : Extent). y .base + y .added) same-x);
     }
 
-module _ (w : List ℕ) where
-  pub table-refused : (out : List ℕ) {e : Fault} → answer (read w) ≡ D.Refused e → out ≡ tableAfter (read w) out
-  table-refused out {e} same = go (read w) same
+module _ (mode : Mode) (w : List ℕ) where
+  pub table-refused : (out : List ℕ) {e : Fault} → answer (read mode w) ≡ D.Refused e →
+      out ≡ tableAfter (read mode w) out
+  table-refused out {e} same = go (read mode w) same
     where
       go : (r : Read) → answer r ≡ D.Refused e → out ≡ tableAfter r out
       go (refused f) s = refl
@@ -119,12 +122,12 @@ module _ (w : List ℕ) where
 
   -- The words of the slots, taken from the reader's table and stored in the slice.
   words-stored :
-      (d : Design) (replacements pairs n : ℕ) (t t′ out : List ℕ) → read w ≡ accepted d replacements pairs → n ≡ total d
-      → Stored (read w) t t′ →
-      4096 ≤ length t → n ≤ length out → sets out 0 (drop 0 (take n t′)) ≡ tableAfter (read w) out
+      (d : Design) (replacements pairs n : ℕ) (t t′ out : List ℕ) →
+      read mode w ≡ accepted d replacements pairs → n ≡ total d → Stored (read mode w) t t′ →
+      4096 ≤ length t → n ≤ length out → sets out 0 (drop 0 (take n t′)) ≡ tableAfter (read mode w) out
   unfolding Stored
   words-stored d replacements pairs n t t′ out accepts same stored room enough =
-      let known = accepted-read w accepts in
+      let known = accepted-read mode w accepts in
       let low : total d ≤ 4096 = known .low in
       let walk = walk-cells w (d .base) (d .added) replacements (known .cells-read) in
       let size : length (slotWords (d .base) (d .cells)) ≡ n = length-map (covering (d .cells)) (markOf (d .base))
@@ -136,21 +139,21 @@ module _ (w : List ℕ) where
       rw (front, accepts, le-ltb (length out) (total d) (omega arith), ← same)
       (sets-eq (slotWords (d .base) (d .cells)) out 0 (omega arith) ∙ rw (size, zero-add))
 
-  module _ {x : Extent} (same : answer (read w) ≡ D.Accepted x) where
+  module _ {x : Extent} (same : answer (read mode w) ≡ D.Accepted x) where
     pub table-low : x .base + x .added ≤ 4096
     table-low =
-        let is = accepting (read w) same in
-        omega (arith, is .same-total, accepted-read w (is .accepts) .low)
+        let is = accepting (read mode w) same in
+        omega (arith, is .same-total, accepted-read mode w (is .accepts) .low)
 
-    pub table-short : (out : List ℕ) → length out < x .base + x .added → out ≡ tableAfter (read w) out
+    pub table-short : (out : List ℕ) → length out < x .base + x .added → out ≡ tableAfter (read mode w) out
     table-short out short =
-        let is = accepting (read w) same in
+        let is = accepting (read mode w) same in
         rw (is .accepts, lt-ltb (length out) (total (is .d)) (omega (arith, is .same-total)))
 
     pub table-filled :
-        (t t′ out : List ℕ) → Stored (read w) t t′ → 4096 ≤ length t → x .base + x .added ≤ length out →
-        sets out 0 (drop 0 (take (x .base + x .added) t′)) ≡ tableAfter (read w) out
+        (t t′ out : List ℕ) → Stored (read mode w) t t′ → 4096 ≤ length t → x .base + x .added ≤ length out →
+        sets out 0 (drop 0 (take (x .base + x .added) t′)) ≡ tableAfter (read mode w) out
     table-filled t t′ out stored room enough =
-        let is = accepting (read w) same in
+        let is = accepting (read mode w) same in
         words-stored (is .d) (is .replacements) (is .pairs) (x .base + x .added) t t′ out (is .accepts) (is .same-total)
         stored room enough

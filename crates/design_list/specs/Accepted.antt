@@ -1,10 +1,11 @@
 -- Document 01, "Words": a design list. What is known of an accepted list: every stage of `read` met no fault, and the
--- design is what the stages read.
+-- design is what the stages read, in the mode that was chosen.
 use Prim.Native.Nat.{ℕ, _≤_}
 use mathlib.Core.Path.{_≡_}
 use mathlib.Core.List.{List}
 use lib.ListN.{length}
 use Rattle.cell.specs.Design.{Design, total}
+use Rattle.cell.specs.declared.Mode.{Mode}
 use Rattle.fields.specs.declared.Scan.the-variants as S
 use Rattle.items.specs.declared.Header.{Header}
 use Rattle.items.specs.declared.Opening.the-variants as O
@@ -15,7 +16,7 @@ use Rattle.voids.specs.Voids.{voidsAt}
 use Rattle.design_list.specs.Read.{Read}
 use Rattle.items.proofs.Laws.{header-read}
 
-pub record IsAccepted (w : List ℕ) (d : Design) (replacements pairs : ℕ) : Type 0 where
+pub record IsAccepted (mode : Mode) (w : List ℕ) (d : Design) (replacements pairs : ℕ) : Type 0 where
   pub header : Header
   pub end : ℕ
   pub last : ℕ
@@ -23,6 +24,7 @@ pub record IsAccepted (w : List ℕ) (d : Design) (replacements pairs : ℕ) : T
   pub long : 4 ≤ length w
   pub low : total d ≤ 4096
   pub header-read : headerAt w ≡ O.Read header
+  pub same-mode : d .mode ≡ mode
   pub same-base : d .base ≡ header .base
   pub same-added : d .added ≡ header .added
   pub cells-read : cellsOf w (d .base) (total d) .scan ≡ S.Clean replacements

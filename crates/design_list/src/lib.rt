@@ -8,6 +8,7 @@ ghost use mathlib.Core.Path.{_≡_};
 ghost use Prim.Native.Nat.{_+_, _-_, _<_, _≤_};
 ghost use lib.ListN.{length, take, drop};
 ghost use lib.Seq.{sets};
+ghost use Rattle.cell.specs.declared.Mode.{Mode};
 ghost use Rattle.placing.specs.Slots.{slotWords};
 ghost use Rattle.items.specs.Items.{replaces};
 ghost use Rattle.items.specs.Marks.{atSlotIn};
@@ -108,7 +109,7 @@ fn read_cell_reps(
 // From the cells on, with the word for each slot stored in the table.
 fn read_cells(list: &[u32], header: Header, table: &mut [u32]) -> DesignRead
     requires { ⌜ (header .base + header .added ≤ 4096) × (header .base + header .added ≤ length (now table)) ⌝ }
-    ensures { λ r. ⌜ (r ≡ answer (readCells (now (list .entry)) header))
+    ensures { λ r. ⌜ ((mode : Mode) → r ≡ answer (readCells mode (now (list .entry)) header))
         × (now (table .exit) ≡ sets (now (table .entry)) 0
         (slotWords (header .base) (cellsRead (now (list .entry)) header .items))) ⌝ }
 {
@@ -121,8 +122,8 @@ fn read_cells(list: &[u32], header: Header, table: &mut [u32]) -> DesignRead
 // Reads a design list, with the word for each slot of an accepted one stored in the table.
 fn read_into(list: &[u32], table: &mut [u32]) -> DesignRead
     requires { ⌜ 4096 ≤ length (now table) ⌝ }
-    ensures { λ r. ⌜ (r ≡ answer (read (now (list .entry))))
-        × Stored (read (now (list .entry))) (now (table .entry)) (now (table .exit)) ⌝ }
+    ensures { λ r. ⌜ ((mode : Mode) → (r ≡ answer (read mode (now (list .entry))))
+        × Stored (read mode (now (list .entry))) (now (table .entry)) (now (table .exit))) ⌝ }
 {
     if 16384 < list.len() {
         return DesignRead::Refused(Fault {
@@ -142,9 +143,9 @@ fn read_into(list: &[u32], table: &mut [u32]) -> DesignRead
     }
 }
 
-// Reads a design list: the numbers of an accepted one, or the first fault of a refused one.
+// Reads a design list: the numbers of an accepted one, or the first fault of a refused one; in every mode the same.
 pub fn read_design(list: &[u32]) -> DesignRead
-    ensures { λ r. ⌜ Answered (read (now (list .entry))) r ⌝ }
+    ensures { λ r. ⌜ ((mode : Mode) → Answered (read mode (now (list .entry))) r) ⌝ }
 {
     let mut table = [0u32; 4096];
     read_into(list, &mut table)
@@ -165,7 +166,8 @@ fn copy(out: &mut [u32], table: &[u32], n: usize)
 // Fills the slice by way of the table.
 fn slot_table_by(list: &[u32], out: &mut [u32], table: &mut [u32]) -> SlotTable
     requires { ⌜ 4096 ≤ length (now table) ⌝ }
-    ensures { λ r. ⌜ Tabled (read (now (list .entry))) (now (out .entry)) (now (out .exit)) r ⌝ }
+    ensures { λ r. ⌜ ((mode : Mode) →
+        Tabled (read mode (now (list .entry))) (now (out .entry)) (now (out .exit)) r) ⌝ }
 {
     match read_into(list, table) {
         DesignRead::Refused(f) => SlotTable::Refused(f),
@@ -182,9 +184,10 @@ fn slot_table_by(list: &[u32], out: &mut [u32], table: &mut [u32]) -> SlotTable
     }
 }
 
-// What stands at each slot of a design list, as words in a lent slice.
+// What stands at each slot of a design list, as words in a lent slice; in every mode the same.
 pub fn slot_table(list: &[u32], out: &mut [u32]) -> SlotTable
-    ensures { λ r. ⌜ Tabled (read (now (list .entry))) (now (out .entry)) (now (out .exit)) r ⌝ }
+    ensures { λ r. ⌜ ((mode : Mode) →
+        Tabled (read mode (now (list .entry))) (now (out .entry)) (now (out .exit)) r) ⌝ }
 {
     let mut table = [0u32; 4096];
     slot_table_by(list, out, &mut table)

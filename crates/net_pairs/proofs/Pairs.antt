@@ -6,6 +6,7 @@ use Prim.Native.Nat.{ℕ, _+_, _≤_, _<_, _^_}
 use native.Mathlib.Omega.{arith}
 use lib.ListN.{length}
 use Rattle.logic.specs.Net.{netOf}
+use Rattle.cell.specs.declared.Mode.{Mode}
 use Rattle.cell.specs.Design.{Design, NetPair, total}
 use Rattle.right.specs.Nets.{Within}
 use Rattle.cell_reader.specs.Parse.{numberIn, netIn}
@@ -39,9 +40,10 @@ pub record HerePair (d : Design) (w : List ℕ) (at : ℕ) : Type 0 where
   pub from : Within (total d) (netIn w at)
   pub to : Within (total d) (netIn w (at + 1))
 
-unfoldable pub pairs-start : (w : List ℕ) {d : Design} {replacements pairs : ℕ} → read w ≡ accepted d replacements pairs
-    → AtPair d w pairs
-pairs-start w {d} accepts = record { pairs = d .netReps; least = 0; climb = stages (accepted-read w accepts) .nets }
+unfoldable pub pairs-start : (mode : Mode) (w : List ℕ) {d : Design} {replacements pairs : ℕ} →
+    read mode w ≡ accepted d replacements pairs → AtPair d w pairs
+pairs-start mode w {d} accepts =
+    record { pairs = d .netReps; least = 0; climb = stages (accepted-read mode w accepts) .nets }
 
 module _ (d : Design) (w : List ℕ) where
   here-in : {least at : ℕ} {pairs : List NetPair} → Climb (IsPair w (total d)) (netPair w) least at pairs (length w) →
@@ -60,7 +62,7 @@ module _ (d : Design) (w : List ℕ) where
   pub record PairTurn (pairs : List NetPair) (at : ℕ) : Type 0 where
     pub next : AtPair d w (at + 2)
     pub step : eachPair d pairs
-        ≡ pairSteps (readsPast d) (pairOf d (netPair w at)) (netPair w at) ++ eachPair d (next .pairs)
+        ≡ pairSteps (readsPast d) (d .mode) (pairOf d (netPair w at)) (netPair w at) ++ eachPair d (next .pairs)
 
   turn-in : {least at : ℕ} {pairs : List NetPair} → Climb (IsPair w (total d)) (netPair w) least at pairs (length w) →
       at < length w → PairTurn pairs at
@@ -90,33 +92,33 @@ pub record AlongPairs (d : Design) (w : List ℕ) (at : ℕ) (calls₀ names₀ 
   pub left : Left (eachPair d (d .netReps)) (eachPair d (place .pairs)) calls₀ names₀ marks₀ eqs₀ s₀ calls names marks
       eqs s
 
-pub pairs-along : (w : List ℕ) {d : Design} {replacements pairs : ℕ} → read w ≡ accepted d replacements pairs
-    → (calls names marks eqs : List ℕ) (s : Walked) →
+pub pairs-along : (mode : Mode) (w : List ℕ) {d : Design} {replacements pairs : ℕ} →
+    read mode w ≡ accepted d replacements pairs → (calls names marks eqs : List ℕ) (s : Walked) →
     AlongPairs d w pairs calls names marks eqs s calls names marks eqs s
 unfolding pairs-start
-pairs-along w accepts calls names marks eqs s =
-    record { place = pairs-start w accepts; left = left-start _ calls names marks eqs s }
+pairs-along mode w accepts calls names marks eqs s =
+    record { place = pairs-start mode w accepts; left = left-start _ calls names marks eqs s }
 
-module _ {w table : List ℕ} {d : Design} where
-  -- The nets are those of the two words, and the table tells what the pair is.
+module _ {mode : Mode} {w table : List ℕ} {d : Design} where
+  -- The mode is the design's, the nets are those of the two words, and the table tells what the pair is.
   pub pairs-turn : {at : ℕ} {calls₀ names₀ marks₀ eqs₀ calls names marks eqs calls₁ names₁ marks₁ eqs₁ : List ℕ}
       {s₀ s s₁ : Walked} {from to : ℕ}
-      → Tells d table → AlongPairs d w at calls₀ names₀ marks₀ eqs₀ s₀ calls names marks eqs s →
+      → d .mode ≡ mode → Tells d table → AlongPairs d w at calls₀ names₀ marks₀ eqs₀ s₀ calls names marks eqs s →
       at < length w → from ≡ numberIn w at → to ≡ numberIn w (at + 1)
       → (from < 2 ^ 29 → to < 2 ^ 29 →
-      Does (pairSteps (pastIn table) (pairIn table from to) (record { from = netOf from; to = netOf to }))
+      Does (pairSteps (pastIn table) mode (pairIn table from to) (record { from = netOf from; to = netOf to }))
       calls names marks eqs s calls₁ names₁ marks₁ eqs₁ s₁)
       → AlongPairs d w (at + 2) calls₀ names₀ marks₀ eqs₀ s₀ calls₁ names₁ marks₁ eqs₁ s₁
-  pairs-turn {at} tells along inside from-is to-is does =
+  pairs-turn {at} same-mode tells along inside from-is to-is does =
       let here = here-pair d w (along .place) inside in
       let turn = pair-turn d w (along .place) inside in
       let low : numberIn w at < 2 ^ 29 = omega arith in
       let high : numberIn w (at + 1) < 2 ^ 29 = omega arith in
       let told = tells-pair tells (numberIn w at) (numberIn w (at + 1)) low high (here .from) (here .to) in
-      let step = rw (tells-past tells, from-is, to-is, told) at (does (omega arith) (omega arith)) in
+      let step = rw (tells-past tells, from-is, to-is, told, ← same-mode) at (does (omega arith) (omega arith)) in
       record {
         place = turn .next;
-        left = left-turn (pairSteps (readsPast d) (pairOf d (netPair w at)) (netPair w at))
+        left = left-turn (pairSteps (readsPast d) (d .mode) (pairOf d (netPair w at)) (netPair w at))
             (eachPair d (turn .next .pairs))
             (rw (turn .step) at (along .left)) step;
       }

@@ -2,6 +2,7 @@
 // terms of obligations in a lent table.
 use builder::Built;
 use builder::Counts;
+use cell::Mode;
 use logic::Net;
 use slots::Pair;
 ghost use mathlib.Core.Path.{_≡_};
@@ -11,7 +12,8 @@ ghost use Rattle.logic.specs.Net.{netOf};
 ghost use Rattle.cell.specs.Design.{Design};
 ghost use Rattle.cell_reader.specs.Parse.{numberIn};
 ghost use Rattle.design_list.specs.Read.{read, accepted};
-ghost use Rattle.order.specs.Verify.{asserted, obliged, replaceNet, replaceVoidNet, replaceDffNet, pairSteps, eachPair};
+ghost use Rattle.order.specs.Verify.{asserted, obliged, replaceNet, replaceVoidNet, replaceDffNet, dffSteps};
+ghost use Rattle.order.specs.Verify.{pairSteps, eachPair};
 ghost use Rattle.nets.specs.Reads.{pastIn};
 ghost use Rattle.slots.specs.Tells.{Tells};
 ghost use Rattle.slots.specs.Pairs.{pairIn};
@@ -109,9 +111,9 @@ fn replace_dff_net(
     push(eqs, s.obligations, eq)
 }
 
-// A net replacement: of equal nets none, of a Void's net an assertion, of a Dff's by a Dff's an induction step before
-// it.
-fn replace_pair(
+// A Dff's net replaced by a Dff's: an induction step, and in the ported mode what any other replacement makes, too.
+fn replace_dff_pair(
+    mode: Mode,
     table: &[u32],
     calls: &mut [u32],
     names: &mut [u32],
@@ -122,7 +124,33 @@ fn replace_pair(
     to_net: Net,
 ) -> Walked
     ensures { λ r. ⌜ («from_net» .0 < 2 ^ 29 → «to_net» .0 < 2 ^ 29
-        → Does (pairSteps (pastIn (now (table .entry))) (pairIn (now (table .entry)) («from_net» .0) («to_net» .0))
+        → Does (dffSteps (pastIn (now (table .entry))) mode
+        (record { from = netOf («from_net» .0); to = netOf («to_net» .0) }))
+        (now (calls .entry)) (now (names .entry)) (now (marks .entry)) (now (eqs .entry)) s
+        (now (calls .exit)) (now (names .exit)) (now (marks .exit)) (now (eqs .exit)) r) ⌝ }
+{
+    let joined = replace_dff_net(calls, names, marks, eqs, s, from_net, to_net);
+    match mode {
+        Mode::Ported => replace_net(table, calls, names, marks, eqs, joined, from_net, to_net),
+        Mode::Inductive => joined,
+    }
+}
+
+// A net replacement: of equal nets none, of a Void's net an assertion, of a Dff's by a Dff's by the mode.
+fn replace_pair(
+    mode: Mode,
+    table: &[u32],
+    calls: &mut [u32],
+    names: &mut [u32],
+    marks: &mut [u8],
+    eqs: &mut [u32],
+    s: Walked,
+    from_net: Net,
+    to_net: Net,
+) -> Walked
+    ensures { λ r. ⌜ («from_net» .0 < 2 ^ 29 → «to_net» .0 < 2 ^ 29
+        → Does (pairSteps (pastIn (now (table .entry))) mode
+        (pairIn (now (table .entry)) («from_net» .0) («to_net» .0))
         (record { from = netOf («from_net» .0); to = netOf («to_net» .0) }))
         (now (calls .entry)) (now (names .entry)) (now (marks .entry)) (now (eqs .entry)) s
         (now (calls .exit)) (now (names .exit)) (now (marks .exit)) (now (eqs .exit)) r) ⌝ }
@@ -130,10 +158,17 @@ fn replace_pair(
     match slots::pair_of(table, from_net, to_net) {
         Pair::Equal => s,
         Pair::OfVoid => replace_void_net(table, calls, names, marks, s, from_net, to_net),
-        Pair::OfDffs => {
-            let joined = replace_dff_net(calls, names, marks, eqs, s, from_net, to_net);
-            replace_net(table, calls, names, marks, eqs, joined, from_net, to_net)
-        }
+        Pair::OfDffs => replace_dff_pair(
+            mode,
+            table,
+            calls,
+            names,
+            marks,
+            eqs,
+            s,
+            from_net,
+            to_net,
+        ),
         Pair::Ordinary => replace_net(table, calls, names, marks, eqs, s, from_net, to_net),
     }
 }
@@ -147,6 +182,7 @@ fn net_at(list: &[u32], at: usize) -> Net
 
 // The net replacements in order, two words each, up to the last word.
 pub fn replace_pairs(
+    mode: Mode,
     list: &[u32],
     pairs: usize,
     table: &[u32],
@@ -156,7 +192,7 @@ pub fn replace_pairs(
     eqs: &mut [u32],
     start: Walked,
 ) -> Walked
-    ensures { λ r. ⌜ ((d : Design) (replacements : ℕ) → read (now (list .entry)) ≡ accepted d replacements pairs
+    ensures { λ r. ⌜ ((d : Design) (replacements : ℕ) → read mode (now (list .entry)) ≡ accepted d replacements pairs
         → Tells d (now (table .entry)) → Does (eachPair d (d .netReps))
         (now (calls .entry)) (now (names .entry)) (now (marks .entry)) (now (eqs .entry)) start
         (now (calls .exit)) (now (names .exit)) (now (marks .exit)) (now (eqs .exit)) r) ⌝ }
@@ -166,7 +202,7 @@ pub fn replace_pairs(
     while at < list.len() {
         let from_net = net_at(list, at);
         let to_net = net_at(list, at + 1);
-        s = replace_pair(table, calls, names, marks, eqs, s, from_net, to_net);
+        s = replace_pair(mode, table, calls, names, marks, eqs, s, from_net, to_net);
         at += 2;
     }
     s

@@ -5,15 +5,17 @@ use mathlib.Core.List.{List, [], _∷_}
 use Prim.Native.Nat.{ℕ}
 use lib.Dec.{eqb}
 use Rattle.logic.specs.Net.{Net}
+use Rattle.cell.specs.declared.Mode.{Mode}
+use Rattle.cell.specs.Mode.{portedOnly}
 use Rattle.cell.specs.Cell.{Cell, outputLen}
 use Rattle.cell.specs.Design.{Design, Placed, NetPair}
 use Rattle.cell.specs.Each.{Each}
-use Rattle.cell.proofs.EachLaws.{each-append}
+use Rattle.cell.proofs.EachLaws.{each-append, each-ported}
 use Rattle.working_out.specs.Reading.{readsPast, Pair, equal, ofVoid, ofDffs, ordinary, pairOf}
 use Rattle.smt.specs.Builder.{currValue, outputNets}
 use Rattle.order.specs.Verify.{Step, declared, asserted, obliged, isInput, claim, addCell, newCell, replaceNet}
 use Rattle.order.specs.Verify.{replaceVoidNet, joinPasts, currents, newCellIn, withNew, cellSteps, pairSteps}
-use Rattle.order.specs.Verify.{eachCell, eachPair, steps}
+use Rattle.order.specs.Verify.{replaceDffNet, eachCell, eachPair, steps}
 
 pub record OfEachKind (P : Step → Type 0) (rp : ℕ → Bool) : Type 0 where
   pub input : (s w : ℕ) → P (declared (currValue (outputNets s w)))
@@ -45,11 +47,18 @@ module _ (P : Step → Type 0) (d : Design) (of : OfEachKind P (readsPast d)) wh
       go true = tt
       go false = (add (isInput (p .cell)), new (newCellIn (d .cellReps) (p .slot)))
 
-  of-pair : (k : Pair) (p : NetPair) → Each P (pairSteps (readsPast d) k p)
-  of-pair equal p = tt
-  of-pair ofVoid p = (of .void (p .from) (p .to), tt)
-  of-pair ofDffs p = (of .pasts (p .from) (p .to), (of .currents (p .from) (p .to), (of .net (p .from) (p .to), tt)))
-  of-pair ordinary p = (of .net (p .from) (p .to), tt)
+  of-net : (p : NetPair) → Each P (obliged (replaceNet (readsPast d) (p .from) (p .to)) ∷ [])
+  of-net p = (of .net (p .from) (p .to), tt)
+
+  of-pair : (mode : Mode) (k : Pair) (p : NetPair) → Each P (pairSteps (readsPast d) mode k p)
+  of-pair mode equal p = tt
+  of-pair mode ofVoid p = (of .void (p .from) (p .to), tt)
+  of-pair mode ofDffs p =
+      each-append P (replaceDffNet (p .from) (p .to))
+      (portedOnly mode (obliged (replaceNet (readsPast d) (p .from) (p .to)) ∷ []))
+      (of .pasts (p .from) (p .to), (of .currents (p .from) (p .to), tt))
+      (each-ported P mode (obliged (replaceNet (readsPast d) (p .from) (p .to)) ∷ []) (of-net p))
+  of-pair mode ordinary p = of-net p
 
   of-cells : (cells : List Placed) → Each P (eachCell d cells)
   unfolding eachCell
@@ -60,8 +69,8 @@ module _ (P : Step → Type 0) (d : Design) (of : OfEachKind P (readsPast d)) wh
   unfolding eachPair
   of-pairs [] = tt
   of-pairs (p ∷ pairs) =
-      each-append P (pairSteps (readsPast d) (pairOf d p) p) (eachPair d pairs) (of-pair (pairOf d p) p)
-      (of-pairs pairs)
+      each-append P (pairSteps (readsPast d) (d .mode) (pairOf d p) p) (eachPair d pairs)
+      (of-pair (d .mode) (pairOf d p) p) (of-pairs pairs)
 
   pub each-step : Each P (steps d)
   each-step =

@@ -6,6 +6,8 @@ use mathlib.Core.List.{List, [], _∷_, _++_, map, map-append}
 use Prim.Native.Nat.{ℕ, _<_}
 use lib.Dec.{eqb}
 use borrow.Author.Tests.{eqb-false}
+use Rattle.cell.specs.declared.Mode.{Mode}
+use Rattle.cell.specs.declared.Mode.the-variants.{Ported, Inductive}
 use Rattle.cell.specs.Cell.{Cell, outputLen}
 use Rattle.cell.specs.Design.{Design, Placed, NetPair, cellOf}
 use Rattle.cell.specs.Each.{Each}
@@ -58,20 +60,22 @@ module _ (d : Design) (b : NetBits) where
   current-holds p = refines-shown (current-shows d b (p .from ∷ [])) (current-shows d b (p .to ∷ []))
       ∙ sym (Bool·not-not _)
 
-  pair-judged : (k : Pair) (p : NetPair) → asks b (meantPair (readsPast d) k p) ≡ map holds (ofPair k p)
+  pair-judged : (mode : Mode) (k : Pair) (p : NetPair) →
+      asks b (meantPair (readsPast d) mode k p) ≡ map holds (ofPair mode k p)
   unfolding asks
-  pair-judged equal p = refl
-  pair-judged ofVoid p = refl
-  pair-judged ofDffs p = ap₂ (λ (x y : Bool). x ∷ y ∷ []) (current-holds p) (net-holds p)
-  pair-judged ordinary p = ap (λ (x : Bool). x ∷ []) (net-holds p)
+  pair-judged mode equal p = refl
+  pair-judged mode ofVoid p = refl
+  pair-judged Ported ofDffs p = ap₂ (λ (x y : Bool). x ∷ y ∷ []) (current-holds p) (net-holds p)
+  pair-judged Inductive ofDffs p = ap (λ (x : Bool). x ∷ []) (current-holds p)
+  pair-judged mode ordinary p = ap (λ (x : Bool). x ∷ []) (net-holds p)
 
   pairs-judged : (pairs : List NetPair) → asks b (meantPairs d pairs) ≡ map holds (netObligations d pairs)
   unfolding meantPairs netObligations
   pairs-judged [] = unfold asks in refl
   pairs-judged (p ∷ pairs) =
-      asks-append b (meantPair (readsPast d) (pairOf d p) p) (meantPairs d pairs)
-      ∙ ap₂ _++_ (pair-judged (pairOf d p) p) (pairs-judged pairs)
-      ∙ sym (map-append holds (ofPair (pairOf d p) p) (netObligations d pairs))
+      asks-append b (meantPair (readsPast d) (d .mode) (pairOf d p) p) (meantPairs d pairs)
+      ∙ ap₂ _++_ (pair-judged (d .mode) (pairOf d p) p) (pairs-judged pairs)
+      ∙ sym (map-append holds (ofPair (d .mode) (pairOf d p) p) (netObligations d pairs))
 
   -- ---- cell replacements
 

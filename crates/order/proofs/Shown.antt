@@ -115,10 +115,10 @@ module _ (d : Design) (b : NetBits) where
     cells-shown cells (laid .1) (right (meantCell d p) _ said),
   )
 
-  void-said : (p : NetPair) → pairOf d p ≡ ofVoid → Each (SaidOf b) (meantPair (readsPast d) (pairOf d p) p)
+  void-said : (p : NetPair) → pairOf d p ≡ ofVoid → Each (SaidOf b) (meantPair (readsPast d) (d .mode) (pairOf d p) p)
       → voidTest (readsPast d) (p .from) (p .to) b ≡ true
   void-said p e said =
-      let one : Each (SaidOf b) (meantPair (readsPast d) ofVoid p) = rw e at said in
+      let one : Each (SaidOf b) (meantPair (readsPast d) (d .mode) ofVoid p) = rw e at said in
       one .0
 
   voids-shown : (pairs : List NetPair) → Each (SaidOf b) (meantPairs d pairs) →
@@ -127,8 +127,8 @@ module _ (d : Design) (b : NetBits) where
   voids-shown [] said = tt
   voids-shown (p ∷ pairs) said = (
     λ e i from. void-shown i (p .to)
-        (rw from at (void-said p e (left (meantPair (readsPast d) (pairOf d p) p) _ said))),
-    voids-shown pairs (right (meantPair (readsPast d) (pairOf d p) p) _ said),
+        (rw from at (void-said p e (left (meantPair (readsPast d) (d .mode) (pairOf d p) p) _ said))),
+    voids-shown pairs (right (meantPair (readsPast d) (d .mode) (pairOf d p) p) _ said),
   )
 
   -- Nets whose bits pass the asserted tests show trits that solve the equations.

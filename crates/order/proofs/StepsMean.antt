@@ -9,10 +9,12 @@ use lib.Dec.{eqb}
 use borrow.Author.Tests.{eqb-false}
 use Rattle.logic.proofs.TableLaws.{length-tab}
 use Rattle.logic.specs.Net.{Net, slot}
+use Rattle.cell.specs.declared.Mode.{Mode}
+use Rattle.cell.specs.declared.Mode.the-variants.{Ported, Inductive}
 use Rattle.cell.specs.Cell.{Cell, outputLen}
 use Rattle.cell.specs.Design.{Design, Placed, NetPair, cellOf}
 use Rattle.cell.specs.Each.{Each}
-use Rattle.cell.proofs.EachLaws.{each-append}
+use Rattle.cell.proofs.EachLaws.{each-append, each-ported}
 use Rattle.right.specs.Shape.{Shaped}
 use Rattle.right.specs.Laid.{Laid, CellLaid}
 use Rattle.engine.specs.Meaning.{Value, bool, asBool, all, Assignment}
@@ -54,11 +56,13 @@ cell-steps d p = go (eqb (outputLen (p .cell)) 0)
     go false = ap (λ (l : List Step). addCell rp (p .slot) (outputLen (p .cell)) (p .cell) ∷ l)
         (new-steps rp (p .slot) (outputLen (p .cell)) (newCellIn (d .cellReps) (p .slot)))
 
-pair-steps : (rp : ℕ → Bool) (k : Pair) (p : NetPair) → stepsOf (meantPair rp k p) ≡ pairSteps rp k p
-pair-steps rp equal p = refl
-pair-steps rp ofVoid p = refl
-pair-steps rp ofDffs p = refl
-pair-steps rp ordinary p = refl
+pair-steps : (rp : ℕ → Bool) (mode : Mode) (k : Pair) (p : NetPair) →
+    stepsOf (meantPair rp mode k p) ≡ pairSteps rp mode k p
+pair-steps rp mode equal p = refl
+pair-steps rp mode ofVoid p = refl
+pair-steps rp Ported ofDffs p = refl
+pair-steps rp Inductive ofDffs p = refl
+pair-steps rp mode ordinary p = refl
 
 cells-steps : (d : Design) (cells : List Placed) → stepsOf (meantCells d cells) ≡ eachCell d cells
 unfolding meantCells eachCell
@@ -71,8 +75,8 @@ pairs-steps : (d : Design) (pairs : List NetPair) → stepsOf (meantPairs d pair
 unfolding meantPairs eachPair
 pairs-steps d [] = refl
 pairs-steps d (p ∷ pairs) =
-    map-append (λ (m : Meant). m .step) (meantPair (readsPast d) (pairOf d p) p) (meantPairs d pairs)
-    ∙ ap₂ _++_ (pair-steps (readsPast d) (pairOf d p) p) (pairs-steps d pairs)
+    map-append (λ (m : Meant). m .step) (meantPair (readsPast d) (d .mode) (pairOf d p) p) (meantPairs d pairs)
+    ∙ ap₂ _++_ (pair-steps (readsPast d) (d .mode) (pairOf d p) p) (pairs-steps d pairs)
 
 pub steps-are : (d : Design) → stepsOf (meantSteps d) ≡ steps d
 steps-are d =
@@ -188,21 +192,24 @@ module _ (d : Design) (laid : Laid d) (ρ : Assignment) (v : ℕ → Value) wher
       each-append (MeantIs ρ v) (meantCell d p) (meantCells d cells) (cell-means p (own .0) (laid .0 .shaped))
       (cells-mean cells (own .1) (laid .1))
 
-  pair-means : (k : Pair) (p : NetPair) → Each (MeantIs ρ v) (meantPair (readsPast d) k p)
-  pair-means equal p = tt
-  pair-means ofVoid p = (void-is ρ v (readsPast d) (p .from) (p .to), tt)
-  pair-means ofDffs p = (
+  pair-means : (mode : Mode) (k : Pair) (p : NetPair) → Each (MeantIs ρ v) (meantPair (readsPast d) mode k p)
+  pair-means mode equal p = tt
+  pair-means mode ofVoid p = (void-is ρ v (readsPast d) (p .from) (p .to), tt)
+  pair-means mode ofDffs p = (
     join-is ρ v (readsPast d) (p .from) (p .to),
-    (current-is ρ v (readsPast d) (p .from) (p .to), (net-is ρ v (readsPast d) (p .from) (p .to), tt)),
+    (
+      current-is ρ v (readsPast d) (p .from) (p .to),
+      each-ported (MeantIs ρ v) mode _ (net-is ρ v (readsPast d) (p .from) (p .to), tt),
+    ),
   )
-  pair-means ordinary p = (net-is ρ v (readsPast d) (p .from) (p .to), tt)
+  pair-means mode ordinary p = (net-is ρ v (readsPast d) (p .from) (p .to), tt)
 
   pairs-mean : (pairs : List NetPair) → Each (MeantIs ρ v) (meantPairs d pairs)
   unfolding meantPairs
   pairs-mean [] = tt
   pairs-mean (p ∷ pairs) =
-      each-append (MeantIs ρ v) (meantPair (readsPast d) (pairOf d p) p) (meantPairs d pairs)
-      (pair-means (pairOf d p) p) (pairs-mean pairs)
+      each-append (MeantIs ρ v) (meantPair (readsPast d) (d .mode) (pairOf d p) p) (meantPairs d pairs)
+      (pair-means (d .mode) (pairOf d p) p) (pairs-mean pairs)
 
   pub steps-mean : Each (MeantIs ρ v) (meantSteps d)
   steps-mean =

@@ -7,6 +7,8 @@ use mathlib.Core.List.{List, [], _∷_, _++_}
 use Prim.Native.Nat.{ℕ}
 use lib.Dec.{eqb}
 use Rattle.logic.specs.Net.{Net}
+use Rattle.cell.specs.declared.Mode.{Mode}
+use Rattle.cell.specs.Mode.{portedOnly}
 use Rattle.cell.specs.Cell.{Cell, outputLen}
 use Rattle.cell.specs.Design.{Design, Placed, NetPair}
 use Rattle.engine.specs.Meaning.{Value, bool, Assignment}
@@ -51,14 +53,17 @@ module _ (rp : ℕ → Bool) where
   meantNew s w none = []
   meantNew s w (some a) = meant (obliged (newCell rp s w a)) (newTest s w a) ∷ []
 
-  abbrev pub meantPair : Pair → NetPair → List Meant
-  meantPair equal p = []
-  meantPair ofVoid p = meant (asserted (replaceVoidNet rp (p .from) (p .to))) (voidTest (p .from) (p .to)) ∷ []
-  meantPair ofDffs p =
+  abbrev pub meantNet : NetPair → List Meant
+  meantNet p = meant (obliged (replaceNet rp (p .from) (p .to))) (netTest (p .from) (p .to)) ∷ []
+
+  abbrev pub meantPair : Mode → Pair → NetPair → List Meant
+  meantPair mode equal p = []
+  meantPair mode ofVoid p = meant (asserted (replaceVoidNet rp (p .from) (p .to))) (voidTest (p .from) (p .to)) ∷ []
+  meantPair mode ofDffs p =
       meant (asserted (joinPasts (p .from) (p .to))) (joinTest (p .from) (p .to))
       ∷ meant (obliged (currents (p .from) (p .to))) (currentTest (p .from) (p .to))
-      ∷ meant (obliged (replaceNet rp (p .from) (p .to))) (netTest (p .from) (p .to)) ∷ []
-  meantPair ordinary p = meant (obliged (replaceNet rp (p .from) (p .to))) (netTest (p .from) (p .to)) ∷ []
+      ∷ portedOnly mode (meantNet p)
+  meantPair mode ordinary p = meantNet p
 
 abbrev pub meantCell : Design → Placed → List Meant
 meantCell d p =
@@ -72,7 +77,7 @@ meantCells d (p ∷ cells) = meantCell d p ++ meantCells d cells
 
 unfoldable pub meantPairs : Design → List NetPair → List Meant
 meantPairs d [] = []
-meantPairs d (p ∷ pairs) = meantPair (readsPast d) (pairOf d p) p ++ meantPairs d pairs
+meantPairs d (p ∷ pairs) = meantPair (readsPast d) (d .mode) (pairOf d p) p ++ meantPairs d pairs
 
 abbrev pub meantSteps : Design → List Meant
 meantSteps d = meantCells d (d .cells) ++ meantPairs d (d .netReps)

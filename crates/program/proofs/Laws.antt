@@ -15,7 +15,7 @@ use Rattle.little_endian.specs.declared.Input.the-variants as input
 use Rattle.little_endian.specs.Words.{wordsOf, inputOf}
 use Rattle.design_list.specs.declared.Extent.{Extent}
 use Rattle.design_list.specs.declared.DesignRead.the-variants as D
-use Rattle.design_list.specs.Read.{Read, refused, accepted, read, answer}
+use Rattle.design_list.specs.Read.{Read, refused, accepted, answer}
 use Rattle.engine.specs.Emit.{Wrote}
 use Rattle.text.proofs.Write.{overwrite-fits}
 use Rattle.engine.specs.WellFormed.{malformedAt}
@@ -28,7 +28,7 @@ use Rattle.script.specs.Written.{scriptOf, roomFor, onFine, onFormed, marked, w
 use Rattle.builder.specs.declared.Counts.{Counts}
 use Rattle.requirement.specs.declared.Verified.{Verified}
 use Rattle.requirement.specs.declared.Verified.the-variants as design
-use Rattle.requirement.specs.Verified.{verified, callWords, marks}
+use Rattle.requirement.specs.Verified.{readIn, verified, callWords, marks}
 use Rattle.design.specs.Verifies.{Verifies}
 use Rattle.design.specs.Said.{Says}
 use Rattle.design.proofs.Said.{verify-said}
@@ -104,17 +104,17 @@ told-text (design.Asked m) n said text = refl
 
 -- `verify` with the program's room.
 module _ {w calls recorded calls′ recorded′ : List ℕ} {r : Verified}
-    (left : Verifies w calls recorded calls′ recorded′ r)
+    (left : Verifies 0 w calls recorded calls′ recorded′ r)
     (words : length calls ≡ 16384) (marked : length recorded ≡ 4096) where
-  answer-is : r ≡ verified w 16384 4096
+  answer-is : r ≡ verified 0 w 16384 4096
   answer-is = left .answer ∙ rw (words, marked)
 
   pub list-refused : {e : Fault} → r ≡ design.Refused e → (room : ℕ) → listOutput w room ≡ refusalLine e
   unfolding listOutput
   list-refused is room =
-      ap (λ (a : Verified). ofVerified a (scriptText (callWords w) (marks w) room)) (sym answer-is ∙ is)
+      ap (λ (a : Verified). ofVerified a (scriptText (callWords 0 w) (marks 0 w) room)) (sym answer-is ∙ is)
 
-  module _ (n : Counts) (said : Says r n) (slots : ℕ) (all : slots ≡ slotsIn (read w)) where
+  module _ (n : Counts) (said : Says r n) (slots : ℕ) (all : slots ≡ slotsIn (readIn 0 w)) where
     -- The first words and marks are there.
     pub handed : (n .words ≤ length calls′) × (slots ≤ length recorded′)
     handed =
@@ -126,8 +126,8 @@ module _ {w calls recorded calls′ recorded′ : List ℕ} {r : Verified}
     unfolding listOutput
     list-told room =
         let s = verify-said left n said in
-        let recorded-are : take slots recorded′ ≡ marks w = rw (all, ap slotsIn (s .is)) (s .marks) in
-        ap (λ (a : Verified). ofVerified a (scriptText (callWords w) (marks w) room)) (sym answer-is)
+        let recorded-are : take slots recorded′ ≡ marks 0 w = rw (all, ap slotsIn (s .is)) (s .marks) in
+        ap (λ (a : Verified). ofVerified a (scriptText (callWords 0 w) (marks 0 w) room)) (sym answer-is)
         ∙ told-text r n said _
         ∙ rw (s .words, recorded-are)
 

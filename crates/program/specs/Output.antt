@@ -36,9 +36,9 @@ ofVerified (design.Refused e) text = refusalLine e
 ofVerified (design.NothingAsked n) text = text
 ofVerified (design.Asked n) text = text
 
--- What is written for a list of words.
+-- What is written for a list of words: in mode 0, "the ported one, which the program keeps" (document 02, change 7).
 unfoldable pub listOutput : List ℕ → ℕ → List ℕ
-listOutput w room = ofVerified (verified w 16384 4096) (scriptText (callWords w) (marks w) room)
+listOutput w room = ofVerified (verified 0 w 16384 4096) (scriptText (callWords 0 w) (marks 0 w) room)
 
 -- What is written for the bytes of the input: its own faults before anything else, then what its words say.
 abbrev pub ofInput : Input → List ℕ → ℕ → List ℕ

@@ -7,8 +7,8 @@ use script::Written;
 ghost use mathlib.Core.Path.{_≡_};
 ghost use Prim.Native.Nat.{_≤_};
 ghost use lib.ListN.{length, take};
-ghost use Rattle.design_list.specs.Read.{read};
 ghost use Rattle.engine.specs.Emit.{Wrote};
+ghost use Rattle.requirement.specs.Verified.{readIn};
 ghost use Rattle.program.specs.Output.{refusalLine, scriptText, listOutput, outputIn, slotsIn};
 
 // Writes `refused N at P` and a line feed.
@@ -37,7 +37,7 @@ fn put_script(text: &mut [u8], calls: &[u32], words: usize, recorded: &[u8], slo
 
 // The slots of an accepted list.
 fn slots_of(list: &[u32]) -> usize
-    ensures { λ r. ⌜ r ≡ slotsIn (read (now (list .entry))) ⌝ }
+    ensures { λ r. ⌜ r ≡ slotsIn (readIn 0 (now (list .entry))) ⌝ }
 {
     match design_list::read_design(list) {
         DesignRead::Refused(_) => 0,
@@ -45,7 +45,8 @@ fn slots_of(list: &[u32]) -> usize
     }
 }
 
-// Writes the script of a list of words, or its refusal, with 16,384 call words and 4,096 marks of its own.
+// Writes the script of a list of words in the ported mode, or its refusal, with 16,384 call words and 4,096 marks of
+// its own.
 fn put_list(text: &mut [u8], list: &[u32]) -> usize
     ensures { λ r. ⌜ Wrote (now (text .entry)) 0 (listOutput (now (list .entry)) (length (now (text .entry))))
         (now (text .exit)) r ⌝ }
@@ -53,7 +54,7 @@ fn put_list(text: &mut [u8], list: &[u32]) -> usize
     let mut calls = [0u32; 16384];
     let mut recorded = [0u8; 4096];
     let slots = slots_of(list);
-    match design::verify(list, &mut calls, &mut recorded) {
+    match design::verify(0, list, &mut calls, &mut recorded) {
         Verified::Refused(f) => put_refusal(text, f),
         Verified::NothingAsked(c) => put_script(text, &calls, c.words, &recorded, slots),
         Verified::Asked(c) => put_script(text, &calls, c.words, &recorded, slots),

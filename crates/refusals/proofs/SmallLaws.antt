@@ -10,6 +10,7 @@ use borrow.Author.Tests.{ltb-true, ltb-false, leb-true}
 use Rattle.logic.specs.Word.{kindOf, payloadOf}
 use Rattle.logic.specs.Net.{driverOf}
 use Rattle.logic.specs.declared.Slot.{Slot}
+use Rattle.cell.specs.declared.Mode.{Mode}
 use Rattle.cell.specs.Operation.{operationOf, numbersOf, fieldsOf}
 use Rattle.cell.specs.declared.Operation.{Operation}
 use Rattle.cell.specs.declared.Decoded.{Decoded}
@@ -503,10 +504,10 @@ module _ (w : List ℕ) (short : length w ≤ 16384) where
   refuses-small (Refused e) f here rest = here
 
   net-reps-small :
-      (h : Header) (cells reps : List Placed) (replacements pairs : ℕ) → pairs ≤ length w →
-      SmallRead (readNetReps w h cells reps replacements pairs)
+      (mode : Mode) (h : Header) (cells reps : List Placed) (replacements pairs : ℕ) → pairs ≤ length w →
+      SmallRead (readNetReps mode w h cells reps replacements pairs)
   unfolding readNetReps
-  net-reps-small h cells reps replacements pairs here =
+  net-reps-small mode h cells reps replacements pairs here =
       scan-small (netRepsFrom w (h .base + h .added) (h .netreps) 0 pairs .scan) _
       (ascending-small (pairAt w (h .base + h .added)) (netPair w) (pair-small (h .base + h .added)) (h .netreps) 0
       pairs here) (λ c hc.
@@ -514,21 +515,21 @@ module _ (w : List ℕ) (short : length w ≤ 16384) where
       refuses-small (voidsAt w (isVoid cells (h .base)) (length cells) (h .cellreps) (h .netreps)) _
       (voids-small (isVoid cells (h .base)) (length cells) (h .cellreps) (h .netreps)) (λ _. tt)))
 
-  cell-reps-small : (h : Header) (cells : List Placed) (replacements : ℕ) → replacements ≤ length w →
-      SmallRead (readCellReps w h cells replacements)
+  cell-reps-small : (mode : Mode) (h : Header) (cells : List Placed) (replacements : ℕ) → replacements ≤ length w →
+      SmallRead (readCellReps mode w h cells replacements)
   unfolding readCellReps
-  cell-reps-small h cells replacements here =
+  cell-reps-small mode h cells replacements here =
       let right : Test = replaces (atSlot cells) (h .base) in
       scan-small (cellRepsFrom w (h .base + h .added) right (h .cellreps) 0 replacements .scan) _
       (ascending-small (replacementAt w (h .base + h .added) right) (newCell w)
       (replacement-small (h .base + h .added) right) (h .cellreps) 0 replacements here) (λ b hb.
-      net-reps-small h cells _ replacements b hb)
+      net-reps-small mode h cells _ replacements b hb)
 
-  cells-read-small : (h : Header) → 4 ≤ length w → SmallRead (readCells w h)
+  cells-read-small : (mode : Mode) (h : Header) → 4 ≤ length w → SmallRead (readCells mode w h)
   unfolding readCells cellsOf
-  cells-read-small h long =
+  cells-read-small mode h long =
       scan-small (cellsFrom w (h .base) (h .base + h .added) (h .base + h .added) 0 4 .scan) _
-      (cells-small (h .base) (h .base + h .added) (h .base + h .added) 0 4 long) (λ a ha. cell-reps-small h _ a ha)
+      (cells-small (h .base) (h .base + h .added) (h .base + h .added) 0 4 long) (λ a ha. cell-reps-small mode h _ a ha)
 
   -- The header.
   header-number-small :
@@ -547,20 +548,20 @@ module _ (w : List ℕ) (short : length w ≤ 16384) where
       header-number-small (numberAt w 4096 4 3) _ (number-small w 4 (omega arith) 4096 3 (omega arith))
       (λ netreps _. tt))))
 
-pub read-small : (w : List ℕ) → SmallRead (read w)
+pub read-small : (mode : Mode) (w : List ℕ) → SmallRead (read mode w)
 unfolding read
-read-small w = go (ltb 16384 (length w)) (ltb (length w) 4) refl refl
+read-small mode w = go (ltb 16384 (length w)) (ltb (length w) 4) refl refl
   where
     opened : (short : length w ≤ 16384) → 4 ≤ length w → (o : Opening) → SmallOpening o →
-        SmallRead (onOpening o refused (readCells w))
+        SmallRead (onOpening o refused (readCells mode w))
     opened short long (O.Refused e) s = s
-    opened short long (O.Read h) s = cells-read-small w short h long
+    opened short long (O.Read h) s = cells-read-small w short mode h long
 
     go :
         (a b : Bool) → ltb 16384 (length w) ≡ a → ltb (length w) 4 ≡ b →
         SmallRead
         (cond a (refused (fault 4 16384))
-        (cond b (refused (fault 1 (length w))) (onOpening (headerAt w) refused (readCells w))))
+        (cond b (refused (fault 1 (length w))) (onOpening (headerAt w) refused (readCells mode w))))
     go true b x y = omega arith
     go false true x y = let short : length w ≤ 16384 = ltb-false _ _ x in omega arith
     go false false x y = opened (ltb-false _ _ x) (ltb-false _ _ y) (headerAt w) (header-small w (ltb-false _ _ x))

@@ -15,13 +15,13 @@ use Rattle.engine.specs.Encode.{encode}
 use Rattle.working_out.specs.Obligations.{obligations}
 use Rattle.smt.specs.Prog.{Prog, ret, op, declare, bind, bind2, _>>=_, Age, curr, past}
 use Rattle.smt.specs.Emit.{St, Out, netName, place, at, learn, reread, after, known, emit}
-use Rattle.design_list.specs.Read.{refused, accepted, read}
+use Rattle.design_list.specs.Read.{refused, accepted}
 use Rattle.order.specs.Verify.{Step, declared, asserted, obliged, steps, work, start, built, query, askedCalls, verify}
 use Rattle.order.proofs.StepsMean.{steps-are}
 use Rattle.requirement.proofs.Exists as terms-asked
 use Rattle.requirement.proofs.Theorem.{asked-each}
 use Rattle.requirement.proofs.WellFormed.{few-words, few-terms, few-temporaries}
-use Rattle.requirement.specs.Verified.{roomed, temporaries, counted, told, ofDesign, ofRead, verified}
+use Rattle.requirement.specs.Verified.{roomed, temporaries, counted, told, ofDesign, readIn, ofRead, verified}
 use Rattle.requirement.specs.Verified.{roomFor, inRoom, ofReadUnroomed}
 use Rattle.requirement.specs.declared.Room.{Room}
 use Rattle.requirement.proofs.RoomLaws.{short-words, short-slots, enough}
@@ -93,60 +93,62 @@ temporaries-are d =
     let e = temporaries-append ((built d) .calls) (askedCalls ((built d) .res) ((built d) .st)) in
     omega arith
 
-pub refused-as-read : (w : List ℕ) {e : Fault} → read w ≡ refused e → (room recorded : ℕ) → verified w room recorded
-    ≡ Refused e
+pub refused-as-read : (mode : ℕ) (w : List ℕ) {e : Fault} → readIn mode w ≡ refused e → (room recorded : ℕ) →
+    verified mode w room recorded ≡ Refused e
 unfolding verified
-refused-as-read w is room recorded = ap (λ r. ofRead r room recorded) is
+refused-as-read mode w is room recorded = ap (λ r. ofRead r room recorded) is
 
-pub unroomed-refused : (w : List ℕ) {e : Fault} → read w ≡ refused e → unroomed w ≡ Refused e
+pub unroomed-refused : (mode : ℕ) (w : List ℕ) {e : Fault} → readIn mode w ≡ refused e → unroomed mode w ≡ Refused e
 unfolding unroomed
-unroomed-refused w is = ap ofReadUnroomed is
+unroomed-refused mode w is = ap ofReadUnroomed is
 
-pub unroomed-accepted : (w : List ℕ) {d : Design} {reps pairs : ℕ} → read w ≡ accepted d reps pairs
-    → unroomed w ≡ ofDesign d
+pub unroomed-accepted : (mode : ℕ) (w : List ℕ) {d : Design} {reps pairs : ℕ} → readIn mode w ≡ accepted d reps pairs
+    → unroomed mode w ≡ ofDesign d
 unfolding unroomed
-unroomed-accepted w is = ap ofReadUnroomed is
+unroomed-accepted mode w is = ap ofReadUnroomed is
 
-module _ (w : List ℕ) {d : Design} {reps pairs : ℕ} (is : read w ≡ accepted d reps pairs) (room recorded : ℕ) where
+module _ (mode : ℕ) (w : List ℕ) {d : Design} {reps pairs : ℕ} (is : readIn mode w ≡ accepted d reps pairs)
+    (room recorded : ℕ) where
   -- An accepted list is answered by its room.
-  pub roomed-as : verified w room recorded ≡ roomed d room recorded
+  pub roomed-as : verified mode w room recorded ≡ roomed d room recorded
   unfolding verified
   roomed-as = ap (λ r. ofRead r room recorded) is
 
   by-room : {r : Room} → r ≡ roomFor (length (encode (verify d))) room (total d) recorded
-      → verified w room recorded ≡ inRoom r (ofDesign d)
+      → verified mode w room recorded ≡ inRoom r (ofDesign d)
   by-room found = roomed-as ∙ ap (λ (r : Room). inRoom r (ofDesign d)) (sym found)
 
   -- With room, every accepted list is answered.
-  pub answered : length (callWords w) ≤ room → total d ≤ recorded → verified w room recorded
+  pub answered : length (callWords mode w) ≤ room → total d ≤ recorded → verified mode w room recorded
       ≡ told ((built d) .res) (counted (verify d))
   answered calls marks =
-      let words : length (encode (verify d)) ≤ room = rw (words-are w is) at calls in
+      let words : length (encode (verify d)) ≤ room = rw (words-are mode w is) at calls in
       by-room (enough (length (encode (verify d))) room (total d) recorded words marks)
 
   -- What it is answered is what `unroomed` says.
-  pub answered-unroomed : length (callWords w) ≤ room → total d ≤ recorded → verified w room recorded ≡ unroomed w
-  answered-unroomed calls marks = answered calls marks ∙ sym (unroomed-accepted w is)
+  pub answered-unroomed : length (callWords mode w) ≤ room → total d ≤ recorded →
+      verified mode w room recorded ≡ unroomed mode w
+  answered-unroomed calls marks = answered calls marks ∙ sym (unroomed-accepted mode w is)
 
   -- Its counts are at most 2^27 each.
   pub few-counts : Few (counted (verify d))
   few-counts =
-      let a = is-accepted w is in
+      let a = is-accepted mode w is in
       let temps = few-temporaries d a in
       let same = temporaries-are d in
       record { terms = few-terms d a; temporaries = omega arith; words = few-words d a }
 
   -- 14 at the room needed: the call slice first, then the recorded one.
-  pub short-of-words : room < length (callWords w) → verified w room recorded
-      ≡ Refused (record { number = 14; place = length (callWords w) })
+  pub short-of-words : room < length (callWords mode w) → verified mode w room recorded
+      ≡ Refused (record { number = 14; place = length (callWords mode w) })
   short-of-words short =
-      let few : room < length (encode (verify d)) = rw (words-are w is) at short in
-      by-room (short-words (length (encode (verify d))) room (total d) recorded few) ∙ rw (words-are w is)
+      let few : room < length (encode (verify d)) = rw (words-are mode w is) at short in
+      by-room (short-words (length (encode (verify d))) room (total d) recorded few) ∙ rw (words-are mode w is)
 
-  pub short-of-marks : length (callWords w) ≤ room → recorded < total d
-      → verified w room recorded ≡ Refused (record { number = 14; place = total d })
+  pub short-of-marks : length (callWords mode w) ≤ room → recorded < total d
+      → verified mode w room recorded ≡ Refused (record { number = 14; place = total d })
   short-of-marks calls short =
-      let words : length (encode (verify d)) ≤ room = rw (words-are w is) at calls in
+      let words : length (encode (verify d)) ≤ room = rw (words-are mode w is) at calls in
       by-room (short-slots (length (encode (verify d))) room (total d) recorded words short)
 
   -- An obligation's term for each obligation.
@@ -154,11 +156,11 @@ module _ (w : List ℕ) {d : Design} {reps pairs : ℕ} (is : read w ≡ accepte
   unfolding terms-asked.asked
   asked-obligations =
       subst (λ (l : List Step). length ((work l (start (total d))) .res) ≡ length (obligations d)) (steps-are d)
-      (asked-each d ((is-accepted w is) .laid))
+      (asked-each d ((is-accepted mode w is) .laid))
 
   -- With room, nothing is asked exactly where there is no obligation.
-  pub nothing-asked : length (callWords w) ≤ room → total d ≤ recorded
-      → (verified w room recorded ≡ NothingAsked (counted (verify d))) ↔ (obligations d ≡ [])
+  pub nothing-asked : length (callWords mode w) ≤ room → total d ≤ recorded
+      → (verified mode w room recorded ≡ NothingAsked (counted (verify d))) ↔ (obligations d ≡ [])
   nothing-asked calls marks = (
     λ e. none-asked ((built d) .res) (obligations d) asked-obligations (sym (answered calls marks) ∙ e),
     λ e. answered calls marks ∙ none-told ((built d) .res) (asked-obligations ∙ ap length e),
@@ -181,24 +183,24 @@ told-writes : (l : List ℕ) (n : Counts) (new old : List ℕ) → onSuccess (to
 told-writes [] n new old = refl
 told-writes (o ∷ l) n new old = refl
 
-module _ (w calls recorded : List ℕ) where
+module _ (mode : ℕ) (w calls recorded : List ℕ) where
   -- A refusal leaves both as they were.
-  pub untouched : {e : Fault} → verified w (length calls) (length recorded) ≡ Refused e
-      → (callsAfter w calls recorded ≡ calls) × (recordedAfter w calls recorded ≡ recorded)
+  pub untouched : {e : Fault} → verified mode w (length calls) (length recorded) ≡ Refused e
+      → (callsAfter mode w calls recorded ≡ calls) × (recordedAfter mode w calls recorded ≡ recorded)
   unfolding callsAfter recordedAfter
-  untouched e = (ap (λ v. onSuccess v (callWords w) calls) e, ap (λ v. onSuccess v (marks w) recorded) e)
+  untouched e = (ap (λ v. onSuccess v (callWords mode w) calls) e, ap (λ v. onSuccess v (marks mode w) recorded) e)
 
   -- With room, the call words and the marks are written, and nothing past them.
-  pub slices-after : {d : Design} {reps pairs : ℕ} → read w ≡ accepted d reps pairs →
-      length (callWords w) ≤ length calls
+  pub slices-after : {d : Design} {reps pairs : ℕ} → readIn mode w ≡ accepted d reps pairs →
+      length (callWords mode w) ≤ length calls
       → total d ≤ length recorded
-      → (callsAfter w calls recorded ≡ over (callWords w) calls)
-      × (recordedAfter w calls recorded ≡ over (marks w) recorded)
+      → (callsAfter mode w calls recorded ≡ over (callWords mode w) calls)
+      × (recordedAfter mode w calls recorded ≡ over (marks mode w) recorded)
   unfolding callsAfter recordedAfter
   slices-after {d} is room more =
-      let e = answered w is (length calls) (length recorded) room more in (
-        ap (λ v. onSuccess v (callWords w) calls) e
-            ∙ told-writes ((built d) .res) (counted (verify d)) (callWords w) calls,
-        ap (λ v. onSuccess v (marks w) recorded) e
-            ∙ told-writes ((built d) .res) (counted (verify d)) (marks w) recorded,
+      let e = answered mode w is (length calls) (length recorded) room more in (
+        ap (λ v. onSuccess v (callWords mode w) calls) e
+            ∙ told-writes ((built d) .res) (counted (verify d)) (callWords mode w) calls,
+        ap (λ v. onSuccess v (marks mode w) recorded) e
+            ∙ told-writes ((built d) .res) (counted (verify d)) (marks mode w) recorded,
       )

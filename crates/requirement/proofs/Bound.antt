@@ -9,6 +9,9 @@ use lib.Dec.{eqb}
 use lib.ListN.{length, length-map, length-append}
 use Rattle.logic.specs.Word.{termWord}
 use Rattle.logic.specs.Net.{Net}
+use Rattle.cell.specs.declared.Mode.{Mode}
+use Rattle.cell.specs.declared.Mode.the-variants.{Ported, Inductive}
+use Rattle.cell.specs.Mode.{portedOnly}
 use Rattle.cell.specs.Cell.{Cell, outputLen}
 use Rattle.cell.specs.Cell as c
 use Rattle.cell.specs.Design.{Design, Placed, NetPair, total, cellOf}
@@ -135,19 +138,27 @@ unfolding currents
 currents-costs from to =
     then 10 30 _ _ (netOf-costs curr from) λ a. then 10 20 _ _ (netOf-costs curr to) λ b. tvRefines-costs a b
 
-pair-within : (rp : ℕ → Bool) (k : Pair) (p : NetPair) → Within 113 (pairSteps rp k p)
-pair-within rp equal p = nothing
-pair-within rp ofVoid p = assert-step 113 29 _ _ (omega arith) (replaceVoidNet-costs rp (p .from) (p .to)) nothing
-pair-within rp ofDffs p =
+net-within : (rp : ℕ → Bool) (p : NetPair) → Within 41 (obliged (replaceNet rp (p .from) (p .to)) ∷ [])
+net-within rp p = oblige-step 41 40 _ _ (omega arith) (replaceNet-costs rp (p .from) (p .to)) nothing
+
+ported-within : (mode : Mode) (rp : ℕ → Bool) (p : NetPair) →
+    Within 41 (portedOnly mode (obliged (replaceNet rp (p .from) (p .to)) ∷ []))
+ported-within Ported rp p = net-within rp p
+ported-within Inductive rp p = nothing
+
+pair-within : (rp : ℕ → Bool) (mode : Mode) (k : Pair) (p : NetPair) → Within 113 (pairSteps rp mode k p)
+pair-within rp mode equal p = nothing
+pair-within rp mode ofVoid p = assert-step 113 29 _ _ (omega arith) (replaceVoidNet-costs rp (p .from) (p .to)) nothing
+pair-within rp mode ofDffs p =
     assert-step 113 29 _ _ (omega arith) (joinPasts-costs (p .from) (p .to))
-    (oblige-step 82 40 _ _ (omega arith) (currents-costs (p .from) (p .to))
-    (oblige-step 41 40 _ _ (omega arith) (replaceNet-costs rp (p .from) (p .to)) nothing))
-pair-within rp ordinary p = oblige-step 113 40 _ _ (omega arith) (replaceNet-costs rp (p .from) (p .to)) nothing
+    (oblige-step 82 40 _ _ (omega arith) (currents-costs (p .from) (p .to)) (ported-within mode rp p))
+pair-within rp mode ordinary p = more (omega arith) (net-within rp p)
 
 pairs-within : (d : Design) (pairs : List NetPair) → Within (113 * length pairs) (eachPair d pairs)
 unfolding eachPair
 pairs-within d [] = nothing
-pairs-within d (p ∷ pairs) = more (omega arith) (both (pair-within (readsPast d) (pairOf d p) p) (pairs-within d pairs))
+pairs-within d (p ∷ pairs) =
+    more (omega arith) (both (pair-within (readsPast d) (d .mode) (pairOf d p) p) (pairs-within d pairs))
 
 -- A record is a word at least, and an output at most 64 wide.
 record-some : (a : Cell) → 1 ≤ recordWords a

@@ -337,17 +337,17 @@ module _ (d : Design) where
       go (λ q. pairs-read pairs i to h v q) (sameNet (p .from) (slot i)) refl (sameNet (p .from) (p .to)) refl e
     where
       rest : SomeReading (netRead curr i h) (eachPair d pairs) →
-          SomeReading (netRead curr i h) (pairSteps (readsPast d) (pairOf d p) p ++ eachPair d pairs)
-      rest m = in-right (netRead curr i h) (pairSteps (readsPast d) (pairOf d p) p) (eachPair d pairs) m
+          SomeReading (netRead curr i h) (pairSteps (readsPast d) (d .mode) (pairOf d p) p ++ eachPair d pairs)
+      rest m = in-right (netRead curr i h) (pairSteps (readsPast d) (d .mode) (pairOf d p) p) (eachPair d pairs) m
 
       go : (replacementIn pairs i ≡ some to → SomeReading (netRead curr i h) (eachPair d pairs)) → (a : Bool) →
           sameNet (p .from) (slot i) ≡ a
           → (b : Bool) → sameNet (p .from) (p .to) ≡ b → cond (a && not b) (some (p .to)) (replacementIn pairs i)
           ≡ some to
-          → SomeReading (netRead curr i h) (pairSteps (readsPast d) (pairOf d p) p ++ eachPair d pairs)
+          → SomeReading (netRead curr i h) (pairSteps (readsPast d) (d .mode) (pairOf d p) p ++ eachPair d pairs)
       go rec true qa false qb q =
           let from = same-slot (p .from) i qa in
-          in-left (netRead curr i h) (pairSteps (readsPast d) (pairOf d p) p) (eachPair d pairs)
+          in-left (netRead curr i h) (pairSteps (readsPast d) (d .mode) (pairOf d p) p) (eachPair d pairs)
           (rw (pair-void d p qb (rw from v)) (inl (rw from (reading-void (readsPast d) i (p .to) h))))
       go rec true qa true qb q = rest (rec q)
       go rec false qa b qb q = rest (rec q)

@@ -8,7 +8,7 @@ use lib.ListN.{length, getD}
 use Rattle.cell.specs.Design.{Design, total}
 use Rattle.engine.specs.Call.{Name}
 use Rattle.engine.specs.Encode.{decode}
-use Rattle.design_list.specs.Read.{accepted, read}
+use Rattle.design_list.specs.Read.{accepted}
 use Rattle.smt.specs.Prog.{Age, curr, past, Half}
 use Rattle.smt.specs.Emit.{netName, mark}
 use Rattle.order.specs.Verify.{built, verify}
@@ -18,7 +18,7 @@ use Rattle.requirement.proofs.Declares.{declared-left, declared-cases, 
 use Rattle.requirement.proofs.Declares.{built-together}
 use Rattle.requirement.specs.Requirement3.{IsDeclared, Declared}
 use Rattle.requirement.proofs.Theorem.{query-none, query-calls}
-use Rattle.requirement.specs.Verified.{writtenMarks, callWords, marks}
+use Rattle.requirement.specs.Verified.{readIn, writtenMarks, callWords, marks}
 use Rattle.requirement.proofs.Required.{calls-are}
 use Rattle.requirement.specs.Marks.{Marked}
 
@@ -82,13 +82,13 @@ marked d = record {
 
 -- ---- of an accepted list: the marks and the call words that it is answered with
 
-pub list-marked : (w : List ℕ) {d : Design} {reps pairs : ℕ} → read w ≡ accepted d reps pairs
-    → Marked (total d) (marks w) (decode (callWords w))
+pub list-marked : (mode : ℕ) (w : List ℕ) {d : Design} {reps pairs : ℕ} → readIn mode w ≡ accepted d reps pairs
+    → Marked (total d) (marks mode w) (decode (callWords mode w))
 unfolding marks
-list-marked w {d} is = subst₂ (Marked (total d)) (sym (ap writtenMarks is)) (sym (calls-are w is)) (marked d)
+list-marked mode w {d} is = subst₂ (Marked (total d)) (sym (ap writtenMarks is)) (sym (calls-are mode w is)) (marked d)
 
 -- Each slot's mark is that of its last read in the order of work, none where there is none.
-pub list-last-read : (w : List ℕ) {d : Design} {reps pairs : ℕ} → read w ≡ accepted d reps pairs
-    → (i : ℕ) → i < total d → getD (marks w) i 0 ≡ markAfter i 0 (readsOf d)
+pub list-last-read : (mode : ℕ) (w : List ℕ) {d : Design} {reps pairs : ℕ} → readIn mode w ≡ accepted d reps pairs
+    → (i : ℕ) → i < total d → getD (marks mode w) i 0 ≡ markAfter i 0 (readsOf d)
 unfolding marks
-list-last-read w {d} is i low = ap (λ r. getD (writtenMarks r) i 0) is ∙ marks-by-last-read d i low
+list-last-read mode w {d} is i low = ap (λ r. getD (writtenMarks r) i 0) is ∙ marks-by-last-read d i low

@@ -14,13 +14,14 @@ use Rattle.logic.specs.Trit.{shows, xOf, yOf}
 use Rattle.logic.specs.Net.{Net, constant, slot}
 use Rattle.logic.specs.declared.Trit.{Trit}
 use Rattle.logic.specs.declared.Trit.the-variants.{Zero, One, Undef}
+use Rattle.cell.specs.declared.Mode.{Mode}
 use Rattle.cell.specs.Cell.{Cell, outputLen, slotsOf}
 use Rattle.cell.specs.Cell as c
 use Rattle.cell.specs.Design.{Design, Placed, NetPair, total, cellOf}
 use Rattle.cell.specs.Role.{role}
 use Rattle.cell.specs.Role as roles
 use Rattle.cell.specs.Each.{Each}
-use Rattle.cell.proofs.EachLaws.{each-append}
+use Rattle.cell.proofs.EachLaws.{each-append, each-ported}
 use Rattle.right.specs.Laid.{Laid, CellLaid}
 use Rattle.rules.specs.CellRule.{Trits, ofNet}
 use Rattle.working_out.specs.Reading.{sameNet, readsPast, source, Pair, equal, ofVoid, ofDffs, ordinary, pairOf, Alike}
@@ -240,13 +241,14 @@ module _ (d : Design) (laid : Laid d) (no-loop : hasLoop d ≡ false) (g : Trits
       go : (i : ℕ) × (p .from ≡ slot i) → voidTest (readsPast d) (p .from) (p .to) solved ≡ true
       go s = equal-pass _ _ (at (s .0) (s .1))
 
-  pair-said : (k : Pair) (p : NetPair) → pairOf d p ≡ k → VoidShown (bitRule d was) d now p
+  pair-said : (mode : Mode) (k : Pair) (p : NetPair) → pairOf d p ≡ k → VoidShown (bitRule d was) d now p
       → (reading.Joined d p → ofNet (g .was) (p .from) ≡ ofNet (g .was) (p .to)) →
-      Each (SaidOf solved) (meantPair (readsPast d) k p)
-  pair-said equal p e shown alike = tt
-  pair-said ofVoid p e shown alike = (void-passes p e shown, tt)
-  pair-said ofDffs p e shown alike = (join-passes (p .from) (p .to) (alike e), (tt, (tt, tt)))
-  pair-said ordinary p e shown alike = (tt, tt)
+      Each (SaidOf solved) (meantPair (readsPast d) mode k p)
+  pair-said mode equal p e shown alike = tt
+  pair-said mode ofVoid p e shown alike = (void-passes p e shown, tt)
+  pair-said mode ofDffs p e shown alike =
+      (join-passes (p .from) (p .to) (alike e), (tt, each-ported (SaidOf solved) mode _ (tt, tt)))
+  pair-said mode ordinary p e shown alike = (tt, tt)
 
   pairs-said : (pairs : List NetPair) → Each (VoidShown (bitRule d was) d now) pairs
       → Each (λ (p : NetPair). reading.Joined d p → ofNet (g .was) (p .from) ≡ ofNet (g .was) (p .to)) pairs →
@@ -254,8 +256,8 @@ module _ (d : Design) (laid : Laid d) (no-loop : hasLoop d ≡ false) (g : Trits
   unfolding meantPairs
   pairs-said [] shown alike = tt
   pairs-said (p ∷ rest) shown alike =
-      each-append (SaidOf solved) (meantPair (readsPast d) (pairOf d p) p) (meantPairs d rest)
-      (pair-said (pairOf d p) p refl (shown .0) (alike .0))
+      each-append (SaidOf solved) (meantPair (readsPast d) (d .mode) (pairOf d p) p) (meantPairs d rest)
+      (pair-said (d .mode) (pairOf d p) p refl (shown .0) (alike .0))
       (pairs-said rest (shown .1) (alike .1))
 
   -- The solved bits pass every asserted test.

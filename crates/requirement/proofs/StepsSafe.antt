@@ -10,11 +10,12 @@ use lib.Dec.{eqb}
 use borrow.Author.Tests.{eqb-false}
 use Rattle.logic.proofs.TableLaws.{length-tab}
 use Rattle.logic.specs.Net.{Net, constant, slot}
+use Rattle.cell.specs.declared.Mode.{Mode}
 use Rattle.cell.specs.Cell.{Cell, outputLen, slotsOf}
 use Rattle.cell.specs.Cell as c
 use Rattle.cell.specs.Design.{Design, Placed, NetPair, total, cellOf}
 use Rattle.cell.specs.Each.{Each}
-use Rattle.cell.proofs.EachLaws.{each-map, each-append}
+use Rattle.cell.proofs.EachLaws.{each-map, each-append, each-ported}
 use Rattle.right.specs.Bounds.{Bounded, Bounds}
 use Rattle.right.specs.Nets as layout
 use Rattle.right.specs.Nets.{netsOf}
@@ -32,7 +33,7 @@ use Rattle.soundness.proofs.CellSafe.{net-safe, cell-safe, output-within}
 use Rattle.order.specs.Verify.{declared, asserted, isInput, claim, newCell, replaceNet, replaceVoidNet, joinPasts}
 use Rattle.order.specs.Verify.{currents, newCellIn}
 use Rattle.order.proofs.Found.{found, own-cells, may-replace, new-found}
-use Rattle.order.specs.Meant.{meantAdd, meantNew, meantCell, meantCells, meantPair, meantPairs, meantSteps}
+use Rattle.order.specs.Meant.{meantAdd, meantNew, meantNet, meantCell, meantCells, meantPair, meantPairs, meantSteps}
 use Rattle.order.proofs.StepsMean.{positive}
 use Rattle.requirement.proofs.WorkMeets.{StepSafe, Safe}
 
@@ -200,9 +201,20 @@ module _ (d : Design) (laid : Laid d) (bounds : Bounds d) where
       each-append (Safe (total d)) (meantCell d p) (meantCells d cells)
       (cell-is-safe p (own .0) (cl .0) (b .0) (end .0)) (cells-safe cells (own .1) (cl .1) (b .1) (end .1))
 
-  pair-safe : (k : Pair) (p : NetPair) → PairWithin d p → Each (Safe (total d)) (meantPair (readsPast d) k p)
-  pair-safe equal p w = tt
-  pair-safe ofVoid p w = (
+  ordinary-safe : (p : NetPair) → PairWithin d p → Each (Safe (total d)) (meantNet (readsPast d) p)
+  ordinary-safe p w = (
+    record {
+      fits =
+          λ σ n. replaceNet-safe (total d) σ (readsPast d) n (p .from) (p .to) (within (total d) σ (p .from) (w .from))
+          (within (total d) σ (p .to) (w .to));
+    },
+    tt,
+  )
+
+  pair-safe : (mode : Mode) (k : Pair) (p : NetPair) → PairWithin d p →
+      Each (Safe (total d)) (meantPair (readsPast d) mode k p)
+  pair-safe mode equal p w = tt
+  pair-safe mode ofVoid p w = (
     record {
       fits =
           λ σ n. replaceVoidNet-safe (total d) σ (readsPast d) n (p .from) (p .to)
@@ -210,7 +222,7 @@ module _ (d : Design) (laid : Laid d) (bounds : Bounds d) where
     },
     tt,
   )
-  pair-safe ofDffs p w = (
+  pair-safe mode ofDffs p w = (
     record {
       fits =
           λ σ n. joinPasts-safe (total d) σ n (p .from) (p .to) (within (total d) σ (p .from) (w .from))
@@ -222,32 +234,17 @@ module _ (d : Design) (laid : Laid d) (bounds : Bounds d) where
             λ σ n. currents-safe (total d) σ n (p .from) (p .to) (within (total d) σ (p .from) (w .from))
             (within (total d) σ (p .to) (w .to));
       },
-      (
-        record {
-          fits =
-              λ σ n. replaceNet-safe (total d) σ (readsPast d) n (p .from) (p .to)
-              (within (total d) σ (p .from) (w .from))
-              (within (total d) σ (p .to) (w .to));
-        },
-        tt,
-      ),
+      each-ported (Safe (total d)) mode (meantNet (readsPast d) p) (ordinary-safe p w),
     ),
   )
-  pair-safe ordinary p w = (
-    record {
-      fits =
-          λ σ n. replaceNet-safe (total d) σ (readsPast d) n (p .from) (p .to) (within (total d) σ (p .from) (w .from))
-          (within (total d) σ (p .to) (w .to));
-    },
-    tt,
-  )
+  pair-safe mode ordinary p w = ordinary-safe p w
 
   pairs-safe : (pairs : List NetPair) → Each (PairWithin d) pairs → Each (Safe (total d)) (meantPairs d pairs)
   unfolding meantPairs
   pairs-safe [] w = tt
   pairs-safe (p ∷ pairs) w =
-      each-append (Safe (total d)) (meantPair (readsPast d) (pairOf d p) p) (meantPairs d pairs)
-      (pair-safe (pairOf d p) p (w .0)) (pairs-safe pairs (w .1))
+      each-append (Safe (total d)) (meantPair (readsPast d) (d .mode) (pairOf d p) p) (meantPairs d pairs)
+      (pair-safe (d .mode) (pairOf d p) p (w .0)) (pairs-safe pairs (w .1))
 
   pub steps-safe : Each (Safe (total d)) (meantSteps d)
   steps-safe =

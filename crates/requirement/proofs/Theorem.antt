@@ -193,14 +193,14 @@ module _ (d : Design) (laid : Laid d) (bounds : Bounds d) (n : ℕ) (asked-terms
   pairs-alike ρ [] said = tt
   pairs-alike ρ (p ∷ pairs) said = (
     λ j. join-alike ρ (p .from) (p .to)
-        (of-join j (left d (netBits ρ) (meantPair (readsPast d) (pairOf d p) p) _ said)),
-    pairs-alike ρ pairs (right d (netBits ρ) (meantPair (readsPast d) (pairOf d p) p) _ said),
+        (of-join j (left d (netBits ρ) (meantPair (readsPast d) (d .mode) (pairOf d p) p) _ said)),
+    pairs-alike ρ pairs (right d (netBits ρ) (meantPair (readsPast d) (d .mode) (pairOf d p) p) _ said),
   )
     where
-      of-join : pairOf d p ≡ ofDffs → Each (SaidOf (netBits ρ)) (meantPair (readsPast d) (pairOf d p) p) →
+      of-join : pairOf d p ≡ ofDffs → Each (SaidOf (netBits ρ)) (meantPair (readsPast d) (d .mode) (pairOf d p) p) →
           joinTest (readsPast d) (p .from) (p .to) (netBits ρ) ≡ true
       of-join e s =
-          let dffs : Each (SaidOf (netBits ρ)) (meantPair (readsPast d) ofDffs p) = rw e at s in
+          let dffs : Each (SaidOf (netBits ρ)) (meantPair (readsPast d) (d .mode) ofDffs p) = rw e at s in
           dffs .0
 
   pub joined : (ρ : Assignment) → Fits ρ calls → Asserted (valueAt (run ρ [] calls)) (but d) → Alike d (tritsIn ρ)

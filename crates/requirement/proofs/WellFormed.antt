@@ -7,6 +7,8 @@ use Prim.Native.Nat.{ℕ, zero, suc, _+_, _*_, _≤_, _<_}
 use native.Mathlib.Omega.{arith}
 use lib.Dec.{eqb}
 use lib.ListN.{length, getD, length-append, length-replicate, List·getD-eq-default}
+use Rattle.cell.specs.declared.Mode.{Mode}
+use Rattle.cell.specs.declared.Mode.the-variants.{Ported, Inductive}
 use Rattle.cell.specs.Cell.{outputLen}
 use Rattle.cell.specs.Design.{Design, Placed, NetPair, total}
 use Rattle.cell.specs.Each.{Each}
@@ -184,19 +186,20 @@ cell-obligations (r ∷ reps) = go (eqb (outputLen (r .cell)) 0) (cell-obligatio
     go true h = omega arith
     go false h = omega arith
 
-pair-obligations : (k : Pair) (p : NetPair) → length (ofPair k p) ≤ 2
-pair-obligations equal p = omega arith
-pair-obligations ofVoid p = omega arith
-pair-obligations ofDffs p = omega arith
-pair-obligations ordinary p = omega arith
+pair-obligations : (mode : Mode) (k : Pair) (p : NetPair) → length (ofPair mode k p) ≤ 2
+pair-obligations mode equal p = omega arith
+pair-obligations mode ofVoid p = omega arith
+pair-obligations Ported ofDffs p = omega arith
+pair-obligations Inductive ofDffs p = omega arith
+pair-obligations mode ordinary p = omega arith
 
 net-obligations : (d : Design) (pairs : List NetPair) → length (netObligations d pairs) ≤ 2 * length pairs
 unfolding netObligations
 net-obligations d [] = omega arith
 net-obligations d (p ∷ pairs) =
-    let here = pair-obligations (pairOf d p) p in
+    let here = pair-obligations (d .mode) (pairOf d p) p in
     let rest = net-obligations d pairs in
-    rw (length-append (ofPair (pairOf d p) p) (netObligations d pairs)) (omega arith)
+    rw (length-append (ofPair (d .mode) (pairOf d p) p) (netObligations d pairs)) (omega arith)
 
 pub few-obligations : (d : Design) → length (obligations d) ≤ designWords d
 few-obligations d =

@@ -1,5 +1,6 @@
 -- Document 01: what the order of work answers for a list of words and the room lent for its calls and its recorded
--- marks, and what it leaves in the two slices. Every count is a count in the calls themselves.
+-- marks, and what it leaves in the two slices. Every count is a count in the calls themselves. Document 02, change 7:
+-- the caller chooses a mode, by its number.
 use mathlib.Core.Path.{_≡_}
 use mathlib.Core.Bool.{cond}
 use mathlib.Core.List.{List, [], _∷_, _++_}
@@ -12,6 +13,9 @@ use Rattle.requirement.specs.declared.Verified.the-variants.{Refused, No
 use Rattle.requirement.specs.declared.Room.{Room}
 use Rattle.requirement.specs.declared.Room.the-variants.{Enough, Short}
 use Rattle.cell.specs.Design.{Design, total}
+use Rattle.cell.specs.declared.Chosen.{Chosen}
+use Rattle.cell.specs.declared.Chosen.the-variants.{Known, Unknown}
+use Rattle.cell.specs.Mode.{modeOf}
 use Rattle.engine.specs.Call.{Letter, Suffix, Call}
 use Rattle.engine.specs.Call as c
 use Rattle.engine.specs.Meaning.{terms}
@@ -41,6 +45,15 @@ temporaries (c.check ∷ cs) = temporaries cs
 abbrev pub counted : List Call → Counts
 counted cs =
     record { terms = Rattle.engine.specs.Meaning.terms cs; temporaries = temporaries cs; words = length (encode cs) }
+
+-- ---- the list in the mode: a mode other than 0 or 1 is 23 at 0, before the list is looked at
+
+abbrev pub readBy : Chosen → List ℕ → Read
+readBy Unknown w = refused (record { number = 23; place = 0 })
+readBy (Known mode) w = read mode w
+
+unfoldable pub readIn : ℕ → List ℕ → Read
+readIn mode w = readBy (modeOf mode) w
 
 -- ---- the answer
 
@@ -75,17 +88,17 @@ abbrev pub ofRead : Read → ℕ → ℕ → Verified
 ofRead (refused e) room recorded = Refused e
 ofRead (accepted d reps pairs) room recorded = roomed d room recorded
 
--- The answer for a list, with the room of the two slices.
-unfoldable pub verified : List ℕ → ℕ → ℕ → Verified
-verified w room recorded = ofRead (read w) room recorded
+-- The answer for a list in a mode, with the room of the two slices.
+unfoldable pub verified : ℕ → List ℕ → ℕ → ℕ → Verified
+verified mode w room recorded = ofRead (readIn mode w) room recorded
 
 abbrev pub ofReadUnroomed : Read → Verified
 ofReadUnroomed (refused e) = Refused e
 ofReadUnroomed (accepted d reps pairs) = ofDesign d
 
--- The answer for a list, with any room that suffices.
-unfoldable pub unroomed : List ℕ → Verified
-unroomed w = ofReadUnroomed (read w)
+-- The same, with any room that suffices.
+unfoldable pub unroomed : ℕ → List ℕ → Verified
+unroomed mode w = ofReadUnroomed (readIn mode w)
 
 -- ---- what the slices hold after it: a refusal changes nothing, success nothing past what it writes
 
@@ -105,18 +118,20 @@ abbrev pub writtenMarks : Read → List ℕ
 writtenMarks (refused e) = []
 writtenMarks (accepted d reps pairs) = (built d) .st .marks
 
--- The call words and the marks that a list has.
-unfoldable pub callWords : List ℕ → List ℕ
-callWords w = writtenCalls (read w)
+-- The call words and the marks that a list has in a mode.
+unfoldable pub callWords : ℕ → List ℕ → List ℕ
+callWords mode w = writtenCalls (readIn mode w)
 
-unfoldable pub marks : List ℕ → List ℕ
-marks w = writtenMarks (read w)
+unfoldable pub marks : ℕ → List ℕ → List ℕ
+marks mode w = writtenMarks (readIn mode w)
 
-unfoldable pub callsAfter : List ℕ → List ℕ → List ℕ → List ℕ
-callsAfter w calls recorded = onSuccess (verified w (length calls) (length recorded)) (callWords w) calls
+unfoldable pub callsAfter : ℕ → List ℕ → List ℕ → List ℕ → List ℕ
+callsAfter mode w calls recorded =
+    onSuccess (verified mode w (length calls) (length recorded)) (callWords mode w) calls
 
-unfoldable pub recordedAfter : List ℕ → List ℕ → List ℕ → List ℕ
-recordedAfter w calls recorded = onSuccess (verified w (length calls) (length recorded)) (marks w) recorded
+unfoldable pub recordedAfter : ℕ → List ℕ → List ℕ → List ℕ → List ℕ
+recordedAfter mode w calls recorded =
+    onSuccess (verified mode w (length calls) (length recorded)) (marks mode w) recorded
 
 -- ---- document 01's numbers and values of each case: a refusal's number and place; otherwise 0 and the words
 
@@ -130,10 +145,10 @@ valueOf (Refused e) = e .place
 valueOf (NothingAsked n) = n .words
 valueOf (Asked n) = n .words
 
--- ---- requirement 3, of a list of words: what every accepted list without a current loop must have, said of its call
--- words
+-- ---- requirement 3, of a list of words in a mode: what every accepted list without a current loop must have, said of
+-- its call words
 
-abbrev pub Required : List ℕ → Type 0
-Required w =
-    (d : Design) (reps pairs : ℕ) → read w ≡ accepted d reps pairs → (Loop d → ⊥) →
-    Requirement3 d (decode (callWords w))
+abbrev pub Required : ℕ → List ℕ → Type 0
+Required mode w =
+    (d : Design) (reps pairs : ℕ) → readIn mode w ≡ accepted d reps pairs → (Loop d → ⊥) →
+    Requirement3 d (decode (callWords mode w))

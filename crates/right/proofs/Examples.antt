@@ -9,6 +9,7 @@ use Rattle.logic.specs.Net.{Net, constant, slot}
 use Rattle.logic.specs.declared.Trit.the-variants.{Zero, One}
 use Rattle.cell.specs.Cell.{Cell, void, input, unary, binary, assign, dff, buf, eq}
 use Rattle.cell.specs.Design.{Design, Placed, NetPair, cellIn}
+use Rattle.cell.specs.declared.Mode.the-variants.{Ported}
 use Rattle.right.specs.Valid.{Valid}
 
 -- ---- The parts that the designs below are made of.
@@ -26,7 +27,7 @@ pair from to = record { from = from; to = to }
 
 abbrev design : ℕ → ℕ → List Placed → List Placed → List NetPair → Design
 design base added cells cellReps netReps =
-    record { base = base; added = added; cells = cells; cellReps = cellReps; netReps = netReps }
+    record { mode = Ported; base = base; added = added; cells = cells; cellReps = cellReps; netReps = netReps }
 
 -- A flip-flop without data.
 abbrev dffOf : Net → Net → Cell

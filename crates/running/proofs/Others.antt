@@ -14,34 +14,41 @@ use denote.Laws.{Ises, Spells, Tellss, valss}
 use denote.Plain.{uint-vals, uint-tells}
 use denote.Builtin.{u8, u32, usize}
 use denote.Ref.{RefT}
+use denote.Enum.Laws as E
 use denote.Slice.{MutSlice, ShrSlice, slice-vals}
 use denote.Exit.{left}
 use denote.Signature.{Slot}
 use denote.Triple.End.{Kepts}
 use denote.Triple.Walked.{Stays, AllGo}
+use Rattle.cell.specs.declared.Mode.{Mode}
+use Rattle.cell.proofs.Mode as Mo
+use Rattle.cell.proofs.Mode.Laws as Mo′
 
--- list, replacements, pairs, table, calls, names, marks, eqs
+-- mode, list, replacements, pairs, table, calls, names, marks, eqs
 abbrev pub Others : Type 0
-Others = RefT (List ℕ) × (ℕ × (ℕ × (RefT (List ℕ) × (RefT (List ℕ) ×
-    (RefT (List ℕ) × (RefT (List ℕ) × (RefT (List ℕ) × Unit {0})))))))
+Others = Mode × (RefT (List ℕ) × (ℕ × (ℕ × (RefT (List ℕ) × (RefT (List ℕ) ×
+    (RefT (List ℕ) × (RefT (List ℕ) × (RefT (List ℕ) × Unit {0}))))))))
 
 -- their types, where the signature names the lifetimes of the slices from n on
 abbrev pub others : ℕ → Lfts 6 → List RattleType
 others n κs =
-    ShrSlice (named n) (κs .0) u32 ∷ usize ∷ usize ∷ ShrSlice (named (1 + n)) (κs .1 .0) u32
+    Mo.the-row ∷ ShrSlice (named n) (κs .0) u32 ∷ usize ∷ usize ∷ ShrSlice (named (1 + n)) (κs .1 .0) u32
     ∷ MutSlice (named (2 + n)) (κs .1 .1 .0) u32 ∷ MutSlice (named (3 + n)) (κs .1 .1 .1 .0) u32
     ∷ MutSlice (named (4 + n)) (κs .1 .1 .1 .1 .0) u8 ∷ MutSlice (named (5 + n)) (κs .1 .1 .1 .1 .1 .0) u32 ∷ []
 
 abbrev pub spelled : (n : ℕ) (κs : Lfts 6) → Spells (others n κs)
 spelled n κs = (
-  slice-vals,
+  E.vals Mo.the-type Mo′.the-laws,
   (
-    uint-vals w64,
+    slice-vals,
     (
       uint-vals w64,
       (
-        slice-vals,
-        (slice-vals, (slice-vals, (slice-vals, (slice-vals, tt)))),
+        uint-vals w64,
+        (
+          slice-vals,
+          (slice-vals, (slice-vals, (slice-vals, (slice-vals, tt)))),
+        ),
       ),
     ),
   ),
@@ -49,16 +56,19 @@ spelled n κs = (
 
 pub told : (n : ℕ) (κs : Lfts 6) → Tellss (others n κs) (Ises (others n κs)) (spelled n κs)
 told n κs = (
-  λ x vs p. p .0 .0,
+  E.tells Mo.the-type Mo′.the-laws,
   (
-    uint-tells w64,
+    λ x vs p. p .0 .0,
     (
       uint-tells w64,
       (
-        λ x vs p. p .0 .0,
+        uint-tells w64,
         (
           λ x vs p. p .0 .0,
-          (λ x vs p. p .0 .0, (λ x vs p. p .0 .0, (λ x vs p. p .0 .0, tt))),
+          (
+            λ x vs p. p .0 .0,
+            (λ x vs p. p .0 .0, (λ x vs p. p .0 .0, (λ x vs p. p .0 .0, tt))),
+          ),
         ),
       ),
     ),

@@ -4,6 +4,7 @@ use mathlib.Core.Path.{_≡_}
 use mathlib.Core.List.{List}
 use Prim.Native.Nat.{ℕ}
 use lib.ListN.{length, take}
+use Rattle.cell.specs.declared.Mode.{Mode}
 use Rattle.cell.specs.Design.{Design, total}
 use Rattle.design_list.specs.Read.{read, accepted}
 use Rattle.builder.specs.declared.Counts.{Counts}
@@ -26,8 +27,8 @@ pub record Passed (d : Design) (c : Counts) (calls names marks eqs calls′ name
   pub same : obligations ≡ walked .obligations
   pub long : length eqs′ ≡ length eqs
 
-abbrev pub Passes : Counts → List ℕ → ℕ → ℕ → List ℕ → List ℕ → List ℕ → List ℕ → List ℕ → List ℕ → List ℕ → List ℕ
-    → List ℕ → Counts → ℕ → Type 0
-Passes c list replacements pairs table calls names marks eqs calls′ names′ marks′ eqs′ c′ obligations =
-    (d : Design) → read list ≡ accepted d replacements pairs → Tells d table → length table ≡ total d
+abbrev pub Passes : Counts → Mode → List ℕ → ℕ → ℕ → List ℕ → List ℕ → List ℕ → List ℕ → List ℕ → List ℕ → List ℕ
+    → List ℕ → List ℕ → Counts → ℕ → Type 0
+Passes c mode list replacements pairs table calls names marks eqs calls′ names′ marks′ eqs′ c′ obligations =
+    (d : Design) → read mode list ≡ accepted d replacements pairs → Tells d table → length table ≡ total d
     → Passed d c calls names marks eqs calls′ names′ marks′ eqs′ c′ obligations

@@ -1,6 +1,7 @@
 // The builder's running counts change through the caller's own record: a pass over an accepted list, by value, and over
 // it two functions in which the counts are a record that the caller lends.
 use builder::Counts;
+use cell::Mode;
 ghost use mathlib.Core.Path.{_≡_};
 ghost use Prim.Native.Nat.{min};
 ghost use Rattle.running.specs.Passes.{nothing, Passes};
@@ -21,6 +22,7 @@ fn lesser(a: usize, b: usize) -> usize
 // as it has room for.
 fn pass(
     c: Counts,
+    mode: Mode,
     list: &[u32],
     replacements: usize,
     pairs: usize,
@@ -30,11 +32,12 @@ fn pass(
     marks: &mut [u8],
     eqs: &mut [u32],
 ) -> Tally
-    ensures { λ r. ⌜ Passes c (now (list .entry)) replacements pairs (now (table .entry))
+    ensures { λ r. ⌜ Passes c mode (now (list .entry)) replacements pairs (now (table .entry))
         (now (calls .entry)) (now (names .entry)) (now (marks .entry)) (now (eqs .entry))
         (now (calls .exit)) (now (names .exit)) (now (marks .exit)) (now (eqs .exit)) (r .counts) (r .obligations) ⌝ }
 {
     let s = walk::work(
+        mode,
         list,
         replacements,
         pairs,
@@ -58,6 +61,7 @@ fn pass(
 // A pass that goes on from the counts of the caller's record, and leaves its own there.
 pub fn pass_into(
     counts: &mut Counts,
+    mode: Mode,
     list: &[u32],
     replacements: usize,
     pairs: usize,
@@ -67,12 +71,13 @@ pub fn pass_into(
     marks: &mut [u8],
     eqs: &mut [u32],
 ) -> usize
-    ensures { λ r. ⌜ Passes (now (counts .entry)) (now (list .entry)) replacements pairs (now (table .entry))
+    ensures { λ r. ⌜ Passes (now (counts .entry)) mode (now (list .entry)) replacements pairs (now (table .entry))
         (now (calls .entry)) (now (names .entry)) (now (marks .entry)) (now (eqs .entry))
         (now (calls .exit)) (now (names .exit)) (now (marks .exit)) (now (eqs .exit)) (now (counts .exit)) r ⌝ }
 {
     let p = pass(
         *counts,
+        mode,
         list,
         replacements,
         pairs,
@@ -88,6 +93,7 @@ pub fn pass_into(
 
 // A pass from no counts: the record is made here and lent, and what it then holds is answered.
 pub fn run(
+    mode: Mode,
     list: &[u32],
     replacements: usize,
     pairs: usize,
@@ -97,7 +103,7 @@ pub fn run(
     marks: &mut [u8],
     eqs: &mut [u32],
 ) -> Tally
-    ensures { λ r. ⌜ Passes nothing (now (list .entry)) replacements pairs (now (table .entry))
+    ensures { λ r. ⌜ Passes nothing mode (now (list .entry)) replacements pairs (now (table .entry))
         (now (calls .entry)) (now (names .entry)) (now (marks .entry)) (now (eqs .entry))
         (now (calls .exit)) (now (names .exit)) (now (marks .exit)) (now (eqs .exit)) (r .counts) (r .obligations) ⌝ }
 {
@@ -108,6 +114,7 @@ pub fn run(
     };
     let obligations = pass_into(
         &mut counts,
+        mode,
         list,
         replacements,
         pairs,

@@ -13,11 +13,11 @@ use Rattle.engine.specs.Call.{Name, Call}
 use Rattle.engine.specs.Call as c
 use Rattle.engine.specs.Encode.{decode, letterNumber, suffixNumber}
 use Rattle.engine.specs.WellFormed.{placeOf}
-use Rattle.design_list.specs.Read.{read, accepted}
+use Rattle.design_list.specs.Read.{accepted}
 use Rattle.smt.specs.Prog.{Age, curr, past, isUndef, isOne}
 use Rattle.smt.specs.Emit.{netName}
 use Rattle.requirement.specs.Requirement3.{declaredNames, IsDeclared, Declared}
-use Rattle.requirement.specs.Verified.{callWords, marks}
+use Rattle.requirement.specs.Verified.{readIn, callWords, marks}
 use Rattle.requirement.proofs.Required.{never-malformed}
 use Rattle.requirement.specs.Marks.{Marked}
 use Rattle.requirement.proofs.MarksLaws.{list-marked}
@@ -79,17 +79,19 @@ module _ {slots : ℕ} {recorded : List ℕ} {calls : List Call} (is : Marked sl
       ∙ fine-from more (slot + 1) (omega arith)
 
 -- The writer's answer for an accepted list: its script, or 15 at the room needed.
-pub list-scripted : (w : List ℕ) {d : Design} {reps pairs : ℕ} → read w ≡ accepted d reps pairs → (room : ℕ)
-    → written (callWords w) (marks w) room ≡ roomFor (length (scriptOf (callWords w) (marks w))) room
+pub list-scripted : (mode : ℕ) (w : List ℕ) {d : Design} {reps pairs : ℕ} → readIn mode w ≡ accepted d reps pairs →
+    (room : ℕ) → written (callWords mode w) (marks mode w) room
+    ≡ roomFor (length (scriptOf (callWords mode w) (marks mode w))) room
 unfolding written
-list-scripted w is room =
-    ap (λ (place : Option ℕ). onFormed place (marked (callWords w) (marks w) room)) (ap placeOf (never-malformed w is))
-    ∙ marked-fine (callWords w) (marks w) room
-    (fine-from (list-marked w is) (length (marks w)) 0 (omega arith)
-    ∙ marks-done (decode (callWords w)) (marks w) (length (marks w)) (omega arith))
+list-scripted mode w is room =
+    ap (λ (place : Option ℕ). onFormed place (marked (callWords mode w) (marks mode w) room))
+    (ap placeOf (never-malformed mode w is))
+    ∙ marked-fine (callWords mode w) (marks mode w) room
+    (fine-from (list-marked mode w is) (length (marks mode w)) 0 (omega arith)
+    ∙ marks-done (decode (callWords mode w)) (marks mode w) (length (marks mode w)) (omega arith))
 
 -- So for the words and the marks that `verify` leaves in the caller's slices: never 19, never 2.
-pub said-scripted : {w calls recorded : List ℕ} {r : Verified} {n : Counts} (s : Said w calls recorded r n) (room : ℕ)
-    → written (take (n .words) calls) (take (total (s .d)) recorded) room
-    ≡ roomFor (length (scriptOf (take (n .words) calls) (take (total (s .d)) recorded))) room
-said-scripted {w} s room = rw (s .words, s .marks) (list-scripted w (s .is) room)
+pub said-scripted : {mode : ℕ} {w calls recorded : List ℕ} {r : Verified} {n : Counts}
+    (s : Said mode w calls recorded r n) (room : ℕ) →
+    written (take (n .words) calls) (take (total (s .d)) recorded) room ≡ roomFor (length (scriptOf (take (n .words) calls) (take (total (s .d)) recorded))) room
+said-scripted {mode} {w} s room = rw (s .words, s .marks) (list-scripted mode w (s .is) room)

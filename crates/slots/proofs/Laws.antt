@@ -11,6 +11,7 @@ use lib.ListN.{length, getD, take, drop, length-map, List·getD-append, List·ge
 use lib.Seq.{sets, sets-eq, take-at}
 use lib.Dec.{ltb, eqb}
 use borrow.Author.Tests.{ltb-true, ltb-false, lt-ltb, le-ltb, ne-eqb}
+use Rattle.cell.specs.declared.Mode.{Mode}
 use Rattle.cell.specs.Cell.{outputLen, slotsOf, standing}
 use Rattle.cell.specs.Design.{Design, Placed, total, cellOf}
 use Rattle.cell.specs.Role.{role, isDff}
@@ -72,12 +73,12 @@ same-side d i c located apart = go (ltb (c .slot) (d .base)) refl
         sym (le-ltb i (d .base) (omega arith))
 
 -- ---- The table of an accepted list.
-module _ (w : List ℕ) {d : Design} {r p : ℕ} (accepts : read w ≡ accepted d r p) where
+module _ (mode : Mode) (w : List ℕ) {d : Design} {r p : ℕ} (accepts : read mode w ≡ accepted d r p) where
   laid : Laid d
-  laid = accepted-laid w accepts
+  laid = accepted-laid mode w accepts
 
   walk : Walk w (d .base) (total d) 0 4 (d .cells) r
-  walk = stages (accepted-read w accepts) .walk
+  walk = stages (accepted-read mode w accepts) .walk
 
   covered : length (covering (d .cells)) ≡ total d
   covered = walk-total walk
@@ -142,7 +143,7 @@ module _ (w : List ℕ) {d : Design} {r p : ℕ} (accepts : read w ≡ accepted 
 
   -- They are the first words of a slice that `slot_table` filled.
   pub table-tells :
-      (out : List ℕ) → total d ≤ length out → Tells d (take (total d) (tableAfter (read w) out))
+      (out : List ℕ) → total d ≤ length out → Tells d (take (total d) (tableAfter (read mode w) out))
   table-tells out enough =
       let size : length (slotWords (d .base) (d .cells)) ≡ total d = table-length in
       rw (

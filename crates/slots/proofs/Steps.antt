@@ -28,6 +28,6 @@ module _ {d : Design} {table : List ℕ} (tells : Tells d table) where
       ∷ withNew past (p .slot) (outputLen (p .cell)) (newCellIn (d .cellReps) (p .slot))))
       (sym (tells-past tells))
 
-  pub tells-pair-steps : (p : NetPair) → pairSteps (readsPast d) (pairOf d p) p
-      ≡ pairSteps (pastIn table) (pairOf d p) p
-  tells-pair-steps p = ap (λ (past : ℕ → Bool). pairSteps past (pairOf d p) p) (sym (tells-past tells))
+  pub tells-pair-steps : (p : NetPair) → pairSteps (readsPast d) (d .mode) (pairOf d p) p
+      ≡ pairSteps (pastIn table) (d .mode) (pairOf d p) p
+  tells-pair-steps p = ap (λ (past : ℕ → Bool). pairSteps past (d .mode) (pairOf d p) p) (sym (tells-past tells))

@@ -5,6 +5,7 @@ use Prim.Native.Nat.{ℕ, _-_, _≤_}
 use native.Mathlib.Omega.{arith}
 use lib.ListN.{length}
 use Rattle.logic.specs.Word.{numberWord}
+use Rattle.cell.specs.declared.Mode.{Mode}
 use Rattle.cell.specs.Design.{Design, total}
 use Rattle.right.specs.Valid.{Valid}
 use Rattle.fields.specs.declared.Number.{Number}
@@ -82,9 +83,9 @@ many-items step item k least at end read =
     climb-read (λ _ _ _ _. Unit {0}) item step (λ least at above next e. tt) k least at end read .many
 
 pub accepted-counts :
-    {w : List ℕ} {d : Design} {replacements pairs : ℕ} (is : IsAccepted w d replacements pairs) →
+    {mode : Mode} {w : List ℕ} {d : Design} {replacements pairs : ℕ} (is : IsAccepted mode w d replacements pairs) →
     (length (d .cellReps) ≡ is .header .cellreps) × (length (d .netReps) ≡ is .header .netreps)
-accepted-counts {w} {d} {replacements} {pairs} is =
+accepted-counts {mode} {w} {d} {replacements} {pairs} is =
     let step = replacementAt w (total d) (replaces (atSlot (d .cells)) (d .base)) in (
       ap length (is .reps-are) ∙
           many-items step (newCell w) (is .header .cellreps) 0 replacements pairs (is .reps-read),
@@ -93,16 +94,17 @@ accepted-counts {w} {d} {replacements} {pairs} is =
     )
 
 pub accepted-valid :
-    (w : List ℕ) {d : Design} {replacements pairs : ℕ} → read w ≡ accepted d replacements pairs → Valid d
-accepted-valid w e =
-    let is = accepted-read w e in
+    (mode : Mode) (w : List ℕ) {d : Design} {replacements pairs : ℕ} → read mode w ≡ accepted d replacements pairs →
+    Valid d
+accepted-valid mode w e =
+    let is = accepted-read mode w e in
     let head = header-is w (is .header-read) in
     let counts = accepted-counts is in
     record {
       slots = is .low;
       few-cells = rw (counts .0) (head .few-cells);
       few-nets = rw (counts .1) (head .few-nets);
-      bounds = accepted-bounds w e;
-      laid = accepted-laid w e;
-      voids = accepted-voids w e;
+      bounds = accepted-bounds mode w e;
+      laid = accepted-laid mode w e;
+      voids = accepted-voids mode w e;
     }

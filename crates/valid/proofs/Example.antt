@@ -5,6 +5,7 @@ use Prim.Native.Nat.{ℕ}
 use native.Mathlib.Omega.{arith}
 use Rattle.logic.specs.Word.{netWord, headWord, numberWord}
 use Rattle.logic.specs.Net.{slot}
+use Rattle.cell.specs.declared.Mode.the-variants.{Ported}
 use Rattle.cell.specs.Cell.{input, unary, not}
 use Rattle.cell.specs.Design.{Design, cellIn}
 use Rattle.right.specs.Valid.{Valid}
@@ -14,6 +15,7 @@ use Rattle.valid.proofs.TheoremLaws.{valid-read}
 
 abbrev pub example : Design
 example = record {
+  mode = Ported;
   base = 2;
   added = 0;
   cells = record { slot = 0; cell = input 1 } ∷ record { slot = 1; cell = unary not (slot 0 ∷ []) } ∷ [];
@@ -53,6 +55,6 @@ example-valid = record {
   voids = record { cells = (tt, (((λ _. refl), tt), tt)); newCells = tt; tos = ((λ _. refl), tt) };
 }
 
-pub example-read : read words ≡ accepted example 9 9
+pub example-read : read Ported words ≡ accepted example 9 9
 unfolding flatMap recordOf netWordOf
 example-read = valid-read example example-valid (omega arith)

@@ -9,6 +9,7 @@ use lib.ListN.{length}
 use lib.Dec.{ltb, leb}
 use Rattle.logic.specs.Word.{numberWord}
 use Rattle.logic.proofs.TableLaws.{as-tab, tab-ext}
+use Rattle.cell.specs.declared.Mode.{Mode}
 use Rattle.cell.specs.Design.{Placed, Design, total}
 use Rattle.cell.specs.declared.Operation.{Operation}
 use Rattle.fields.specs.declared.Number.{Number}
@@ -191,7 +192,7 @@ spans-same w words s =
     tab-ext (length words) _ _ (λ i low. rw zero-add) ∙ reads-tab (wordAt w) words 0 (s .reads)
 
 list-span :
-    {w : List ℕ} {d : Design} {replacements pairs : ℕ} → IsAccepted w d replacements pairs →
+    {mode : Mode} {w : List ℕ} {d : Design} {replacements pairs : ℕ} → IsAccepted mode w d replacements pairs →
     Spans w 0 (wordsOf d) (length w)
 unfolding cellsOf
 list-span {w} {d} {replacements} {pairs} is =
@@ -214,5 +215,6 @@ list-span {w} {d} {replacements} {pairs} is =
     spans-then _ _ header (spans-then _ _ cells (spans-then _ _ reps nets))
 
 pub accepted-same :
-    (w : List ℕ) {d : Design} {replacements pairs : ℕ} → read w ≡ accepted d replacements pairs → w ≡ wordsOf d
-accepted-same w {d} e = spans-same w (wordsOf d) (list-span (accepted-read w e))
+    (mode : Mode) (w : List ℕ) {d : Design} {replacements pairs : ℕ} → read mode w ≡ accepted d replacements pairs →
+    w ≡ wordsOf d
+accepted-same mode w {d} e = spans-same w (wordsOf d) (list-span (accepted-read mode w e))

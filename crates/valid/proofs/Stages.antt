@@ -116,7 +116,7 @@ module _
         length-append (wordsOfReplacements d) (wordsOfPairs d),
       )))
 
-  pub stands-read : length w ≡ length (wordsOf d) → read w ≡ accepted d (replacementsAt d) (pairsAt d)
+  pub stands-read : length w ≡ length (wordsOf d) → read (d .mode) w ≡ accepted d (replacementsAt d) (pairsAt d)
   unfolding read readCells readCellReps readNetReps
   stands-read same =
       rw (

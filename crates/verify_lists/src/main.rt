@@ -1,7 +1,7 @@
 // Replays the stored lists of the oracle, and those of docs/DIVISIONS.md, through `verify` (tests/verify_lists.py). An
-// accepted list is a word 0, its lengths D, C and M, then D words of the list, C call words and M marks, those of the
-// Rust or of that page; a refused one is a word 1, D, the fault's number and place, then D words. Each lent slice is
-// filled first, and compared whole. The last line counts the lists that are answered as stored.
+// accepted list is a word 0, the mode, its lengths D, C and M, then D words of the list, and of the oracle or that page
+// C call words and M marks; a refused one is a word 1, the mode, D, the fault's number and place, then D words. Each
+// lent slice is filled first, and compared whole. The last line counts the lists that are answered as stored.
 use builder::Counts;
 use libc::STDOUT_FILENO;
 use requirement::Verified;
@@ -91,6 +91,7 @@ fn counts_words(c: Counts, n: usize) -> bool {
 
 // Whether a list is accepted with the stored call words and marks.
 fn accepted_as_stored(
+    mode: u32,
     list: &[u32],
     stored: &[u32],
     words: usize,
@@ -99,7 +100,7 @@ fn accepted_as_stored(
 ) -> bool {
     let mut calls = [UNTOUCHED_WORD; 4096];
     let mut recorded = [UNTOUCHED_MARK; 4096];
-    let answer = design::verify(list, &mut calls, &mut recorded);
+    let answer = design::verify(mode, list, &mut calls, &mut recorded);
     if tells(answer, ends_in_check(stored, words), words) {
         if holds_words(&calls, stored, words) {
             return holds_marks(&recorded, stored_marks, slots);
@@ -109,10 +110,10 @@ fn accepted_as_stored(
 }
 
 // Whether a list is refused with the stored number and place, and both slices are untouched.
-fn refused_as_stored(list: &[u32], number: u32, place: u32) -> bool {
+fn refused_as_stored(mode: u32, list: &[u32], number: u32, place: u32) -> bool {
     let mut calls = [UNTOUCHED_WORD; 4096];
     let mut recorded = [UNTOUCHED_MARK; 4096];
-    match design::verify(list, &mut calls, &mut recorded) {
+    match design::verify(mode, list, &mut calls, &mut recorded) {
         Verified::Refused(f) => {
             if f.number == number {
                 if f.place == place as usize {
@@ -129,7 +130,7 @@ fn refused_as_stored(list: &[u32], number: u32, place: u32) -> bool {
 }
 
 // Replays an accepted list.
-fn replay_accepted() -> bool {
+fn replay_accepted(mode: u32) -> bool {
     let d = word_input::word_or_zero() as usize;
     let words = word_input::word_or_zero() as usize;
     let slots = word_input::word_or_zero() as usize;
@@ -140,30 +141,31 @@ fn replay_accepted() -> bool {
     word_input::load(&mut stored, words);
     word_input::load(&mut marks, slots);
     if d <= 4096 {
-        return accepted_as_stored(&list[..d], &stored, words, &marks, slots);
+        return accepted_as_stored(mode, &list[..d], &stored, words, &marks, slots);
     }
     false
 }
 
 // Replays a refused list.
-fn replay_refused() -> bool {
+fn replay_refused(mode: u32) -> bool {
     let d = word_input::word_or_zero() as usize;
     let number = word_input::word_or_zero();
     let place = word_input::word_or_zero();
     let mut list = [0u32; 4096];
     word_input::load(&mut list, d);
     if d <= 4096 {
-        return refused_as_stored(&list[..d], number, place);
+        return refused_as_stored(mode, &list[..d], number, place);
     }
     false
 }
 
 // Replays the next list of a kind.
 fn replay(kind: u32) -> bool {
+    let mode = word_input::word_or_zero();
     if kind == 0 {
-        return replay_accepted();
+        return replay_accepted(mode);
     }
-    replay_refused()
+    replay_refused(mode)
 }
 
 // The line of a list that is not answered as stored.

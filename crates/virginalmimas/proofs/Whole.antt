@@ -5,6 +5,7 @@ use Prim.Native.Nat.{_/_, _%_, _^_, ℕ}
 use native.Mathlib.Omega.{arith}
 use lib.ListN.{length}
 use Rattle.logic.specs.declared.Fault.{Fault}
+use Rattle.cell.specs.declared.Mode.{Mode}
 use Rattle.design_list.specs.Read.{refused, read, answer}
 use Rattle.refusals.specs.Small.{Small}
 use Rattle.refusals.proofs.SmallLaws.{read-small}
@@ -16,20 +17,21 @@ use Rattle.virginalmimas.specs.Packed.{packed, PackedVerified, PackedCou
 
 -- The packed answer of a refused list gives back the fault's number and place.
 pub packed-whole :
-    (w : List ℕ) {e : Fault} → read w ≡ refused e →
-    (packed (answer (read w)) / 2 ^ 48 ≡ e .number) × (packed (answer (read w)) % 2 ^ 48 ≡ e .place)
-packed-whole w {e} same =
-    let small : Small e = rw same at (read-small w) in
+    (mode : Mode) (w : List ℕ) {e : Fault} → read mode w ≡ refused e →
+    (packed (answer (read mode w)) / 2 ^ 48 ≡ e .number) × (packed (answer (read mode w)) % 2 ^ 48 ≡ e .place)
+packed-whole mode w {e} same =
+    let small : Small e = rw same at (read-small mode w) in
     rw same (omega (arith, small .0, small .1), omega (arith, small .0, small .1))
 
--- Of vm_verify: for every list and every two slices.
+-- Of vm_verify_mode, and so of vm_verify: for every mode, every list and every two slices.
 pub verify-whole :
-    {w calls recorded calls′ recorded′ : List ℕ} {r : ℕ} → PackedVerified w calls recorded calls′ recorded′ r →
-    Whole (verified w (length calls) (length recorded)) r
-verify-whole {w} {calls} {recorded} said = rw (said .answers) (verified-whole w (length calls) (length recorded))
+    {mode : ℕ} {w calls recorded calls′ recorded′ : List ℕ} {r : ℕ} →
+    PackedVerified mode w calls recorded calls′ recorded′ r → Whole (verified mode w (length calls) (length recorded)) r
+verify-whole {mode} {w} {calls} {recorded} said =
+    rw (said .answers) (verified-whole mode w (length calls) (length recorded))
 
--- Of vm_counts likewise.
+-- Of vm_counts_mode likewise.
 pub counts-whole :
-    (w : List ℕ) {before after : List ℕ} {r : ℕ} → PackedCounts w before after r →
-    Whole (lent (unroomed w) (length before)) r
-counts-whole w {before} said = rw (said .answers) (unroomed-whole w (length before))
+    (mode : ℕ) (w : List ℕ) {before after : List ℕ} {r : ℕ} → PackedCounts mode w before after r →
+    Whole (lent (unroomed mode w) (length before)) r
+counts-whole mode w {before} said = rw (said .answers) (unroomed-whole mode w (length before))

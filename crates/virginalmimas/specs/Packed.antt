@@ -1,5 +1,5 @@
--- Document 01, "Faults and what stays". The answers of the C interface for a design list, each packed into one word of
--- 64 bits, and what the slices hold.
+-- Document 01, "Faults and what stays", and document 02, change 7. The answers of the C interface for a design list,
+-- each packed into one word of 64 bits, and what the slices hold.
 use mathlib.Core.Path.{_≡_}
 use mathlib.Core.List.{List}
 use Prim.Native.Nat.{ℕ}
@@ -14,12 +14,12 @@ use Rattle.packed.specs.Verified.{packedVerified, Told}
 abbrev pub packed : DesignRead → ℕ
 packed a = packedAs (numberOf a) (valueOf a)
 
--- What the order of work answers, packed, and what it leaves in the two slices.
-pub record PackedVerified (list calls recorded calls′ recorded′ : List ℕ) (r : ℕ) : Type 0 where
-  pub answers : r ≡ packedVerified (verified list (length calls) (length recorded))
-  pub writes : calls′ ≡ callsAfter list calls recorded
-  pub marks : recorded′ ≡ recordedAfter list calls recorded
+-- What the order of work answers in a mode, packed, and what it leaves in the two slices.
+pub record PackedVerified (mode : ℕ) (list calls recorded calls′ recorded′ : List ℕ) (r : ℕ) : Type 0 where
+  pub answers : r ≡ packedVerified (verified mode list (length calls) (length recorded))
+  pub writes : calls′ ≡ callsAfter mode list calls recorded
+  pub marks : recorded′ ≡ recordedAfter mode list calls recorded
 
 -- What it answers where the slices have room enough, told with its counts.
-abbrev pub PackedCounts : List ℕ → List ℕ → List ℕ → ℕ → Type 0
-PackedCounts list = Told (unroomed list)
+abbrev pub PackedCounts : ℕ → List ℕ → List ℕ → List ℕ → ℕ → Type 0
+PackedCounts mode list = Told (unroomed mode list)

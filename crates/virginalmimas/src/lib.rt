@@ -1,6 +1,7 @@
 // The C interface: each entry over slices of words, its answer packed into a number.
 use design_list::DesignRead;
 ghost use mathlib.Core.Path.{_≡_};
+ghost use Rattle.cell.specs.declared.Mode.the-variants.{Ported};
 ghost use Rattle.design_list.specs.Read.{read, answer};
 ghost use Rattle.virginalmimas.specs.Packed.{packed, PackedVerified, PackedCounts};
 ghost use Rattle.packed_calls.specs.Packed.{PackedCheck, checkedOf, PackedEvaluation, PackedScript, PackedAnswer};
@@ -8,7 +9,7 @@ ghost use Rattle.packed_calls.specs.Packed.{PackedCheck, checkedOf, PackedEvalu
 // Reads a design list: the fault's number and place, or 0 and the number of slots.
 #[no_mangle]
 pub extern "C" fn vm_read(list: &[u32]) -> u64
-    ensures { λ r. ⌜ r ≡ packed (answer (read (now (list .entry)))) ⌝ }
+    ensures { λ r. ⌜ r ≡ packed (answer (read Ported (now (list .entry)))) ⌝ }
 {
     match design_list::read_design(list) {
         DesignRead::Refused(f) => packing::packed_fault(f),
@@ -16,23 +17,46 @@ pub extern "C" fn vm_read(list: &[u32]) -> u64
     }
 }
 
-// Verifies a design list: its calls go into the one slice and the marks of its recorded slots into the other. The
-// fault's number and place, or 0 and the number of call words, with bit 47 set where something is asked.
+// Verifies a design list in mode 0, the ported one: its calls go into the one slice and the marks of its recorded slots
+// into the other. The fault's number and place, or 0 and the number of call words, with bit 47 set where something is
+// asked.
 #[no_mangle]
 pub extern "C" fn vm_verify(list: &[u32], calls: &mut [u32], recorded: &mut [u8]) -> u64
-    ensures { λ r. ⌜ PackedVerified (now (list .entry)) (now (calls .entry)) (now (recorded .entry))
+    ensures { λ r. ⌜ PackedVerified 0 (now (list .entry)) (now (calls .entry)) (now (recorded .entry))
         (now (calls .exit)) (now (recorded .exit)) r ⌝ }
 {
-    packed::packed_verified(design::verify(list, calls, recorded))
+    vm_verify_mode(0, list, calls, recorded)
+}
+
+// The same in a mode, by its number; another than 0 or 1 is 23 at 0.
+#[no_mangle]
+pub extern "C" fn vm_verify_mode(
+    mode: u32,
+    list: &[u32],
+    calls: &mut [u32],
+    recorded: &mut [u8],
+) -> u64
+    ensures { λ r. ⌜ PackedVerified mode (now (list .entry)) (now (calls .entry)) (now (recorded .entry))
+        (now (calls .exit)) (now (recorded .exit)) r ⌝ }
+{
+    packed::packed_verified(design::verify(mode, list, calls, recorded))
 }
 
 // What a design list's calls would come to: the answer of vm_verify where the slices have room enough, and the
 // numbers of terms, temporaries and call words in front of a slice.
 #[no_mangle]
 pub extern "C" fn vm_counts(list: &[u32], counts: &mut [u64]) -> u64
-    ensures { λ r. ⌜ PackedCounts (now (list .entry)) (now (counts .entry)) (now (counts .exit)) r ⌝ }
+    ensures { λ r. ⌜ PackedCounts 0 (now (list .entry)) (now (counts .entry)) (now (counts .exit)) r ⌝ }
 {
-    packed::told(design::counts(list), counts)
+    vm_counts_mode(0, list, counts)
+}
+
+// The same of vm_verify_mode.
+#[no_mangle]
+pub extern "C" fn vm_counts_mode(mode: u32, list: &[u32], counts: &mut [u64]) -> u64
+    ensures { λ r. ⌜ PackedCounts mode (now (list .entry)) (now (counts .entry)) (now (counts .exit)) r ⌝ }
+{
+    packed::told(design::counts(mode, list), counts)
 }
 
 // Checks a call list: the fault's number and place, or 0 and the number of terms; the numbers of terms and of declared

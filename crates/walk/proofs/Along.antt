@@ -6,6 +6,7 @@ use mathlib.Core.List.{List}
 use Prim.Native.Nat.{ℕ, _+_, _%_, _≤_, _<_, max}
 use native.Mathlib.Omega.{arith}
 use lib.ListN.{length}
+use Rattle.cell.specs.declared.Mode.{Mode}
 use Rattle.cell.specs.Design.{Design, total}
 use Rattle.cell_reader.specs.Parse.{cellAt, endAt}
 use Rattle.design_list.specs.Read.{read, accepted}
@@ -29,13 +30,13 @@ pub record Along (d : Design) (w table : List ℕ) (replacements pairs slot at r
   pub left : Left (eachCell d (d .cells)) (eachCell d (place .cells)) calls₀ names₀ marks₀ eqs₀ s₀ calls names marks eqs
       s
 
-module _ (w : List ℕ) {table : List ℕ} {d : Design} {replacements pairs : ℕ}
-    (accepts : read w ≡ accepted d replacements pairs) (tells : Tells d table) where
+module _ (mode : Mode) (w : List ℕ) {table : List ℕ} {d : Design} {replacements pairs : ℕ}
+    (accepts : read mode w ≡ accepted d replacements pairs) (tells : Tells d table) where
   pub along-start : (calls names marks eqs : List ℕ) (s : Walked)
       → Along d w table replacements pairs 0 4 replacements calls names marks eqs s calls names marks eqs s
   unfolding place-start
   along-start calls names marks eqs s =
-      record { place = place-start w accepts tells; left = left-start _ calls names marks eqs s }
+      record { place = place-start mode w accepts tells; left = left-start _ calls names marks eqs s }
 
   pub along-turn : {slot at rep : ℕ}
       {calls₀ names₀ marks₀ eqs₀ calls names marks eqs calls₁ names₁ marks₁ eqs₁ : List ℕ} {s₀ s s₁ : Walked}
@@ -46,7 +47,7 @@ module _ (w : List ℕ) {table : List ℕ} {d : Design} {replacements pairs : �
       → Along d w table replacements pairs (slot + max 1 (widthIn table slot)) (endAt w at) (repAfter w pairs rep slot)
       calls₀ names₀ marks₀ eqs₀ s₀ calls₁ names₁ marks₁ eqs₁ s₁
   along-turn {slot} {at} {rep} along inside does =
-      let turn = cell-turn w accepts tells (along .place) inside in
+      let turn = cell-turn mode w accepts tells (along .place) inside in
       record {
         place = turn .next;
         left = left-turn (stepsAt (pastIn table) slot (widthIn table slot) (cellAt w at) (newAt w pairs rep slot))
@@ -69,10 +70,10 @@ module _ (w : List ℕ) {table : List ℕ} {d : Design} {replacements pairs : �
       → Along d w table replacements pairs (index + k) at₁ rep₁ calls₀ names₀ marks₀ eqs₀ s₀ calls₁ names₁ marks₁ eqs₁
       s₁
   along-step {index} {number} {k} {at} {at₁} {rep} {rep₁} along inside same does next after size =
-      let here = here-cell w accepts tells (along .place) inside in
+      let here = here-cell mode w accepts tells (along .place) inside in
       let last = here .after in
       let is : number ≡ index = omega arith in
-      let new = here-new w accepts tells (along .place) in
+      let new = here-new mode w accepts tells (along .place) in
       let low = here .narrow in
       let step = rw is at (does (here .readable) (rw is new) (rw is low) (rw is (omega arith))) in
       rw (rw is at size, next (here .readable .inside), rw is at (after (rw is new))) (along-turn along inside step)
@@ -81,19 +82,20 @@ module _ (w : List ℕ) {table : List ℕ} {d : Design} {replacements pairs : �
       → Along d w table replacements pairs slot at rep calls₀ names₀ marks₀ eqs₀ s₀ calls names marks eqs s →
       total d ≤ slot
       → Does (eachCell d (d .cells)) calls₀ names₀ marks₀ eqs₀ s₀ calls names marks eqs s
-  along-end along past = left-end (rw (cells-end w accepts tells (along .place) past) at (along .left))
+  along-end along past = left-end (rw (cells-end mode w accepts tells (along .place) past) at (along .left))
 
 -- The cells and then the net replacements are the whole order of work, and the obligations' terms stand first in the
 -- table.
-pub works : (w : List ℕ) {d : Design} {replacements pairs : ℕ} → read w ≡ accepted d replacements pairs
-    → {calls names marks eqs calls₁ names₁ marks₁ eqs₁ calls₂ names₂ marks₂ eqs₂ : List ℕ} {c : Counts} {s₁ s₂ : Walked}
+pub works : (mode : Mode) (w : List ℕ) {d : Design} {replacements pairs : ℕ} →
+    read mode w ≡ accepted d replacements pairs →
+    {calls names marks eqs calls₁ names₁ marks₁ eqs₁ calls₂ names₂ marks₂ eqs₂ : List ℕ} {c : Counts} {s₁ s₂ : Walked}
     → Does (eachCell d (d .cells)) calls names marks eqs (record { counts = c; obligations = 0 }) calls₁ names₁ marks₁
     eqs₁ s₁
     → Does (eachPair d (d .netReps)) calls₁ names₁ marks₁ eqs₁ s₁ calls₂ names₂ marks₂ eqs₂ s₂
     → Works d calls names marks eqs c calls₂ names₂ marks₂ eqs₂ s₂
-works w {d} accepts {eqs = eqs} cells pairs =
+works mode w {d} accepts {eqs = eqs} cells pairs =
     let whole = does-append (eachCell d (d .cells)) (eachPair d (d .netReps)) cells pairs in
-    let few : obligedIn (steps d) ≤ mostObligations d = obligations-few w accepts in
+    let few : obligedIn (steps d) ≤ mostObligations d = obligations-few mode w accepts in
     let many = whole .many in
     record {
       terms = whole .terms;

@@ -8,6 +8,7 @@ use Prim.Native.Nat.{ℕ, _+_, _≤_, _<_, max}
 use native.Mathlib.Omega.{arith}
 use native.Mathlib.Decide.{ℕ-discrete}
 use borrow.Author.Tests.{eq-eqb, ne-eqb, lt-ltb, le-ltb}
+use Rattle.cell.specs.declared.Mode.{Mode}
 use Rattle.cell.specs.Cell.{Cell, outputLen, slotsOf}
 use Rattle.cell.specs.Design.{Design, Placed, total}
 use Rattle.cell.specs.declared.Operation.{Operation}
@@ -158,12 +159,12 @@ pub record Here (w table : List ℕ) (slot at : ℕ) : Type 0 where
   pub narrow : widthIn table slot ≤ 64
   pub after : slot + max 1 (widthIn table slot) ≤ 4096
 
-module _ (w : List ℕ) {table : List ℕ} {d : Design} {replacements pairs : ℕ}
-    (accepts : read w ≡ accepted d replacements pairs) (tells : Tells d table) where
+module _ (mode : Mode) (w : List ℕ) {table : List ℕ} {d : Design} {replacements pairs : ℕ}
+    (accepts : read mode w ≡ accepted d replacements pairs) (tells : Tells d table) where
   unfoldable pub place-start : Place d w table replacements pairs 0 4 replacements
   place-start =
-      let all = stages (accepted-read w accepts) in
-      let laid = accepted-laid w accepts in
+      let all = stages (accepted-read mode w accepts) in
+      let laid = accepted-laid mode w accepts in
       record {
         cells = d .cells;
         walk = all .walk;
@@ -189,7 +190,7 @@ module _ (w : List ℕ) {table : List ℕ} {d : Design} {replacements pairs : �
       record {
         readable = readable rec;
         narrow = let low = rec .low-width in omega arith;
-        after = let ends = is .ends in let low = accepted-read w accepts .low in omega arith;
+        after = let ends = is .ends in let low = accepted-read mode w accepts .low in omega arith;
       }
 
   pub here-cell : {slot at rep : ℕ} → Place d w table replacements pairs slot at rep → slot < total d →

@@ -9,6 +9,8 @@ use native.Mathlib.Omega.{arith}
 use lib.Dec.{eqb}
 use lib.ListN.{length, take}
 use lib.Seq.{sets-eq, take-at}
+use Rattle.cell.specs.declared.Mode.{Mode}
+use Rattle.cell.specs.declared.Mode.the-variants.{Ported, Inductive}
 use Rattle.cell.specs.Cell.{Cell, outputLen, slotsOf}
 use Rattle.cell.specs.Design.{Design, Placed, NetPair, total}
 use Rattle.right.specs.Laid.{Run}
@@ -53,12 +55,13 @@ cell-obliges past slot width a new = go (eqb width 0) new
         let few = more new in
         omega arith
 
-pair-obliges : (past : ℕ → Bool) (kind : Pair) (p : NetPair) → obligedIn (pairSteps past kind p) ≤ 2
+pair-obliges : (past : ℕ → Bool) (mode : Mode) (kind : Pair) (p : NetPair) → obligedIn (pairSteps past mode kind p) ≤ 2
 unfolding obligedIn
-pair-obliges past equal p = omega arith
-pair-obliges past ofVoid p = omega arith
-pair-obliges past ofDffs p = omega arith
-pair-obliges past ordinary p = omega arith
+pair-obliges past mode equal p = omega arith
+pair-obliges past mode ofVoid p = omega arith
+pair-obliges past Ported ofDffs p = omega arith
+pair-obliges past Inductive ofDffs p = omega arith
+pair-obliges past mode ordinary p = omega arith
 
 cells-oblige : (d : Design) (cells : List Placed) → obligedIn (eachCell d cells) ≤ length cells
 unfolding obligedIn eachCell
@@ -73,9 +76,9 @@ pairs-oblige : (d : Design) (pairs : List NetPair) → obligedIn (eachPair d pai
 unfolding obligedIn eachPair
 pairs-oblige d [] = omega arith
 pairs-oblige d (p ∷ pairs) =
-    let first = pair-obliges (readsPast d) (pairOf d p) p in
+    let first = pair-obliges (readsPast d) (d .mode) (pairOf d p) p in
     let more = pairs-oblige d pairs in
-    rw (obliged-append (pairSteps (readsPast d) (pairOf d p) p) (eachPair d pairs)) (omega arith)
+    rw (obliged-append (pairSteps (readsPast d) (d .mode) (pairOf d p) p) (eachPair d pairs)) (omega arith)
 
 -- ---- how many cells and pairs
 
@@ -110,10 +113,11 @@ header-pairs w {h} read = base-read (numberAt w 4096 4 0) read
     base-read (N.Refused f) e = let z : _≡_ {A = ℕ} 0 1 = cc in absurd (omega arith)
     base-read (N.Value base next) e = added-read base (numberAt w (4096 - base) 4 1) e
 
-module _ (w : List ℕ) {d : Design} {replacements pairs : ℕ} (accepts : read w ≡ accepted d replacements pairs) where
+module _ (mode : Mode) (w : List ℕ) {d : Design} {replacements pairs : ℕ}
+    (accepts : read mode w ≡ accepted d replacements pairs) where
   pub obligations-few : obligedIn (steps d) ≤ mostObligations d
   obligations-few =
-      let cells = run-length 0 (total d) (d .cells) (accepted-laid w accepts .run) in
+      let cells = run-length 0 (total d) (d .cells) (accepted-laid mode w accepts .run) in
       let first = cells-oblige d (d .cells) in
       let then = pairs-oblige d (d .netReps) in
       rw (obliged-append (eachCell d (d .cells)) (eachPair d (d .netReps))) (omega arith)
@@ -121,7 +125,7 @@ module _ (w : List ℕ) {d : Design} {replacements pairs : ℕ} (accepts : read 
   -- At most 4,096 slots and as many net replacements.
   pub most-low : mostObligations d ≤ 12288
   most-low =
-      let is = accepted-read w accepts in
+      let is = accepted-read mode w accepts in
       let slots = is .low in
       let run =
       climb-read (IsPair w (total d)) (netPair w) (pairAt w (total d)) (pair-read w (total d)) (is .header .netreps)

@@ -1,12 +1,14 @@
 // `Design::verify` of design.rs: the order of work of an accepted list, as one walk over its words, cells first and
 // then net replacements.
 use builder::Counts;
+use cell::Mode;
 use logic::Slot;
 use net_pairs::Walked;
 ghost use mathlib.Core.Path.{_≡_};
 ghost use Prim.Native.Nat.{_<_, max};
 ghost use lib.ListN.{length};
 ghost use Rattle.cell.specs.Design.{Design, total};
+ghost use Rattle.cell.specs.declared.Mode as declared;
 ghost use Rattle.design_list.specs.Read.{read, accepted};
 ghost use Rattle.order.specs.Verify.{eachCell};
 ghost use Rattle.slots.specs.Tells.{widthIn, Tells};
@@ -34,7 +36,7 @@ fn verify_cells(
     eqs: &mut [u32],
     start: Walked,
 ) -> Walked
-    ensures { λ r. ⌜ ((d : Design) → read (now (list .entry)) ≡ accepted d replacements end
+    ensures { λ r. ⌜ ((mode : declared.Mode) (d : Design) → read mode (now (list .entry)) ≡ accepted d replacements end
         → Tells d (now (table .entry)) → length (now (table .entry)) ≡ total d → Does (eachCell d (d .cells))
         (now (calls .entry)) (now (names .entry)) (now (marks .entry)) (now (eqs .entry)) start
         (now (calls .exit)) (now (names .exit)) (now (marks .exit)) (now (eqs .exit)) r) ⌝ }
@@ -56,6 +58,7 @@ fn verify_cells(
 // The loops of `Design::verify`: the calls of every cell in slot order, then of the net replacements; the terms of the
 // obligations stand in a lent table.
 pub fn work(
+    mode: Mode,
     list: &[u32],
     replacements: usize,
     pairs: usize,
@@ -66,7 +69,7 @@ pub fn work(
     eqs: &mut [u32],
     c: Counts,
 ) -> Walked
-    ensures { λ r. ⌜ ((d : Design) → read (now (list .entry)) ≡ accepted d replacements pairs
+    ensures { λ r. ⌜ ((d : Design) → read mode (now (list .entry)) ≡ accepted d replacements pairs
         → Tells d (now (table .entry)) → length (now (table .entry)) ≡ total d → Works d
         (now (calls .entry)) (now (names .entry)) (now (marks .entry)) (now (eqs .entry)) c
         (now (calls .exit)) (now (names .exit)) (now (marks .exit)) (now (eqs .exit)) r) ⌝ }
@@ -86,5 +89,5 @@ pub fn work(
         eqs,
         start,
     );
-    net_pairs::replace_pairs(list, pairs, table, calls, names, marks, eqs, cells)
+    net_pairs::replace_pairs(mode, list, pairs, table, calls, names, marks, eqs, cells)
 }

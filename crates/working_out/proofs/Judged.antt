@@ -8,11 +8,12 @@ use lib.Dec.{T, eqb}
 use lib.ListN.{length, length-map}
 use Rattle.logic.proofs.TableLaws.{length-tab}
 use Rattle.logic.specs.declared.Trit.{Trit}
+use Rattle.cell.specs.declared.Mode.{Mode}
 use Rattle.cell.specs.Cell.{Cell, outputLen}
 use Rattle.cell.specs.Cell as c
 use Rattle.cell.specs.Design.{Design, Placed, NetPair}
 use Rattle.cell.specs.Each.{Each}
-use Rattle.cell.proofs.EachLaws.{each-append}
+use Rattle.cell.proofs.EachLaws.{each-append, each-ported}
 use Rattle.right.specs.Laid.{Laid, CellLaid, Replaces, MayReplace}
 use Rattle.rules.specs.Trits.{refines}
 use Rattle.rules.specs.Refine.{Refine, empty, both}
@@ -21,7 +22,7 @@ use Rattle.rules.proofs.CellRuleLaws.{cellRule-length}
 use Rattle.working_out.proofs.OrderLaws.{true-of, not-false}
 use Rattle.working_out.specs.Reading.{readsPast, Pair, equal, ofVoid, ofDffs, ordinary, pairOf}
 use Rattle.working_out.specs.Obligations.{Obligation, cell, cellObligations, ofPair, netObligations, obligations}
-use Rattle.working_out.specs.Obligations.{fromOf, toOf, allRefine, broken}
+use Rattle.working_out.specs.Obligations.{asRead, fromOf, toOf, allRefine, broken}
 
 both-true : (a b : Bool) → (a && b) ≡ true → T a × (b ≡ true)
 both-true true b e = (tt, e)
@@ -78,13 +79,14 @@ module _ (d : Design) (θ : Trits) where
   unfolding netObligations
   nets-fit [] = tt
   nets-fit (p ∷ pairs) =
-      each-append (Fits d θ) (ofPair (pairOf d p) p) (netObligations d pairs) (here (pairOf d p)) (nets-fit pairs)
+      each-append (Fits d θ) (ofPair (d .mode) (pairOf d p) p) (netObligations d pairs) (here (d .mode) (pairOf d p))
+      (nets-fit pairs)
     where
-      here : (k : Pair) → Each (Fits d θ) (ofPair k p)
-      here equal = tt
-      here ofVoid = tt
-      here ofDffs = (refl, (refl, tt))
-      here ordinary = (refl, tt)
+      here : (mode : Mode) (k : Pair) → Each (Fits d θ) (ofPair mode k p)
+      here mode equal = tt
+      here mode ofVoid = tt
+      here mode ofDffs = (refl, each-ported (Fits d θ) mode (asRead p ∷ []) (refl, tt))
+      here mode ordinary = (refl, tt)
 
   pub obligations-fit : Laid d → Each (Fits d θ) (obligations d)
   obligations-fit laid =

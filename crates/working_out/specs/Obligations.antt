@@ -1,10 +1,13 @@
--- Document 01, "Reading nets": the obligations, in the Rust's order, and when one is broken.
+-- Document 01, "Reading nets": the obligations, in the Rust's order, and when one is broken. Document 02, change 7:
+-- "Obligations in the mission are those of the chosen mode".
 use mathlib.Core.Bool.{Bool, true, false, not, cond, _&&_}
 use mathlib.Core.List.{List, [], _∷_, _++_, map}
 use lib.Dec.{eqb}
 use Rattle.logic.specs.declared.Trit.{Trit}
 use Rattle.cell.specs.Cell.{outputLen}
 use Rattle.cell.specs.Design.{Design, Placed, NetPair}
+use Rattle.cell.specs.declared.Mode.{Mode}
+use Rattle.cell.specs.Mode.{portedOnly}
 use Rattle.rules.specs.Trits.{refines}
 use Rattle.rules.specs.CellRule.{Trits, ofNet, outputs, read}
 use Rattle.working_out.specs.Reading.{readsPast, Pair, equal, ofVoid, ofDffs, ordinary, pairOf}
@@ -23,20 +26,21 @@ unfoldable pub cellObligations : List Placed → List Obligation
 cellObligations [] = []
 cellObligations (p ∷ reps) = cond (eqb (outputLen (p .cell)) 0) [] (cell p ∷ []) ++ cellObligations reps
 
--- A Dff's net replaced by a Dff's obliges current to current, then makes the ordinary obligation too.
-abbrev pub ofDffPair : NetPair → List Obligation
-ofDffPair p = current p ∷ asRead p ∷ []
+-- A Dff's net replaced by a Dff's obliges current to current, then, in the ported mode, makes the ordinary obligation
+-- too.
+abbrev pub ofDffPair : Mode → NetPair → List Obligation
+ofDffPair mode p = current p ∷ portedOnly mode (asRead p ∷ [])
 
 -- Equal nets count as none; a Void's net replacement is asserted, and makes none.
-abbrev pub ofPair : Pair → NetPair → List Obligation
-ofPair equal p = []
-ofPair ofVoid p = []
-ofPair ofDffs p = ofDffPair p
-ofPair ordinary p = asRead p ∷ []
+abbrev pub ofPair : Mode → Pair → NetPair → List Obligation
+ofPair mode equal p = []
+ofPair mode ofVoid p = []
+ofPair mode ofDffs p = ofDffPair mode p
+ofPair mode ordinary p = asRead p ∷ []
 
 unfoldable pub netObligations : Design → List NetPair → List Obligation
 netObligations d [] = []
-netObligations d (p ∷ pairs) = ofPair (pairOf d p) p ++ netObligations d pairs
+netObligations d (p ∷ pairs) = ofPair (d .mode) (pairOf d p) p ++ netObligations d pairs
 
 abbrev pub obligations : Design → List Obligation
 obligations d = cellObligations (d .cellReps) ++ netObligations d (d .netReps)

@@ -1,68 +1,30 @@
--- `design::counts` meets its contract: what `slot_table` refuses is refused, and an accepted list is told by a dry run.
+-- `design::counts` meets its contract: a number that is no mode is refused, any other is the number of its mode.
 -- Assumes nothing.
 use borrow.Author.Needs.{needs}
-use mathlib.Core.Path.{_≡_, _∙_}
-use native.Mathlib.Omega.{arith}
-use Prim.Native.Nat.{ℕ}
-use lib.ListN.{length, replicate, length-replicate}
-use Rattle.design.proofs.Verifies.{taken-count, slots-low, ready-of, refused-unroomed, told-unroomed}
+use mathlib.Core.Path.{sym, _∙_}
+use Rattle.cell.proofs.Modes.{chosen-number}
+use Rattle.design.proofs.Verifies.{unknown-unroomed}
 use Rattle.design.proofs.counts.Statement.{statement}
 use Rattle.design.proofs.counts.Tie as tie
 
-zeros : length {A = ℕ} (replicate 4096 0) ≡ 4096
-zeros = length-replicate {A = ℕ} 4096 0
-
-add-slots : tie.Need-add-slots
-add-slots c =
-    let filled = c .before .before in
-    let tabled = filled .before .before .before in
-    omega (arith, slots-low _ zeros (tabled .slot-table .ensures) (filled .x .given .1))
-
-slots-fit : tie.Need-array-share-prefix-table
-slots-fit c =
-    let filled = c .before .before in
-    let tabled = filled .before .before .before in
-    omega (
-      arith,
-      slots-low _ zeros (tabled .slot-table .ensures) (filled .x .given .1),
-      tabled .slot-table .kept .1 .0 ∙ zeros,
-    )
-
-slots-count : tie.Need-slice-aggregate-count-read
-slots-count c =
-    let filled = c .before .before .before in
-    let tabled = filled .before .before .before in
-    taken-count _ _
-    (omega (
-      arith,
-      slots-low _ zeros (tabled .slot-table .ensures) (filled .x .given .1),
-      tabled .slot-table .kept .1 .0 ∙ zeros,
-    ))
-
-count-read-requires : tie.Need-count-read-requires
-count-read-requires c κs =
-    let filled = c .before .before .before in
-    let tabled = filled .before .before .before in
-    ready-of _ zeros (tabled .slot-table .ensures) (filled .x .given .1) (tabled .slot-table .kept .1 .0 ∙ zeros)
-
 returns : tie.Need-returns
 returns c =
-    let refused = c .before in
-    let tabled = refused .before .before .before in
-    refused-unroomed _ zeros (tabled .slot-table .ensures) (refused .f .given .1)
+    let told = c .before in
+    let chosen = told .before .before in
+    c .no-mode .ensures
+    ∙ unknown-unroomed _ (sym (chosen .mode-of .ensures) ∙ told .enum-told .given .1) _
 
 returns-2 : tie.Need-returns-2
 returns-2 c =
-    let counted = c .before in
-    let filled = counted .before .before .before .before in
-    let tabled = filled .before .before .before in
-    let ready =
-    ready-of _ zeros (tabled .slot-table .ensures) (filled .x .given .1) (tabled .slot-table .kept .1 .0 ∙ zeros) in
-    c .told .ensures ∙ told-unroomed ready (counted .count-read .ensures ready)
+    let known = c .before .before in
+    let chosen = known .before .before in
+    let start = chosen .before .before in
+    rw (chosen-number (start .args .mode) _ (sym (chosen .mode-of .ensures) ∙ known .known .given .1))
+    (c .count-list .ensures)
 
 pub counts-spec : {M : Type 1} → statement M
 counts-spec =
     tie.close
     (tie.spec
-    (λ c. search needs) (λ c κs. search needs) (λ c. search needs) (λ c. search needs) add-slots slots-fit
-    slots-count count-read-requires (λ c κs. search needs) returns returns-2)
+    (λ c κs. search needs) (λ c. search needs) (λ c κs. search needs) (λ c. search needs) (λ c κs. search needs)
+    returns returns-2)

@@ -10,7 +10,7 @@ returns c =
     let ran = c .before .before .before .before .before .before .before .before in
     let start = ran .before .before .before .before .before .before .before .before .before .before .before in
     λ ready.
-    passes ready (start .good .1 .1 .1 .0 .0) (start .pre .1) (start .pre .2 ready)
+    passes ready (start .good .1 .1 .1 .1 .0 .0) (start .pre .1) (start .pre .2 ready)
     (ran .run .ensures (ready .d) (ready .is) (ready .tells) (ready .size))
 
 pub pass-spec : {M : Type 1} → statement M

@@ -1,59 +1,31 @@
--- `design::verify` meets its contract: what `slot_table` refuses is refused, and an accepted list is verified with its
--- table. Assumes nothing.
+-- `design::verify` meets its contract: a number that is no mode is refused, any other is the number of its mode.
+-- Assumes nothing.
 use borrow.Author.Needs.{needs}
-use mathlib.Core.Path.{_∙_}
-use native.Mathlib.Omega.{arith}
-use Prim.Native.Nat.{ℕ}
-use lib.ListN.{length-replicate}
-use Rattle.design.proofs.Verifies.{taken-count, slots-low, ready-of, refused-of}
+use mathlib.Core.Path.{sym, _∙_}
+use Rattle.cell.proofs.Modes.{chosen-number}
+use Rattle.design.proofs.Verifies.{unknown-verifies}
 use Rattle.design.proofs.verify.Statement.{statement}
 use Rattle.design.proofs.verify.Tie as tie
 
-add-slots : tie.Need-add-slots
-add-slots c =
-    let filled = c .before .before in
-    let tabled = filled .before .before .before in
-    omega (arith, slots-low _ (length-replicate {A = ℕ} 4096 0) (tabled .slot-table .ensures) (filled .x .given .1))
-
-slots-fit : tie.Need-array-share-prefix-table
-slots-fit c =
-    let filled = c .before .before in
-    let tabled = filled .before .before .before in
-    omega (
-      arith,
-      slots-low _ (length-replicate {A = ℕ} 4096 0) (tabled .slot-table .ensures) (filled .x .given .1),
-      tabled .slot-table .kept .1 .0 ∙ length-replicate {A = ℕ} 4096 0,
-    )
-
-slots-count : tie.Need-slice-aggregate-verify-read
-slots-count c =
-    let filled = c .before .before .before in
-    let tabled = filled .before .before .before in
-    taken-count _ _
-    (omega (
-      arith,
-      slots-low _ (length-replicate {A = ℕ} 4096 0) (tabled .slot-table .ensures) (filled .x .given .1),
-      tabled .slot-table .kept .1 .0 ∙ length-replicate {A = ℕ} 4096 0,
-    ))
-
-verify-read-requires : tie.Need-verify-read-requires
-verify-read-requires c κs =
-    let filled = c .before .before .before .before .before in
-    let tabled = filled .before .before .before in
-    ready-of _ (length-replicate {A = ℕ} 4096 0) (tabled .slot-table .ensures) (filled .x .given .1)
-    (tabled .slot-table .kept .1 .0 ∙ length-replicate {A = ℕ} 4096 0)
-
 returns : tie.Need-returns
 returns c =
-    let refused = c .before in
-    let tabled = refused .before .before .before in
-    let start = tabled .before .before .before .before .before in
-    refused-of _ (length-replicate {A = ℕ} 4096 0) (tabled .slot-table .ensures) (start .args .calls .now)
-    (start .args .recorded .now) (refused .f .given .1)
+    let told = c .before in
+    let chosen = told .before .before in
+    rw (c .no-mode .ensures)
+    (unknown-verifies _ (sym (chosen .mode-of .ensures) ∙ told .enum-told .given .1) _ _ _)
+
+returns-2 : tie.Need-returns-2
+returns-2 c =
+    let verified = c .before .before .before .before in
+    let known = verified .before .before .before .before in
+    let chosen = known .before .before in
+    let start = chosen .before .before .before .before in
+    rw (chosen-number (start .args .mode) _ (sym (chosen .mode-of .ensures) ∙ known .known .given .1))
+    (verified .verify-list .ensures)
 
 pub verify-spec : {M : Type 1} → statement M
 verify-spec =
     tie.close
     (tie.spec
-    (λ c. search needs) (λ c κs. search needs) (λ c. search needs) (λ c. search needs) add-slots slots-fit
-    slots-count verify-read-requires returns (λ c. search needs) (λ c. search needs) (λ c. search needs))
+    (λ c κs. search needs) (λ c. search needs) (λ c κs. search needs) (λ c. search needs) (λ c κs. search needs)
+    returns (λ c. search needs) (λ c. search needs) returns-2)

@@ -28,9 +28,9 @@ again c κs =
     let counted = asked .before .before .before .before .before .before .before in
     let start = counted .before .before .before .before .before .before .before .before .before .before .before in
     let fits = both _ _ _ _ (sym (enough .enum-told .given .1) ∙ asked .room-for .ensures) in
-    let kept = counted .dry-run .kept .1 .1 .1 .1 .1 .0 in (
+    let kept = counted .dry-run .kept .1 .1 .1 .1 .1 .1 .0 in (
       start .pre .0,
-      blank-again (start .pre .1) (counted .dry-run .kept .1 .1 .1 .0) (unnamed .clear-words .ensures)
+      blank-again (start .pre .1) (counted .dry-run .kept .1 .1 .1 .1 .0) (unnamed .clear-words .ensures)
           (taken-count _ _ (fits .1)) (unmarked .clear .ensures),
       λ ready. omega (arith, start .pre .2 ready, kept),
     )
@@ -54,7 +54,7 @@ answers c =
     let counted = asked .before .before .before .before .before .before .before in
     let start = counted .before .before .before .before .before .before .before .before .before .before .before in
     let fits = both _ _ _ _ (sym (enough .enum-told .given .1) ∙ asked .room-for .ensures) in
-    let kept = passed .pass .kept .1 .1 .1 .1 .1 .0 ∙ unmarked .clear .kept .0 ∙ sym (taken-count _ _ (fits .1)) in
+    let kept = passed .pass .kept .1 .1 .1 .1 .1 .1 .0 ∙ unmarked .clear .kept .0 ∙ sym (taken-count _ _ (fits .1)) in
     let room = room-is (start .pre .0) (counted .dry-run .ensures (start .pre .0)) in
     rw (c .told .ensures)
     (both-fit (start .pre .0) (start .args .calls .now) (start .args .recorded .now) room (fits .0) (fits .1) kept

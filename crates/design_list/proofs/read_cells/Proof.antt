@@ -8,8 +8,10 @@ use Rattle.design_list.proofs.read_cells.Tie as tie
 
 returns : tie.Need-returns
 returns c =
-    let call = c .before .before .before .before .before in
-    (cells-refused _ _ (sym (c .before .f .given .1) ∙ call .cells-at .ensures .0), call .cells-at .ensures .1)
+    let call = c .before .before .before .before .before in (
+      λ mode. cells-refused mode _ _ (sym (c .before .f .given .1) ∙ call .cells-at .ensures .0),
+      call .cells-at .ensures .1,
+    )
 
 returns-2 : tie.Need-returns-2
 returns-2 c =
@@ -17,9 +19,9 @@ returns-2 c =
     let call = told .before .before .before .before in
     let lent = call .before .before .before in
     let start = lent .before .before .before in (
-      c .read-cell-reps .ensures ∙
+      λ mode. c .read-cell-reps .ensures ∙
           rw (call .cells-at .ensures .1)
-          (cells-answer _ _ (start .args .table .now) (start .pre .1)
+          (cells-answer mode _ _ (start .args .table .now) (start .pre .1)
           (sym (told .count .given .1) ∙ call .cells-at .ensures .0)),
       call .cells-at .ensures .1,
     )

@@ -6,7 +6,7 @@ use Rattle.design_list.proofs.read_design.Statement.{statement}
 use Rattle.design_list.proofs.read_design.Tie as tie
 
 returns : tie.Need-returns
-returns c = answered _ (c .before .read-into .ensures .0)
+returns c mode = answered _ (c .before .read-into .ensures mode .0)
 
 pub read-design-spec : {M : Type 1} → statement M
 read-design-spec =

@@ -13,11 +13,11 @@ use Rattle.design_list.proofs.read_into.Tie as tie
 
 returns : tie.Need-returns
 unfolding read Stored
-returns c = rw (lt-ltb _ _ (c .if1 .taken)) (refl, tt)
+returns c mode = rw (lt-ltb _ _ (c .if1 .taken)) (refl, tt)
 
 returns-2 : tie.Need-returns-2
 unfolding read Stored
-returns-2 c = rw (le-ltb _ _ (c .before .if1 .left), lt-ltb _ 4 (c .if2 .taken)) (refl, tt)
+returns-2 c mode = rw (le-ltb _ _ (c .before .if1 .left), lt-ltb _ 4 (c .if2 .taken)) (refl, tt)
 
 read-cells-requires : tie.Need-read-cells-requires
 read-cells-requires c κs =
@@ -28,7 +28,7 @@ read-cells-requires c κs =
 
 returns-3 : tie.Need-returns-3
 unfolding read Stored
-returns-3 c =
+returns-3 c mode =
     let call = c .before .before .before in
     let long = call .before in
     rw (
@@ -41,7 +41,7 @@ returns-3 c =
 
 returns-4 : tie.Need-returns-4
 unfolding read
-returns-4 c =
+returns-4 c mode =
     let read-all = c .before .before in
     let told = read-all .before .before .before in
     let call = told .before .before in
@@ -52,7 +52,7 @@ returns-4 c =
       ← call .header-at .ensures,
       told .header .given .1,
     )
-    (read-all .read-cells .ensures .0, stored-cells _ _ _ _ (read-all .read-cells .ensures .1))
+    (read-all .read-cells .ensures .0 mode, stored-cells mode _ _ _ _ (read-all .read-cells .ensures .1))
 
 pub read-into-spec : {M : Type 1} → statement M
 read-into-spec =

@@ -2,10 +2,8 @@
 -- words. Assumes nothing.
 use borrow.Author.Needs.{needs}
 use mathlib.Core.Path.{sym, ap, _∙_}
-use mathlib.Core.List.{[], _∷_}
-use Rattle.order.specs.Verify.{replaceDffNet}
 use Rattle.slots.specs.Pairs.{pairKind}
-use Rattle.net_pairs.proofs.Does.{does-none, does-append}
+use Rattle.net_pairs.proofs.Does.{does-none}
 use Rattle.net_pairs.proofs.replace_pair.Statement.{statement}
 use Rattle.net_pairs.proofs.replace_pair.Tie as tie
 
@@ -24,29 +22,24 @@ returns-2 c =
 
 returns-3 : tie.Need-returns-3
 returns-3 c =
-    let at-replace-net = c .before .before .before .before .before .before .before .before in
-    let at-slices = at-replace-net .before .before .before .before .before in
-    let at-replace-dff-net = at-slices .before .before .before .before .before .before .before .before in
-    let at-told = at-replace-dff-net .before .before .before .before .before in
+    let at-replace-dff-pair = c .before .before .before .before .before .before .before .before in
+    let at-told = at-replace-dff-pair .before .before .before .before .before in
     let same = sym (at-told .before .before .pair-of .ensures .same) ∙ ap pairKind (at-told .enum-told3 .given .1) in
-    λ low high.
-    rw same
-    (does-append (replaceDffNet _ _) (_ ∷ []) (at-replace-dff-net .replace-dff-net .ensures low high)
-    (at-replace-net .replace-net .ensures low high))
+    λ low high. rw same (at-replace-dff-pair .replace-dff-pair .ensures low high)
 
 returns-4 : tie.Need-returns-4
 returns-4 c =
     let at-replace-net = c .before .before .before .before .before .before .before .before in
     let at-told = at-replace-net .before .before .before .before .before in
     let same = sym (at-told .before .before .pair-of .ensures .same) ∙ ap pairKind (at-told .enum-told4 .given .1) in
-    λ low high. rw same (at-replace-net .replace-net2 .ensures low high)
+    λ low high. rw same (at-replace-net .replace-net .ensures low high)
 
 pub replace-pair-spec : {M : Type 1} → statement M
 replace-pair-spec =
     tie.close
     (tie.spec
     (λ c κs. search needs) (λ c. search needs) (λ c. search needs) (λ c κs. search needs) (λ c. search needs)
-    (λ c κs. search needs) (λ c κs. search needs) (λ c. search needs) (λ c κs. search needs) returns
+    (λ c κs. search needs) (λ c. search needs) (λ c κs. search needs) returns
     (λ c. search needs) (λ c. search needs) (λ c. search needs) returns-2 (λ c. search needs) (λ c. search needs)
     (λ c. search needs) (λ c. search needs) returns-3 (λ c. search needs) (λ c. search needs) (λ c. search needs)
     (λ c. search needs) returns-4)

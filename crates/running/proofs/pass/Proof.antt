@@ -15,7 +15,7 @@ returns c =
     let counted = asked .before .before .before in
     let walked = counted .before .before .before .before .before .before .before .before .before in
     λ d accepts tells size.
-    passes (walked .work .ensures d accepts tells size) (walked .work .kept .1 .1 .1 .1 .1 .1 .1 .0)
+    passes (walked .work .ensures d accepts tells size) (walked .work .kept .1 .1 .1 .1 .1 .1 .1 .1 .0)
     (counted .lesser .ensures) (asked .check .ensures)
 
 pub pass-spec : {M : Type 1} → statement M

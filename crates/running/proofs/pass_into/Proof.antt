@@ -35,6 +35,7 @@ use denote.Signature.{plain}
 use denote.Steps.{only, opens, closes, owned, peeks, heard}
 use denote.Struct.Steps.{spelt}
 use denote.Struct.Laws as LL
+use denote.Enum.Laws as E
 use denote.Triple.Entry.{onEntry}
 use denote.Triple.Spec.{Meets, tripleOf}
 use denote.Triple.Statement.{Contract, Triple}
@@ -42,6 +43,8 @@ use denote.Triple.Call.{calls-at}
 use denote.Triple.Clauses.{ensured, lasts, Lasts}
 use denote.Triple.Table.{entered, cited}
 use denote.Triple.Walked.{says, Stays, stay-ref, walkOf, AllGo, goes-ref, Walks, ends-at, walked, walk-meets}
+use Rattle.cell.proofs.Mode as Mo
+use Rattle.cell.proofs.Mode.Laws as Mo′
 use Rattle.builder.specs.declared.Counts.{Counts}
 use Rattle.builder.proofs.Counts as T
 use Rattle.builder.proofs.Counts.Laws as T′
@@ -103,9 +106,10 @@ module _ {M : Type 1} (𝓤 : URA M) (H : Heap 𝓤) (A : Atoms 𝓤) (W : Given
   Lefts = Lasts pass.ended κs (h, x)
 
   abbrev Says : Tally → Lefts → Type 0
-  Says r zs = Passes h (x .0 .now) (x .1 .0) (x .1 .1 .0) (x .1 .1 .1 .0 .now) (x .1 .1 .1 .1 .0 .now)
+  Says r zs = Passes h (x .0) (x .1 .0 .now) (x .1 .1 .0) (x .1 .1 .1 .0) (x .1 .1 .1 .1 .0 .now)
       (x .1 .1 .1 .1 .1 .0 .now) (x .1 .1 .1 .1 .1 .1 .0 .now) (x .1 .1 .1 .1 .1 .1 .1 .0 .now)
-      (zs .1 .1 .1 .1 .1 .0) (zs .1 .1 .1 .1 .1 .1 .0) (zs .1 .1 .1 .1 .1 .1 .1 .0) (zs .1 .1 .1 .1 .1 .1 .1 .1 .0)
+      (x .1 .1 .1 .1 .1 .1 .1 .1 .0 .now) (zs .1 .1 .1 .1 .1 .1 .0) (zs .1 .1 .1 .1 .1 .1 .1 .0)
+      (zs .1 .1 .1 .1 .1 .1 .1 .1 .0) (zs .1 .1 .1 .1 .1 .1 .1 .1 .1 .0)
       (r .counts) (r .obligations)
 
   exits : (r : Tally) (zs : Lefts) → Says r zs → r .obligations < 2 ^ 64
@@ -117,7 +121,7 @@ module _ {M : Type 1} (𝓤 : URA M) (H : Heap 𝓤) (A : Atoms 𝓤) (W : Given
       ∷ raw (toks 𝓤 A 6 κs qs) ∷ ‵ (lasts pass.ended κs (h, x) zs) ∷ []) ∵
       suffices ! _ (ends-at 𝓤 H A f.ended stayed (f.clauses 𝓤 H A at-mem run) W
       (((κ, κs), (q, qs), tt, a, (vptr b o ∷ [], rest)), tt) (vint w64 (r .obligations)) (r .obligations)
-      (r .counts, zs .1) (tt, (tt, (tt, (tt, (tt, (tt, (tt, (tt, (tt, tt)))))))))) $
+      (r .counts, zs .1) (tt, (tt, (tt, (tt, (tt, (tt, (tt, (tt, (tt, (tt, tt))))))))))) $
       says ! e $ move ! (2 ∷ 3 ∷ []) $ join ! $ frame ! $
       move ! (2 ∷ []) $ fsplit ! $ drop ! $ move ! (1 ∷ 2 ∷ 0 ∷ []) $
       feqI ! (List Val) (vptr b o ∷ []) (vptr b o ∷ []) refl $ fjoin3 ! $ fjoin ! $
@@ -137,48 +141,50 @@ module _ {M : Type 1} (𝓤 : URA M) (H : Heap 𝓤) (A : Atoms 𝓤) (W : Given
         alloc1 ! (λ l₀. alloc1 ! (λ l₁. alloc1 ! (λ l₂. alloc1 ! (λ l₃. alloc1 ! (λ l₄. alloc1 ! (λ l₅.
         alloc1 ! (λ l₆. alloc1 ! (λ l₇. alloc1 ! (λ l₈. alloc1 ! (λ l₉. alloc1 ! (λ l₁₀. alloc1 ! (λ l₁₁.
         alloc1 ! (λ l₁₂. alloc1 ! (λ l₁₃. alloc1 ! (λ l₁₄. alloc1 ! (λ l₁₅. alloc1 ! (λ l₁₆. alloc1 ! (λ l₁₇.
-        alloc1 ! (λ l₁₈. alloc1 ! (λ l₁₉. alloc0 ! $ params1 ! $
-        pass1 ! (init ! 36 refl (tt, tt)) $
-        pass1 ! (init ! 34 refl (tt, (tt, (record { fits = are .0 .0 .1 .0 }, tt)))) $
-        pass1 ! (init ! 32 refl (tt, record { fits = are .1 .0 .1 })) $
-        pass1 ! (init ! 30 refl (tt, record { fits = are .1 .1 .0 .1 })) $
-        pass1 ! (init ! 28 refl (tt, (tt, (record { fits = are .1 .1 .1 .0 .0 .1 .0 }, tt)))) $
-        pass1 ! (init ! 26 refl (tt, (tt, (record { fits = are .1 .1 .1 .1 .0 .0 .1 .0 }, tt)))) $
-        pass1 ! (init ! 24 refl (tt, (tt, (record { fits = are .1 .1 .1 .1 .1 .0 .0 .1 .0 }, tt)))) $
-        pass1 ! (init ! 22 refl (tt, (tt, (record { fits = are .1 .1 .1 .1 .1 .1 .0 .0 .1 .0 }, tt)))) $
-        pass1 ! (init ! 20 refl (tt, (tt, (record { fits = are .1 .1 .1 .1 .1 .1 .1 .0 .0 .1 .0 }, tt)))) $ pass0 ! $
-        move ! (40 ∷ 41 ∷ 42 ∷ []) $ opens ! tt T.the-row {h = h} b o
+        alloc1 ! (λ l₁₈. alloc1 ! (λ l₁₉. alloc1 ! (λ l₂₀. alloc0 ! $ params1 ! $
+        pass1 ! (init ! 38 refl (tt, tt)) $
+        pass1 ! (init ! 36 refl (E.lawful Mo.the-type Mo′.the-laws 𝓤 H A W tt .typed (x .0) _ (are .0) .0)) $
+        pass1 ! (init ! 34 refl (tt, (tt, (record { fits = are .1 .0 .0 .1 .0 }, tt)))) $
+        pass1 ! (init ! 32 refl (tt, record { fits = are .1 .1 .0 .1 })) $
+        pass1 ! (init ! 30 refl (tt, record { fits = are .1 .1 .1 .0 .1 })) $
+        pass1 ! (init ! 28 refl (tt, (tt, (record { fits = are .1 .1 .1 .1 .0 .0 .1 .0 }, tt)))) $
+        pass1 ! (init ! 26 refl (tt, (tt, (record { fits = are .1 .1 .1 .1 .1 .0 .0 .1 .0 }, tt)))) $
+        pass1 ! (init ! 24 refl (tt, (tt, (record { fits = are .1 .1 .1 .1 .1 .1 .0 .0 .1 .0 }, tt)))) $
+        pass1 ! (init ! 22 refl (tt, (tt, (record { fits = are .1 .1 .1 .1 .1 .1 .1 .0 .0 .1 .0 }, tt)))) $
+        pass1 ! (init ! 20 refl (tt, (tt, (record { fits = are .1 .1 .1 .1 .1 .1 .1 .1 .0 .0 .1 .0 }, tt)))) $ pass0 ! $
+        move ! (42 ∷ 43 ∷ 44 ∷ []) $ opens ! tt T.the-row {h = h} b o
         (λ vs. spelt ! T.the-row (Is T.the-row) (shows 𝓤 H A T.the-row) vals (LL.tells T.the-type T′.the-laws)
         fullShare h vs b o $
         move ! (1 ∷ []) $ peeks ! T.the-row (Is T.the-row) (shows 𝓤 H A T.the-row) h (vals h)
         (λ was. move ! (1 ∷ 0 ∷ []) $
-        -- [the record's cell; what its counts own; the open borrow; obs; auth; _19; …; _0; …; what is passed on; the
+        -- [the record's cell; what its counts own; the open borrow; obs; auth; _20; …; _0; …; what is passed on; the
         -- slices' token]
-        assigns ! (of-opd ! (load ! (from ! (hop ! (look ! 41 refl) (stop !))) (look-raw ! 0 refl)))
+        assigns ! (of-opd ! (load ! (from ! (hop ! (look ! 43 refl) (stop !))) (look-raw ! 0 refl)))
         (from ! (stop !)) (init ! 21 refl (LL.lawful T.the-type T′.the-laws 𝓤 H A W .typed h _ was .0)) $
         assigns ! (addr ! (from ! (fld ! refl (hop ! (look-in ! 31 (sub ! 0 refl (whole !))) (stop !)))))
         (from ! (stop !)) (init ! 19 refl (tt, tt)) $
         assigns ! (agg ! (and-then ! (load ! (from ! (stop !)) (look ! 19 refl))
         (and-then ! (load ! (from ! (fld ! refl (stop !))) (look-in ! 31 (sub ! 1 refl (whole !)))) (no-more !))))
-        (from ! (stop !)) (init ! 17 refl (tt, (tt, (record { fits = are .1 .1 .1 .1 .0 .0 .1 .0 }, tt)))) $
+        (from ! (stop !)) (init ! 17 refl (tt, (tt, (record { fits = are .1 .1 .1 .1 .1 .0 .0 .1 .0 }, tt)))) $
         assigns ! (addr ! (from ! (fld ! refl (hop ! (look-in ! 29 (sub ! 0 refl (whole !))) (stop !)))))
         (from ! (stop !)) (init ! 15 refl (tt, tt)) $
         assigns ! (agg ! (and-then ! (load ! (from ! (stop !)) (look ! 15 refl))
         (and-then ! (load ! (from ! (fld ! refl (stop !))) (look-in ! 29 (sub ! 1 refl (whole !)))) (no-more !))))
-        (from ! (stop !)) (init ! 13 refl (tt, (tt, (record { fits = are .1 .1 .1 .1 .1 .0 .0 .1 .0 }, tt)))) $
+        (from ! (stop !)) (init ! 13 refl (tt, (tt, (record { fits = are .1 .1 .1 .1 .1 .1 .0 .0 .1 .0 }, tt)))) $
         assigns ! (addr ! (from ! (fld ! refl (hop ! (look-in ! 27 (sub ! 0 refl (whole !))) (stop !)))))
         (from ! (stop !)) (init ! 11 refl (tt, tt)) $
         assigns ! (agg ! (and-then ! (load ! (from ! (stop !)) (look ! 11 refl))
         (and-then ! (load ! (from ! (fld ! refl (stop !))) (look-in ! 27 (sub ! 1 refl (whole !)))) (no-more !))))
-        (from ! (stop !)) (init ! 9 refl (tt, (tt, (record { fits = are .1 .1 .1 .1 .1 .1 .0 .0 .1 .0 }, tt)))) $
+        (from ! (stop !)) (init ! 9 refl (tt, (tt, (record { fits = are .1 .1 .1 .1 .1 .1 .1 .0 .0 .1 .0 }, tt)))) $
         assigns ! (addr ! (from ! (fld ! refl (hop ! (look-in ! 25 (sub ! 0 refl (whole !))) (stop !)))))
         (from ! (stop !)) (init ! 7 refl (tt, tt)) $
         assigns ! (agg ! (and-then ! (load ! (from ! (stop !)) (look ! 7 refl))
         (and-then ! (load ! (from ! (fld ! refl (stop !))) (look-in ! 25 (sub ! 1 refl (whole !)))) (no-more !))))
-        (from ! (stop !)) (init ! 5 refl (tt, (tt, (record { fits = are .1 .1 .1 .1 .1 .1 .1 .0 .0 .1 .0 }, tt)))) $
+        (from ! (stop !)) (init ! 5 refl (tt, (tt, (record { fits = are .1 .1 .1 .1 .1 .1 .1 .1 .0 .0 .1 .0 }, tt)))) $
         -- `pass`
-        move ! (46 ∷ 45 ∷ []) $ use2 W (raw (Pass 𝓤 H A at-mem run .pre to-pass)) (goes-pass was) $
+        move ! (48 ∷ 47 ∷ []) $ use2 W (raw (Pass 𝓤 H A at-mem run .pre to-pass)) (goes-pass was) $
         calls-at ! fm (Pass 𝓤 H A at-mem run) known to-pass (and-then ! (load ! (from ! (stop !)) (look ! 22 refl))
+        (and-then ! (load ! (from ! (stop !)) (look ! 42 refl))
         (and-then ! (load ! (from ! (stop !)) (look ! 40 refl))
         (and-then ! (load ! (from ! (stop !)) (look ! 38 refl))
         (and-then ! (load ! (from ! (stop !)) (look ! 36 refl))
@@ -186,7 +192,7 @@ module _ {M : Type 1} (𝓤 : URA M) (H : Heap 𝓤) (A : Atoms 𝓤) (W : Given
         (and-then ! (load ! (from ! (stop !)) (look ! 18 refl))
         (and-then ! (load ! (from ! (stop !)) (look ! 14 refl))
         (and-then ! (load ! (from ! (stop !)) (look ! 10 refl))
-        (and-then ! (load ! (from ! (stop !)) (look ! 6 refl)) (no-more !)))))))))) (λ w.
+        (and-then ! (load ! (from ! (stop !)) (look ! 6 refl)) (no-more !))))))))))) (λ w.
         use1 W (later (some (λ (r : Tally). (raw (toks 𝓤 A 6 κs qs) ⊛ ‵ (Y.the-row .own r (w ∷ []))) ⊛ raw
         (ensured 𝓤 H A pass.ended (pass.clauses 𝓤 H A at-mem run) κs (h, x) tt r)))) (id⊢ 𝓤 _) $ await ! tt $
         pick ! (λ r.
@@ -197,32 +203,33 @@ module _ {M : Type 1} (𝓤 : URA M) (H : Heap 𝓤) (A : Atoms 𝓤) (W : Given
         peeks ! Y.the-row (Is Y.the-row) (shows 𝓤 H A Y.the-row) r (w ∷ []) (λ is.
         let parts = LL.owed Y.the-type Y′.the-laws r _ is in
         -- [what the tally owns; the slices' token; their last values; the record's cell; what its counts own; the
-        -- open borrow; obs; auth; _19; …]
+        -- open borrow; obs; auth; _20; …]
         land ! (from ! (stop !)) (init ! 26 refl (LL.lawful Y.the-type Y′.the-laws 𝓤 H A W .typed r _ is .0)) $
-        rewrite ! 26 (λ (u : Val). ‵ (fat fullShare Y′.mir l₁₀ 0 u))
+        rewrite ! 26 (λ (u : Val). ‵ (fat fullShare Y′.mir l₁₁ 0 u))
         (ap only (LL.tells Y.the-type Y′.the-laws r _ is)) refl $
         assigns ! (of-opd ! (load ! (from ! (fld ! refl (stop !))) (look-in ! 26 (sub ! 0 refl (whole !)))))
-        (from ! (hop ! (look ! 44 refl) (stop !))) (store-raw ! 3 refl
+        (from ! (hop ! (look ! 46 refl) (stop !))) (store-raw ! 3 refl
         (LL.lawful T.the-type T′.the-laws 𝓤 H A W .typed (r .counts) _ (parts .0) .0)) $
         assigns ! (of-opd ! (load ! (from ! (fld ! refl (stop !))) (look-in ! 26 (sub ! 1 refl (whole !)))))
-        (from ! (stop !)) (init ! 46 refl (tt, record { fits = parts .1 .0 .1 })) $
+        (from ! (stop !)) (init ! 48 refl (tt, record { fits = parts .1 .0 .1 })) $
         move ! (0 ∷ 4 ∷ []) $ drop ! $ drop ! $
         owned ! T.the-row (Is T.the-row) (LL.makes T.the-type T′.the-plain 𝓤 H A) (r .counts) _ (parts .0) $
         move ! (3 ∷ 0 ∷ 4 ∷ 5 ∷ 6 ∷ []) $ closes ! tt T.the-row (r .counts) (vals (r .counts)) b o $
-        -- [obs; the borrow; its token; the slices' token; their last values; _19; …; _0; …]
-        returns ! (look ! 43 refl) $ forget ! 5 refl $ forget ! 7 refl $ forget ! 9 refl $ forget ! 11 refl $
+        -- [obs; the borrow; its token; the slices' token; their last values; _20; …; _0; …]
+        returns ! (look ! 45 refl) $ forget ! 5 refl $ forget ! 7 refl $ forget ! 9 refl $ forget ! 11 refl $
         forget ! 13 refl $ forget ! 15 refl $ forget ! 17 refl $ forget ! 19 refl $ forget ! 21 refl $
         forget ! 23 refl $ forget ! 25 refl $ forget ! 27 refl $ forget ! 29 refl $ forget ! 31 refl $
         forget ! 33 refl $ forget ! 35 refl $ forget ! 37 refl $ forget ! 39 refl $ forget ! 41 refl $
-        forget ! 43 refl $
-        move ! (43 ∷ 44 ∷ []) $ free1 ! $ move ! (41 ∷ 42 ∷ []) $ free1 ! $ move ! (39 ∷ 40 ∷ []) $ free1 ! $
+        forget ! 43 refl $ forget ! 45 refl $
+        move ! (45 ∷ 46 ∷ []) $ free1 ! $ move ! (43 ∷ 44 ∷ []) $ free1 ! $ move ! (41 ∷ 42 ∷ []) $ free1 ! $
+        move ! (39 ∷ 40 ∷ []) $ free1 ! $
         move ! (37 ∷ 38 ∷ []) $ free1 ! $ move ! (35 ∷ 36 ∷ []) $ free1 ! $ move ! (33 ∷ 34 ∷ []) $ free1 ! $
         move ! (31 ∷ 32 ∷ []) $ free1 ! $ move ! (29 ∷ 30 ∷ []) $ free1 ! $ move ! (27 ∷ 28 ∷ []) $ free1 ! $
         move ! (25 ∷ 26 ∷ []) $ free1 ! $ move ! (23 ∷ 24 ∷ []) $ free1 ! $ move ! (21 ∷ 22 ∷ []) $ free1 ! $
         move ! (19 ∷ 20 ∷ []) $ free1 ! $ move ! (17 ∷ 18 ∷ []) $ free1 ! $ move ! (15 ∷ 16 ∷ []) $ free1 ! $
         move ! (13 ∷ 14 ∷ []) $ free1 ! $ move ! (11 ∷ 12 ∷ []) $ free1 ! $ move ! (9 ∷ 10 ∷ []) $ free1 ! $
         move ! (7 ∷ 8 ∷ []) $ free1 ! $ move ! (5 ∷ 6 ∷ []) $ free1 ! $ free0 ! $
-        by ! (exits r zs e (parts .1 .0 .1)))))))))))))))))))))))))))))
+        by ! (exits r zs e (parts .1 .0 .1))))))))))))))))))))))))))))))
 
 module _ {M : Type 1} (𝓤 : URA M) (H : Heap 𝓤) (A : Atoms 𝓤) (W : Given 𝓤 H A) (at-mem : Memory → SProp 𝓤)
     (run : Routine → Fun 𝓤) where

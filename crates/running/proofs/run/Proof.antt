@@ -36,6 +36,7 @@ use denote.Ref.{RefT, MutRef}
 use denote.Lend.{lends-ref, ref-back}
 use denote.Steps.{only, owned, peeks, heard}
 use denote.Struct.Laws as LL
+use denote.Enum.Laws as E
 use denote.Triple.Entry.{onEntry}
 use denote.Triple.Spec.{Meets, tripleOf}
 use denote.Triple.Statement.{Contract, Triple}
@@ -44,6 +45,8 @@ use denote.Triple.Clauses.{ensured, lasts, Lasts}
 use denote.Triple.Table.{entered, cited}
 use denote.Triple.Walked.{says, Stays, walkOf, Walks, ends-at, walked, walk-meets}
 use denote.Triple.End.{lastsOf}
+use Rattle.cell.proofs.Mode as Mo
+use Rattle.cell.proofs.Mode.Laws as Mo′
 use Rattle.builder.specs.declared.Counts.{Counts}
 use Rattle.builder.proofs.Counts as T
 use Rattle.builder.proofs.Counts.Laws as T′
@@ -113,9 +116,10 @@ module _ {M : Type 1} (𝓤 : URA M) (H : Heap 𝓤) (A : Atoms 𝓤) (W : Given
   others-left α l δ zs = lastsOf (α ∷ [], κs) (butFirst (into.ended .signature .params)) (into.ended .kept .1) x (zs .1)
 
   abbrev Says : (α l : ℕ) (δ : GName) → ℕ → Lefts α l δ → Type 0
-  Says α l δ r zs = Passes zeros (x .0 .now) (x .1 .0) (x .1 .1 .0) (x .1 .1 .1 .0 .now) (x .1 .1 .1 .1 .0 .now)
+  Says α l δ r zs = Passes zeros (x .0) (x .1 .0 .now) (x .1 .1 .0) (x .1 .1 .1 .0) (x .1 .1 .1 .1 .0 .now)
       (x .1 .1 .1 .1 .1 .0 .now) (x .1 .1 .1 .1 .1 .1 .0 .now) (x .1 .1 .1 .1 .1 .1 .1 .0 .now)
-      (zs .1 .1 .1 .1 .1 .0) (zs .1 .1 .1 .1 .1 .1 .0) (zs .1 .1 .1 .1 .1 .1 .1 .0) (zs .1 .1 .1 .1 .1 .1 .1 .1 .0)
+      (x .1 .1 .1 .1 .1 .1 .1 .1 .0 .now) (zs .1 .1 .1 .1 .1 .1 .0) (zs .1 .1 .1 .1 .1 .1 .1 .0)
+      (zs .1 .1 .1 .1 .1 .1 .1 .1 .0) (zs .1 .1 .1 .1 .1 .1 .1 .1 .1 .0)
       (zs .0) r
 
   exits : (α l : ℕ) (δ : GName) (r : ℕ) (zs : Lefts α l δ) → Says α l δ r zs → Held (zs .0) → r < 2 ^ 64
@@ -124,7 +128,7 @@ module _ {M : Type 1} (𝓤 : URA M) (H : Heap 𝓤) (A : Atoms 𝓤) (W : Given
       qed W (raw (toks 𝓤 A 6 κs qs) ∷ ‵ (others-left α l δ zs) ∷ []) ∵
       suffices ! _ (ends-at 𝓤 H A f.ended stayed (f.clauses 𝓤 H A at-mem run) W ((κs, qs, tt, x, rest), tt)
       (whole-of (zs .0) r) (record { counts = zs .0; obligations = r }) (zs .1)
-      (tt, (tt, (tt, (tt, (tt, (tt, (tt, (tt, tt))))))))) $
+      (tt, (tt, (tt, (tt, (tt, (tt, (tt, (tt, (tt, tt)))))))))) $
       says ! e $ frame ! $ owned ! Y.the-row (Is Y.the-row) (LL.makes Y.the-type Y′.the-plain 𝓤 H A)
       (record { counts = zs .0; obligations = r }) _ (made (zs .0) r held fits) $ move ! (1 ∷ 0 ∷ []) $ done !
 
@@ -136,18 +140,19 @@ module _ {M : Type 1} (𝓤 : URA M) (H : Heap 𝓤) (A : Atoms 𝓤) (W : Given
         qed W (raw (toks 𝓤 A 6 κs qs) ∷ ‵ (owns (others 0 κs) x rest) ∷ []) ∵ enter ! C Λ code.function
         (flat (others 0 κs) rest) _ $
         alloc1 ! (λ l₀. alloc1 ! (λ l₁. alloc1 ! (λ l₂. alloc1 ! (λ l₃. alloc1 ! (λ l₄. alloc1 ! (λ l₅.
-        alloc1 ! (λ l₆. alloc1 ! (λ l₇. alloc1 ! (λ l₈. alloc1 ! (λ l₉. alloc1 ! (λ l₁₀. alloc1 ! (λ l₁₁.
+        alloc1 ! (λ l₆. alloc1 ! (λ l₇. alloc1 ! (λ l₈. alloc1 ! (λ l₁₀. alloc1 ! (λ l₁₀. alloc1 ! (λ l₁₁.
         alloc1 ! (λ l₁₂. alloc1 ! (λ l₁₃. alloc1 ! (λ l₁₄. alloc1 ! (λ l₁₅. alloc1 ! (λ l₁₆. alloc1 ! (λ l₁₇.
-        alloc1 ! (λ l₁₈. alloc1 ! (λ l₁₉. alloc1 ! (λ l₂₀. alloc0 ! $ params1 ! $
-        pass1 ! (init ! 38 refl (tt, (tt, (record { fits = are .0 .0 .1 .0 }, tt)))) $
-        pass1 ! (init ! 36 refl (tt, record { fits = are .1 .0 .1 })) $
-        pass1 ! (init ! 34 refl (tt, record { fits = are .1 .1 .0 .1 })) $
-        pass1 ! (init ! 32 refl (tt, (tt, (record { fits = are .1 .1 .1 .0 .0 .1 .0 }, tt)))) $
-        pass1 ! (init ! 30 refl (tt, (tt, (record { fits = are .1 .1 .1 .1 .0 .0 .1 .0 }, tt)))) $
-        pass1 ! (init ! 28 refl (tt, (tt, (record { fits = are .1 .1 .1 .1 .1 .0 .0 .1 .0 }, tt)))) $
-        pass1 ! (init ! 26 refl (tt, (tt, (record { fits = are .1 .1 .1 .1 .1 .1 .0 .0 .1 .0 }, tt)))) $
-        pass1 ! (init ! 24 refl (tt, (tt, (record { fits = are .1 .1 .1 .1 .1 .1 .1 .0 .0 .1 .0 }, tt)))) $ pass0 ! $
-        -- [_20; …; _0; …; the slices' token; what is passed on]
+        alloc1 ! (λ l₁₈. alloc1 ! (λ l₁₉. alloc1 ! (λ l₂₀. alloc1 ! (λ l₂₁. alloc0 ! $ params1 ! $
+        pass1 ! (init ! 40 refl (E.lawful Mo.the-type Mo′.the-laws 𝓤 H A W tt .typed (x .0) _ (are .0) .0)) $
+        pass1 ! (init ! 38 refl (tt, (tt, (record { fits = are .1 .0 .0 .1 .0 }, tt)))) $
+        pass1 ! (init ! 36 refl (tt, record { fits = are .1 .1 .0 .1 })) $
+        pass1 ! (init ! 34 refl (tt, record { fits = are .1 .1 .1 .0 .1 })) $
+        pass1 ! (init ! 32 refl (tt, (tt, (record { fits = are .1 .1 .1 .1 .0 .0 .1 .0 }, tt)))) $
+        pass1 ! (init ! 30 refl (tt, (tt, (record { fits = are .1 .1 .1 .1 .1 .0 .0 .1 .0 }, tt)))) $
+        pass1 ! (init ! 28 refl (tt, (tt, (record { fits = are .1 .1 .1 .1 .1 .1 .0 .0 .1 .0 }, tt)))) $
+        pass1 ! (init ! 26 refl (tt, (tt, (record { fits = are .1 .1 .1 .1 .1 .1 .1 .0 .0 .1 .0 }, tt)))) $
+        pass1 ! (init ! 24 refl (tt, (tt, (record { fits = are .1 .1 .1 .1 .1 .1 .1 .1 .0 .0 .1 .0 }, tt)))) $ pass0 ! $
+        -- [_21; …; _0; …; the slices' token; what is passed on]
         assigns ! (agg ! (and-then ! (lit ! tt) (and-then ! (lit ! tt) (and-then ! (lit ! tt) (no-more !)))))
         (from ! (stop !)) (init ! 22 refl (LL.lawful T.the-type T′.the-laws 𝓤 H A W .typed zeros _ none .0)) $
         assigns ! (addr ! (from ! (stop !))) (from ! (stop !)) (init ! 18 refl (tt, tt)) $
@@ -155,33 +160,34 @@ module _ {M : Type 1} (𝓤 : URA M) (H : Heap 𝓤) (A : Atoms 𝓤) (W : Given
         (from ! (stop !)) (init ! 16 refl (tt, tt)) $
         assigns ! (agg ! (and-then ! (load ! (from ! (stop !)) (look ! 16 refl))
         (and-then ! (load ! (from ! (fld ! refl (stop !))) (look-in ! 30 (sub ! 1 refl (whole !)))) (no-more !))))
-        (from ! (stop !)) (init ! 14 refl (tt, (tt, (record { fits = are .1 .1 .1 .1 .0 .0 .1 .0 }, tt)))) $
+        (from ! (stop !)) (init ! 14 refl (tt, (tt, (record { fits = are .1 .1 .1 .1 .1 .0 .0 .1 .0 }, tt)))) $
         assigns ! (addr ! (from ! (fld ! refl (hop ! (look-in ! 28 (sub ! 0 refl (whole !))) (stop !)))))
         (from ! (stop !)) (init ! 12 refl (tt, tt)) $
         assigns ! (agg ! (and-then ! (load ! (from ! (stop !)) (look ! 12 refl))
         (and-then ! (load ! (from ! (fld ! refl (stop !))) (look-in ! 28 (sub ! 1 refl (whole !)))) (no-more !))))
-        (from ! (stop !)) (init ! 10 refl (tt, (tt, (record { fits = are .1 .1 .1 .1 .1 .0 .0 .1 .0 }, tt)))) $
+        (from ! (stop !)) (init ! 10 refl (tt, (tt, (record { fits = are .1 .1 .1 .1 .1 .1 .0 .0 .1 .0 }, tt)))) $
         assigns ! (addr ! (from ! (fld ! refl (hop ! (look-in ! 26 (sub ! 0 refl (whole !))) (stop !)))))
         (from ! (stop !)) (init ! 8 refl (tt, tt)) $
         assigns ! (agg ! (and-then ! (load ! (from ! (stop !)) (look ! 8 refl))
         (and-then ! (load ! (from ! (fld ! refl (stop !))) (look-in ! 26 (sub ! 1 refl (whole !)))) (no-more !))))
-        (from ! (stop !)) (init ! 6 refl (tt, (tt, (record { fits = are .1 .1 .1 .1 .1 .1 .0 .0 .1 .0 }, tt)))) $
+        (from ! (stop !)) (init ! 6 refl (tt, (tt, (record { fits = are .1 .1 .1 .1 .1 .1 .1 .0 .0 .1 .0 }, tt)))) $
         assigns ! (addr ! (from ! (fld ! refl (hop ! (look-in ! 24 (sub ! 0 refl (whole !))) (stop !)))))
         (from ! (stop !)) (init ! 4 refl (tt, tt)) $
         assigns ! (agg ! (and-then ! (load ! (from ! (stop !)) (look ! 4 refl))
         (and-then ! (load ! (from ! (fld ! refl (stop !))) (look-in ! 24 (sub ! 1 refl (whole !)))) (no-more !))))
-        (from ! (stop !)) (init ! 2 refl (tt, (tt, (record { fits = are .1 .1 .1 .1 .1 .1 .1 .0 .0 .1 .0 }, tt)))) $
+        (from ! (stop !)) (init ! 2 refl (tt, (tt, (record { fits = are .1 .1 .1 .1 .1 .1 .1 .1 .0 .0 .1 .0 }, tt)))) $
         -- the record is lent for a lifetime α of the call
-        move ! (22 ∷ []) $ use1 W (‵ (partAt T.the-row fullShare zeros l₉ 0)) (lies 𝓤 H A W zeros l₉ none) $
+        move ! (22 ∷ []) $ use1 W (‵ (partAt T.the-row fullShare zeros l₁₀ 0)) (lies 𝓤 H A W zeros l₁₀ none) $
         lft-new ! tt (λ α. move ! (1 ∷ []) $
-        use1 W (later (some (λ (δ : GName). ‵ (MutRef (named 0) (α ∷ []) T.the-row .own (lent l₉ δ) (vptr l₉ 0 ∷ []))
-        ⊛ ‵ (flent (α ∷ []) (Body (mem T.the-row) l₉ 0 δ)))))
-        (lends-ref 𝓤 H A W T.the-row (named 0) (α ∷ []) zeros l₉ 0) $ await ! tt $ pick ! (λ δ. split ! $
-        -- [what the reference owns; the lender's part; its token; _20; …; the slices' token; what is passed on]
-        move ! (0 ∷ 45 ∷ []) $ fjoin ! $ move ! (2 ∷ 44 ∷ []) $ join ! $
-        use2 W (raw (Into 𝓤 H A at-mem run .pre (to-into α l₉ δ))) (goes-into α l₉ δ) $
-        calls-at ! fm (Into 𝓤 H A at-mem run) known (to-into α l₉ δ)
+        use1 W (later (some (λ (δ : GName). ‵ (MutRef (named 0) (α ∷ []) T.the-row .own (lent l₁₀ δ) (vptr l₁₀ 0 ∷ []))
+        ⊛ ‵ (flent (α ∷ []) (Body (mem T.the-row) l₁₀ 0 δ)))))
+        (lends-ref 𝓤 H A W T.the-row (named 0) (α ∷ []) zeros l₁₀ 0) $ await ! tt $ pick ! (λ δ. split ! $
+        -- [what the reference owns; the lender's part; its token; _21; …; the slices' token; what is passed on]
+        move ! (0 ∷ 47 ∷ []) $ fjoin ! $ move ! (2 ∷ 46 ∷ []) $ join ! $
+        use2 W (raw (Into 𝓤 H A at-mem run .pre (to-into α l₁₀ δ))) (goes-into α l₁₀ δ) $
+        calls-at ! fm (Into 𝓤 H A at-mem run) known (to-into α l₁₀ δ)
         (and-then ! (load ! (from ! (stop !)) (look ! 20 refl))
+        (and-then ! (load ! (from ! (stop !)) (look ! 41 refl))
         (and-then ! (load ! (from ! (stop !)) (look ! 39 refl))
         (and-then ! (load ! (from ! (stop !)) (look ! 37 refl))
         (and-then ! (load ! (from ! (stop !)) (look ! 35 refl))
@@ -189,43 +195,44 @@ module _ {M : Type 1} (𝓤 : URA M) (H : Heap 𝓤) (A : Atoms 𝓤) (W : Given
         (and-then ! (load ! (from ! (stop !)) (look ! 16 refl))
         (and-then ! (load ! (from ! (stop !)) (look ! 12 refl))
         (and-then ! (load ! (from ! (stop !)) (look ! 8 refl))
-        (and-then ! (load ! (from ! (stop !)) (look ! 4 refl)) (no-more !)))))))))) (λ w.
+        (and-then ! (load ! (from ! (stop !)) (look ! 4 refl)) (no-more !))))))))))) (λ w.
         use1 W (later (some (λ (r : ℕ). ((‵ (flft (α ∷ []) fullShare) ⊛ raw (toks 𝓤 A 6 κs qs)) ⊛
         ‵ (usize .own r (w ∷ []))) ⊛ raw (ensured 𝓤 H A into.ended (into.clauses 𝓤 H A at-mem run) (α ∷ [], κs)
-        (lent l₉ δ, x) tt r)))) (id⊢ 𝓤 _) $ await ! tt $ pick ! (λ r.
-        split ! $ move ! (1 ∷ []) $ use1 W (some (λ (zs : Lefts α l₉ δ). ‵ (lasts into.ended (α ∷ [], κs)
-        (lent l₉ δ, x) zs) ⊛ raw (fact 𝓤 (Says α l₉ δ r zs)))) (id⊢ 𝓤 _) $ pick ! (λ zs.
-        split ! $ move ! (1 ∷ []) $ heard ! (Says α l₉ δ r zs) (λ e. fsplit ! $ move ! (2 ∷ []) $ split ! $
+        (lent l₁₀ δ, x) tt r)))) (id⊢ 𝓤 _) $ await ! tt $ pick ! (λ r.
+        split ! $ move ! (1 ∷ []) $ use1 W (some (λ (zs : Lefts α l₁₀ δ). ‵ (lasts into.ended (α ∷ [], κs)
+        (lent l₁₀ δ, x) zs) ⊛ raw (fact 𝓤 (Says α l₁₀ δ r zs)))) (id⊢ 𝓤 _) $ pick ! (λ zs.
+        split ! $ move ! (1 ∷ []) $ heard ! (Says α l₁₀ δ r zs) (λ e. fsplit ! $ move ! (2 ∷ []) $ split ! $
         move ! (1 ∷ []) $ peeks ! usize (Is usize) (shows 𝓤 H A usize) r (w ∷ []) (λ is.
-        -- [the result; the tokens; the record's last value; the others'; the lender's part; _20; …]
+        -- [the result; the tokens; the record's last value; the others'; the lender's part; _21; …]
         land ! (from ! (stop !)) (init ! 25 refl (uint-lawful 𝓤 H A W w64 .typed r _ is .0)) $
-        rewrite ! 25 (λ (u : Val). ‵ (fat fullShare (tyInt w64) l₁₀ 0 u)) (ap only (is .0)) refl $
+        rewrite ! 25 (λ (u : Val). ‵ (fat fullShare (tyInt w64) l₁₁ 0 u)) (ap only (is .0)) refl $
         -- the lifetime is ended, and the record comes back at that value
         move ! (1 ∷ []) $ split ! $ lft-end ! tt $ move ! (0 ∷ 5 ∷ 3 ∷ []) $
-        use3 W (later (‵ (partAt T.the-row fullShare (zs .0) l₉ 0)))
-        (ref-back 𝓤 H A W T.the-row (α ∷ []) δ (zs .0) l₉ 0) $ await ! tt $
-        use1 W (given (Held (zs .0)) (‵ (fat fullShare T′.mir l₉ 0 (val (zs .0))))) (stands 𝓤 H A W (zs .0) l₉) $
+        use3 W (later (‵ (partAt T.the-row fullShare (zs .0) l₁₀ 0)))
+        (ref-back 𝓤 H A W T.the-row (α ∷ []) δ (zs .0) l₁₀ 0) $ await ! tt $
+        use1 W (given (Held (zs .0)) (‵ (fat fullShare T′.mir l₁₀ 0 (val (zs .0))))) (stands 𝓤 H A W (zs .0) l₁₀) $
         learn ! (λ held.
-        -- [_9; the slices' token; the result; the others' last values; _20; …]
+        -- [_10; the slices' token; the result; the others' last values; _21; …]
         assigns ! (of-opd ! (load ! (from ! (stop !)) (look ! 0 refl))) (from ! (stop !))
         (init ! 4 refl (LL.lawful T.the-type T′.the-laws 𝓤 H A W .typed (zs .0) _ held .0)) $
         assigns ! (agg ! (and-then ! (load ! (from ! (stop !)) (look ! 4 refl))
         (and-then ! (load ! (from ! (stop !)) (look ! 24 refl)) (no-more !)))) (from ! (stop !))
-        (init ! 43 refl (LL.lawful Y.the-type Y′.the-laws 𝓤 H A W .typed (record { counts = zs .0; obligations = r })
+        (init ! 45 refl (LL.lawful Y.the-type Y′.the-laws 𝓤 H A W .typed (record { counts = zs .0; obligations = r })
         _ (made (zs .0) r held (is .1)) .0)) $
-        returns ! (look ! 43 refl) $ forget ! 4 refl $ forget ! 6 refl $ forget ! 8 refl $ forget ! 10 refl $
+        returns ! (look ! 45 refl) $ forget ! 4 refl $ forget ! 6 refl $ forget ! 8 refl $ forget ! 10 refl $
         forget ! 12 refl $ forget ! 14 refl $ forget ! 16 refl $ forget ! 18 refl $ forget ! 20 refl $
         forget ! 22 refl $ forget ! 24 refl $ forget ! 0 refl $ forget ! 27 refl $ forget ! 29 refl $
         forget ! 31 refl $ forget ! 33 refl $ forget ! 35 refl $ forget ! 37 refl $ forget ! 39 refl $
-        forget ! 41 refl $ forget ! 43 refl $
-        move ! (43 ∷ 44 ∷ []) $ free1 ! $ move ! (41 ∷ 42 ∷ []) $ free1 ! $ move ! (39 ∷ 40 ∷ []) $ free1 ! $
+        forget ! 41 refl $ forget ! 43 refl $ forget ! 45 refl $
+        move ! (45 ∷ 46 ∷ []) $ free1 ! $ move ! (43 ∷ 44 ∷ []) $ free1 ! $ move ! (41 ∷ 42 ∷ []) $ free1 ! $
+        move ! (39 ∷ 40 ∷ []) $ free1 ! $
         move ! (37 ∷ 38 ∷ []) $ free1 ! $ move ! (35 ∷ 36 ∷ []) $ free1 ! $ move ! (33 ∷ 34 ∷ []) $ free1 ! $
         move ! (31 ∷ 32 ∷ []) $ free1 ! $ move ! (29 ∷ 30 ∷ []) $ free1 ! $ move ! (27 ∷ 28 ∷ []) $ free1 ! $
         move ! (0 ∷ 26 ∷ []) $ free1 ! $ move ! (23 ∷ 24 ∷ []) $ free1 ! $ move ! (21 ∷ 22 ∷ []) $ free1 ! $
         move ! (19 ∷ 20 ∷ []) $ free1 ! $ move ! (17 ∷ 18 ∷ []) $ free1 ! $ move ! (15 ∷ 16 ∷ []) $ free1 ! $
         move ! (13 ∷ 14 ∷ []) $ free1 ! $ move ! (11 ∷ 12 ∷ []) $ free1 ! $ move ! (9 ∷ 10 ∷ []) $ free1 ! $
         move ! (7 ∷ 8 ∷ []) $ free1 ! $ move ! (5 ∷ 6 ∷ []) $ free1 ! $ move ! (3 ∷ 4 ∷ []) $ free1 ! $ free0 ! $
-        keep ! (0 ∷ 2 ∷ []) $ by ! (exits α l₉ δ r zs e held (is .1)))))))))))))))))))))))))))))))
+        keep ! (0 ∷ 2 ∷ []) $ by ! (exits α l₁₀ δ r zs e held (is .1))))))))))))))))))))))))))))))))
 
 module _ {M : Type 1} (𝓤 : URA M) (H : Heap 𝓤) (A : Atoms 𝓤) (W : Given 𝓤 H A) (at-mem : Memory → SProp 𝓤)
     (run : Routine → Fun 𝓤) where

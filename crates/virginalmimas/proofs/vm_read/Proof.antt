@@ -2,6 +2,7 @@
 -- most 4,096 slots. Assumes nothing.
 use mathlib.Core.Path.{sym, _∙_}
 use native.Mathlib.Omega.{arith}
+use Rattle.cell.specs.declared.Mode.the-variants.{Ported}
 use Rattle.design_list.proofs.TableLaws.{table-low}
 use borrow.Author.Needs.{needs}
 use Rattle.virginalmimas.proofs.vm_read.Statement.{statement}
@@ -9,17 +10,18 @@ use Rattle.virginalmimas.proofs.vm_read.Tie as tie
 
 add-result : tie.Need-add-result
 add-result c =
-    omega (arith, table-low _ (sym (c .before .before .before .read-design .ensures .same) ∙ c .before .x .given .1))
+    let answered = c .before .before .before .read-design .ensures Ported .same in
+    omega (arith, table-low Ported _ (sym answered ∙ c .before .x .given .1))
 
 returns : tie.Need-returns
 returns c =
     let told = c .before .before in
-    rw (← told .before .before .read-design .ensures .same, told .f .given .1, c .packed-fault .ensures)
+    rw (← told .before .before .read-design .ensures Ported .same, told .f .given .1, c .packed-fault .ensures)
 
 returns-2 : tie.Need-returns-2
 returns-2 c =
-    let answered = c .before .before .before .read-design .ensures .same in
-    let low = table-low _ (sym answered ∙ c .before .x .given .1) in
+    let answered = c .before .before .before .read-design .ensures Ported .same in
+    let low = table-low Ported _ (sym answered ∙ c .before .x .given .1) in
     rw (← answered, c .before .x .given .1) (omega (arith, low))
 
 pub vm-read-spec : {M : Type 1} → statement M

@@ -5,6 +5,7 @@ use mathlib.Core.Path.{_≡_, refl, _∙_}
 use Prim.Native.Nat.{_-_, _%_, _<_, max}
 use native.Mathlib.Omega.{arith}
 use lib.ListN.{length}
+use Rattle.cell.specs.declared.Mode.{Mode}
 use Rattle.cell.specs.Design.{Design, total}
 use Rattle.design_list.specs.Read.{read, accepted}
 use Rattle.slots.specs.Tells.{widthIn, Tells}
@@ -16,7 +17,8 @@ abbrev Inv-loop : tie.InvT-loop
 Inv-loop list replacements end table calls₀ names₀ marks₀ eqs₀ s₀ at₀ rep₀ index₀ calls names marks eqs s at rep index =
     (length calls ≡ length calls₀) × (length names ≡ length names₀) × (length marks ≡ length marks₀)
     × (length eqs ≡ length eqs₀)
-    × ((d : Design) → read list ≡ accepted d replacements end → Tells d table → length table ≡ total d
+    × ((mode : Mode) (d : Design) → read mode list ≡ accepted d replacements end → Tells d table →
+    length table ≡ total d
     → Along d list table replacements end index at rep calls₀ names₀ marks₀ eqs₀ s₀ calls names marks eqs s)
 
 abbrev μ-loop : tie.MeasureT-loop
@@ -24,7 +26,7 @@ abbrev μ-loop : tie.MeasureT-loop
     length table - index
 
 loop-holds : tie.Need-loop-holds Inv-loop μ-loop
-loop-holds c = (refl, refl, refl, refl, λ d accepts tells size. along-start _ accepts tells _ _ _ _ _)
+loop-holds c = (refl, refl, refl, refl, λ mode d accepts tells size. along-start mode _ accepts tells _ _ _ _ _)
 
 add-index : tie.Need-add-index Inv-loop μ-loop
 add-index c =
@@ -55,15 +57,15 @@ loop-again c =
       kept .1 .1 .1 .1 .1 .1 .0 ∙ inv .1,
       kept .1 .1 .1 .1 .1 .1 .1 .0 ∙ inv .2,
       kept .1 .1 .1 .1 .1 .1 .1 .1 .0 ∙ inv .3,
-      λ d accepts tells size.
-          along-step _ accepts tells (inv .4 d accepts tells size) (omega (arith, turn .loop-test .taken)) refl
-          (at-verify-cell .verify-cell .ensures)
+      λ mode d accepts tells size.
+          along-step mode _ accepts tells (inv .4 mode d accepts tells size)
+          (omega (arith, turn .loop-test .taken)) refl (at-verify-cell .verify-cell .ensures)
           (at-next-at .next-at .ensures) (at-rep-after .rep-after .ensures) (c .slots-at .ensures),
     )
 
 returns : tie.Need-returns Inv-loop μ-loop
 returns c =
-    λ d accepts tells size. along-end _ accepts tells (c .before .loop .inv .4 d accepts tells size)
+    λ mode d accepts tells size. along-end mode _ accepts tells (c .before .loop .inv .4 mode d accepts tells size)
     (omega (arith, c .loop-test .left))
 
 pub verify-cells-spec : {M : Type 1} → statement M

@@ -11,7 +11,7 @@ returns c =
     at-replace-pairs .before .before .before .before .before .before .before .before .before .before .before .before
     .before in
     λ d accepts tells size.
-    works _ accepts (at-verify-cells .verify-cells .ensures d accepts tells size)
+    works _ _ accepts (at-verify-cells .verify-cells .ensures _ d accepts tells size)
     (at-replace-pairs .replace-pairs .ensures d _ accepts tells)
 
 pub work-spec : {M : Type 1} → statement M

@@ -1,7 +1,7 @@
--- `virginalmimas::vm_verify` meets its contract: the answer of `verify` is packed as defined. Assumes nothing.
+-- `virginalmimas::vm_verify_mode` meets its contract: the answer of `verify` is packed as defined. Assumes nothing.
 use borrow.Author.Needs.{needs}
-use Rattle.virginalmimas.proofs.vm_verify.Statement.{statement}
-use Rattle.virginalmimas.proofs.vm_verify.Tie as tie
+use Rattle.virginalmimas.proofs.vm_verify_mode.Statement.{statement}
+use Rattle.virginalmimas.proofs.vm_verify_mode.Tie as tie
 
 returns : tie.Need-returns
 returns c =
@@ -12,8 +12,8 @@ returns c =
       marks = verified .verify .ensures .marked;
     }
 
-pub vm-verify-spec : {M : Type 1} → statement M
-vm-verify-spec =
+pub vm-verify-mode-spec : {M : Type 1} → statement M
+vm-verify-mode-spec =
     tie.close
     (tie.spec
     (λ c κs. search needs) (λ c κs. search needs) (λ c. search needs) (λ c. search needs) returns)
