@@ -21,6 +21,8 @@ static void nothing(void) {}
 static void read_list(void) { vm_read(list, 11); }
 static void verify(void) { vm_verify(list, 11, calls, 64, recorded, 2); }
 static void count(void) { vm_counts(list, 11, counts, 3); }
+static void verify_mode(void) { vm_verify_mode(VM_MODE_INDUCTIVE, list, 11, calls, 64, recorded, 2); }
+static void count_mode(void) { vm_counts_mode(VM_MODE_INDUCTIVE, list, 11, counts, 3); }
 static void check(void) { vm_check(calls, 60, sizes, 2); }
 static void evaluate(void) { vm_evaluate(calls, 60, bits, 64, values, 64); }
 static void script(void) { vm_script(calls, 60, recorded, 2, text, 1024); }
@@ -53,7 +55,8 @@ static size_t touched(void (*entry)(void)) {
 
 int main(void) {
     const struct { const char *name; void (*entry)(void); size_t most; } entries[] = {
-        {"vm_read", read_list, 32}, {"vm_verify", verify, 192}, {"vm_counts", count, 192}, {"vm_check", check, 128},
+        {"vm_read", read_list, 32}, {"vm_verify", verify, 192}, {"vm_counts", count, 192},
+        {"vm_verify_mode", verify_mode, 192}, {"vm_counts_mode", count_mode, 192}, {"vm_check", check, 128},
         {"vm_evaluate", evaluate, 128}, {"vm_script", script, 160}, {"vm_answer", read_answer, 32},
         {"vm_check_with", check_with, 4}, {"vm_evaluate_with", evaluate_with, 4}, {"vm_script_with", script_with, 4}};
     size_t before = touched(nothing), failed = 0;

@@ -1,7 +1,9 @@
 #!/usr/bin/env python3
 # Random accepted designs through z3 and cvc5: no error line, both agree, every reply reads back, the evaluator confirms
 # every example, working out from an example's sources gives the example, and where sources are few the verdict is that
-# of trying all of them. Before them, divisions of constants give what working out does.
+# of trying all of them. All this in both modes where flip-flops are joined; elsewhere the calls of the modes are the
+# same. Before them, divisions of constants give what working out does; after them come as many designs with merged
+# flip-flops.
 #
 #   tests/vm_solvers.py [COUNT [SEED]]      1,000 designs from seed 1
 import itertools, os, random, sys, time
@@ -14,7 +16,7 @@ import core
 import design
 import notation
 import solver
-from verdict import BROKEN, HOLDS, NOTHING_ASKED, Result
+from verdict import BROKEN, HOLDS, INDUCTIVE, NOTHING_ASKED, PORTED, Result
 from vm_working_out import DIVISIONS, Design, divide
 
 FEW = 3 ** 6
@@ -139,6 +141,78 @@ class Maker:
         return pairs
 
 
+class Twins(Maker):
+    """Makes a design with two flip-flops of the base, the same or nearly, the second merged into the first."""
+
+    def __init__(self, seed):
+        super().__init__(seed)
+        self.first, self.width = self.random.randint(2, 4), self.random.choice((1, 1, 2))
+        self.second = self.first + self.width
+        self.after = self.second + self.width
+        self.base = self.after + self.random.randint(0, 3)
+        self.added = self.random.choice((0, 0, self.width))
+        self.total = self.base + self.added
+
+    def words(self):
+        weights = [(name, 1) for name in notation.OPERATIONS if name not in ('Void', 'Note')] + [('Input', 20)]
+        base = [(0, 'Input #1', 1)] + self.run(1, self.first, weights)
+        one = self.flip_flop()
+        texts = [self.placed(one, self.first), self.placed(self.nearly(one), self.second)]
+        base += list(zip((self.first, self.second), texts, (self.width, self.width)))
+        base += self.run(self.after, self.base, weights[:-1])
+        added = [(self.base, texts[0], self.width)] if self.added else []
+        edits = [f'#{slot} {self.reading_first(text)}' for slot, text, _ in base
+                 if slot >= self.after and self.reading_first(text) != text and self.random.random() < 0.8]
+        pairs = self.merged()
+        head = f'#{self.base} #{self.added} #{len(edits)} #{len(pairs)}'
+        return notation.parse('\n'.join([head] + [text for _, text, _ in base + added] + edits + pairs))[0]
+
+    def flip_flop(self):
+        """The words of a Dff of the pair's width; its data may be its own slots, or what the cells after it give."""
+        width = None
+        while width != self.width:
+            text, width = self.cell('Dff', self.width, self.first)
+        words = text.split()
+        if self.random.random() < 0.8:
+            words[3] = 's0'
+        for at in range(width):
+            feed = self.random.random()
+            if feed < 0.2:
+                words[7 + at] = f'own{at}'
+            elif feed < 0.6 and self.after < self.base:
+                words[7 + at] = f's{self.random.randrange(self.after, self.base)}'
+        return words
+
+    def nearly(self, words):
+        """The same Dff, at times with another net, an inverted control or another value."""
+        words = list(words)
+        if self.random.random() < 0.3:
+            at = self.random.randrange(3, len(words))
+            net = self.net(self.first) if at < 7 + self.width else self.constant()
+            words[at] = words[at][1:] if words[at][0] == '!' else '!' * (at < 7) + net
+        return words
+
+    def placed(self, words, slot):
+        """The record of a Dff at a slot."""
+        return ' '.join(f's{slot + int(word[3:])}' if word.startswith('own') else word for word in words)
+
+    def reading_first(self, text):
+        """A cell with the first flip-flop in place of the second."""
+        slots = {f's{self.second + at}': f's{self.first + at}' for at in range(self.width)}
+        return ' '.join(slots.get(word, word) for word in text.split())
+
+    def merged(self):
+        """The second flip-flop's nets by the first's, at times the first's by an added one's, and other pairs."""
+        pairs, chance = [], self.random.random
+        for at in range(self.width):
+            if self.added and chance() < 0.5:
+                pairs.append((self.first + at, f's{self.base + at}'))
+            if chance() < 0.9:
+                pairs.append((self.second + at, f's{self.first + at}' if chance() < 0.9 else self.net(self.total)))
+        pairs += [(slot, self.net(self.total)) for slot in range(self.after, self.base) if chance() < 0.1]
+        return [f's{slot} {to}' for slot, to in sorted(pairs)]
+
+
 def sources(result, worked):
     """The given trits that the script names: (age, slot)."""
     named = [name for name, _ in core.declared(result.script) if name.endswith('x') and name[0] in 'np']
@@ -217,21 +291,40 @@ def main(count=1000, seed=1):
     for what, words in divisions():
         judge(what, [checker.check(Result(what, words=words)) for checker in checkers], held)
     print(f'solvers: {held["HOLDS"]} designs of divided constants hold')
-    tally, began = {}, time.time()
-    for at in range(seed, seed + count):
-        words = accepted(at, verifier)
-        results = [checker.check(Result(f'seed {at}', words=words)) for checker in checkers]
-        judge(f'seed {at}', results, tally)
-        if sys.stderr.isatty():
-            print(f'\r{at - seed + 1} of {count}', end='', file=sys.stderr)
-    counts = ', '.join(f'{number} {what}' for what, number in sorted(tally.items()))
-    print(f'solvers: {count} designs in {time.time() - began:.0f} s: {counts}')
+    for maker, what in ((Maker, 'designs'), (Twins, 'designs with merged flip-flops')):
+        tallies, began = ({}, {}), time.time()
+        for at in range(seed, seed + count):
+            in_both_modes(f'{what}, seed {at}', accepted(maker, at, verifier), checkers, tallies)
+            if sys.stderr.isatty():
+                print(f'\r{at - seed + 1} of {count}', end='', file=sys.stderr)
+        print(f'solvers: {count} {what} in {time.time() - began:.0f} s')
+        for mode, tally in enumerate(tallies):
+            print(f'  mode {mode}: ' + ', '.join(f'{number} {what}' for what, number in sorted(tally.items())))
 
 
-def accepted(seed, verifier):
+def in_both_modes(what, words, checkers, tallies):
+    """Judges a design in the ported mode, and in the inductive one where flip-flops are joined."""
+    ported = [checker.check(Result(what, words=words)) for checker in checkers]
+    judge(what, ported, tallies[PORTED])
+    if not design.joined(ported[0]):
+        asked = [[list(part) for part in checking.verify(checkers[0].verifier, Result(what, words=words, mode=mode))]
+                 for mode in (PORTED, INDUCTIVE)]
+        if asked[0] != asked[1]:
+            raise SystemExit(f'{what}: no flip-flops are joined, but the modes differ: {", ".join(notation.show(words))}')
+        return
+    inductive = [checker.check(Result(what, words=words, mode=INDUCTIVE)) for checker in checkers]
+    judge(what, inductive, tallies[INDUCTIVE])
+    told = ported[0].verdict, inductive[0].verdict
+    if told == (HOLDS, BROKEN):
+        raise SystemExit(f'{what}: holds in mode 0 but not in mode 1: {", ".join(notation.show(words))}')
+    if told == (BROKEN, HOLDS):
+        note(tallies[INDUCTIVE], 'BROKEN in mode 0, HOLDS here')
+
+
+def accepted(maker, seed, verifier):
     """The words of an accepted design; one that reads a Void further on is made anew."""
     for again in range(20):
-        words = Maker(seed + again * 10 ** 9).words()
+        words = maker(seed + again * 10 ** 9).words()
         number, place = verifier.read(words)
         if number != 10:
             break

@@ -1,12 +1,13 @@
 #!/usr/bin/env python3
 # What vm says without the proved archive and without a solver: notation with names, bad files and texts, bad arguments,
 # words and faults. Every refusal is a sentence and has its exit status; there is never a traceback. Also the divisions
-# of tests/vm_working_out.py, on examples worked out by hand.
+# and the modes of tests/vm_working_out.py, on examples worked out by hand.
 import importlib.machinery, importlib.util, io, os, struct, sys, tempfile
 
 ROOT = os.path.dirname(os.path.dirname(os.path.abspath(__file__)))
 sys.pycache_prefix = os.path.join(ROOT, 'target', 'pycache')
 sys.path.insert(0, os.path.join(ROOT, 'tools'))
+import design
 import faults
 import notation
 import shown
@@ -91,6 +92,44 @@ def divisions():
             same(''.join(reversed(found)), expected, f'{name} of {left} by {right}')
 
 
+def modes():
+    """The obligations of a list with every kind of edit, in both modes, and what they are in a case worked out by hand.
+
+    At a clock edge with d = 1 and e = 0, where all flip-flops were 0: a, b and added are 1 now, other is 0; n, the Not of
+    a as it was, is 1. Pairs: b by a, as in the twins; other by added, whose data differ; n by added, which is no pair of
+    flip-flops; void by a as it was, an assertion; e by itself, none.
+    """
+    text = """#9 #1 #2 #5
+        clk: Input #1, d: Input #1, e: Input #1
+        a: Dff #1 #0 clk 0 0 1 d X X
+        b: Dff #1 #0 clk 0 0 1 d X X
+        other: Dff #1 #0 clk 0 0 1 e X X
+        n: Not #1 a
+        void: Void, note: Note
+        added: Dff #1 #0 clk 0 0 1 d X X
+        #b Dff #1 #0 clk 0 0 1 d X X
+        #n Not #1 b
+        e e, b a, other added, n added, void a"""
+    new, read = 'flip-flop {} replaced by flip-flop {}: new state against new state', '{} replaced by {}, as it is read'
+    for mode in (0, 1):
+        words, _, names = notation.parse_named(text)
+        result = verdict.Result('-', words=words, names=names, mode=mode)
+        design.fill(result)
+        told = ['b replaced by Dff #1 #0 clk 0 0 1 d X X', 'n replaced by Not #1 b']
+        for pair in (('b', 'a'), ('other', 'added')):
+            told += [new.format(*pair)] + [read.format(*pair)] * (mode == 0)
+        told.append('n replaced by added')
+        same([edit for _, edit in design.obligations(result)], told, f'the obligations in mode {mode}')
+        same(design.joined(result), 2, 'pairs of flip-flops')
+        worked = vm_working_out.Design(result)
+        was = dict.fromkeys(range(10), '0')
+        now = worked.worked_out({0: '1', 1: '1', 2: '0', 8: '0'}, was)
+        same(''.join(now[slot] for slot in (3, 4, 5, 6, 7, 9)), '110101', 'a, b, other, n, void and added')
+        # The cells; b and a now, and in mode 0 b now and a as it was; other and added, which is read now; n and added.
+        states = [True, True, True, False, False, False, True] if mode == 0 else [True, True, True, False, True]
+        same(worked.obligations(now, was), states, f'what they are in mode {mode}')
+
+
 def bad_texts():
     for text, line, column, part in (
             ('#0,\nNott #1', 2, 1, "Is it 'Not'?"),
@@ -148,6 +187,8 @@ def files():
     del source.open
     status, out, err = vm('check', 'bad.txt', '--json')
     same((status, '"line": 2' in out, '"verdict": "NOT CHECKED"' in out), (2, True, True), 'JSON of a bad text')
+    same(['"mode": 1' in vm('check', 'bad.txt', '--json', *more)[1] for more in ((), ('--mode', '1'))], [False, True],
+         'the mode in JSON')
 
 
 def commands():
@@ -163,12 +204,19 @@ def commands():
     same(vm('explain', '1', '20')[0], 0, 'explain two')
     same(vm('explain')[1].count('\n'), len(faults.FAULTS), 'explain')
     good = ('check', 'good.txt')
-    for arguments in ((), ('check',), ('explain', '21'), ('explain', 'x'), ('nothing',), good + ('--jobs', '0'),
-                      good + ('--timeout', '-1'), good + ('--timeout', 'nan'), good + ('--solver', '"')):
+    same(vm('explain', '23')[0], 0, 'explain 23')
+    for arguments in ((), ('check',), ('explain', '21'), ('explain', '22'), ('explain', '24'), ('explain', 'x'), ('nothing',),
+                      good + ('--jobs', '0'), good + ('--timeout', '-1'), good + ('--timeout', 'nan'),
+                      good + ('--solver', '"'), ('show', 'good.txt', '--mode', '1'), ('words', 'good.txt', '--mode', '0')):
         same(vm(*arguments)[0], 2, f'vm {arguments}')
+    for named in ('check', 'report', 'script'):
+        for mode in ('2', '-1', '10', 'Inductive', ''):
+            status, out, err = vm(named, 'good.txt', '--mode=' + mode)
+            same((status, out, f"'{mode}' is no mode" in err), (2, '', True), f'{named} --mode={mode}: {err}')
     status, helped, _ = vm('check', '--help')
     same((status, [number for number in range(8) if f'  {number}  ' in helped]), (0, list(range(8))), 'check --help')
-    for arguments in (good, ('script', 'good.txt'), good + ('bad.txt',), ('report', 'good.txt')):
+    for arguments in (good, ('script', 'good.txt'), good + ('bad.txt',), ('report', 'good.txt'), good + ('--mode', '1'),
+                      ('script', 'good.txt', '--mode', 'inductive'), ('report', 'good.txt', '--mode', 'ported')):
         status, _, err = vm(*arguments)
         same((status, 'libvirginalmimas.a' in err), (2, True), f'{arguments} without an archive: {err}')
     status, _, err = vm(*good, '--solver', 'z3')
@@ -198,6 +246,6 @@ command = loaded()
 os.environ.update(PATH='', VIRGINALMIMAS_ARCHIVE='/nowhere', VM_TRACE='1')
 with tempfile.TemporaryDirectory() as folder:
     os.chdir(folder)
-    for group in (names, divisions, bad_texts, both_ways, files, commands, replies):
+    for group in (names, divisions, modes, bad_texts, both_ways, files, commands, replies):
         group()
 print(f'vm without an archive: {done} tests passed')

@@ -1,5 +1,5 @@
-"""Document 01's "Reading nets" and "Cell rules", with document 02's divisions, written from the paper as a second
-opinion, for tests alone.
+"""Document 01's "Reading nets" and "Cell rules", with document 02's divisions and modes, written from the paper as a
+second opinion, for tests alone.
 
 A trit is '0', '1' or 'X'. A design is a result of vm with its cells and replacements; given trits are two tables by
 slot, now and was.
@@ -100,7 +100,7 @@ class Design:
     """An accepted design, and how its nets are read."""
 
     def __init__(self, result):
-        self.cells, self.edits, self.base = result.cells, result.replacements, result.base
+        self.cells, self.edits, self.base, self.mode = result.cells, result.replacements, result.base, result.mode
         self.owner = {slot: cell for cell in result.cells for slot in range(cell.slot, cell.slot + max(1, cell.width))}
         self.void = {edit.old.slot: edit.new for edit in self.edits if edit.kind == 'net' and edit.old != edit.new
                      and edit.old.slot is not None and self.owner[edit.old.slot].operation == 'Void'}
@@ -212,10 +212,11 @@ class Design:
                     old = [now[slot] for slot in range(edit.slot, edit.slot + edit.cell.width)]
                     found.append(refines(old, self.rule(edit.cell, now, was)))
             elif edit.old != edit.new and edit.old.slot not in self.void:
-                old = [self.at(edit.old, now)]
-                if self._is_dff(edit.old) and self._is_dff(edit.new):
+                old, joined = [self.at(edit.old, now)], self._is_dff(edit.old) and self._is_dff(edit.new)
+                if joined:
                     found.append(refines(old, [self.at(edit.new, now)]))
-                found.append(refines(old, [self.read(edit.new, now, was)]))
+                if not joined or self.mode == 0:
+                    found.append(refines(old, [self.read(edit.new, now, was)]))
         return found
 
 

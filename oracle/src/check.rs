@@ -3,13 +3,14 @@
 use netlist::REACHED;
 
 use crate::features::{self, Tally};
-use crate::generate::{self, Among, Size};
+use crate::generate::{self, Size};
 use crate::list::{Cell, List};
 use crate::random::Random;
 use crate::read::{self, Fault};
 use crate::record::{Answer, CALLS, CHECK, Name, REFUSED_CALL, Record};
 use crate::rust::{self, Way};
-use crate::{damage, words};
+use crate::scope::Scope;
+use crate::{damage, twins, words};
 
 /// What went wrong, counted; a run is good if nothing did.
 #[derive(Default)]
@@ -74,18 +75,22 @@ impl Extremes {
 
 /// Generated lists: the reader takes each apart as it was put together, the Rust makes its calls without a stand-in
 /// and without a trap but the known ones, and the marks are what the Rust itself asks for after sat.
-fn check_accepted(seed: u64, count: u64, size: Size, among: Among, findings: &mut Findings) {
+fn check_accepted(seed: u64, count: u64, size: Size, scope: Scope, findings: &mut Findings) {
     let (mut met, mut calls, mut panics) = (Tally::new(), [0; CALLS.len()], Tally::new());
     let mut extremes = Extremes::default();
     let (mut list_words, mut call_words, mut longest, mut obliged) = (0, 0, (0, 0), 0);
+    let mut modes = Tally::new();
     for index in 0..count {
-        let list = generate::generate(seed, index, size, among);
+        let list = generate::generate(seed, index, size, scope);
         let words = list.words();
         findings.expect(read::read(&words) == Ok(list.clone()), "the reader gives another list back", index);
         list_words += words.len();
         extremes.meet_list(&list, words.len());
         features::features(&list).into_iter().for_each(|name| features::add(&mut met, name));
 
+        if scope.inductive && !features::dff_by_void(&list) {
+            check_inductive(&list, scope, index, findings, &mut modes);
+        }
         let run = rust::run(&list, Way::AsListed, Answer::Unsat, false);
         if let Some(message) = &run.panic {
             findings.expect(!message.starts_with(REACHED), "a stand-in was reached", index);
@@ -113,11 +118,45 @@ fn check_accepted(seed: u64, count: u64, size: Size, among: Among, findings: &mu
     println!("  at most {} for a list (of {} words); {obliged} lists with an obligation", longest.0, longest.1);
     println!("largest: {}", joined(extremes.0.iter().map(|(name, most)| format!("{name} {most}"))));
     print_tally("panics", &panics);
+    if scope.inductive {
+        print_tally("both modes, without these pairs that trap", &modes);
+    }
     println!("calls: {}", joined(CALLS.iter().zip(calls).map(|(name, many)| format!("{name} {many}"))));
     for kind in ["base ", "added ", "new ", "old ", "replaced by ", "net ", "pair "] {
         let some = met.iter().filter(|(name, _)| name.starts_with(kind));
         println!("{kind}: {}", joined(some.map(|(name, many)| format!("{} {many}", &name[kind.len()..]))));
     }
+}
+
+/// A list in the inductive mode. The Rust's builder makes the calls of `Design::verify` when it is handed the list's
+/// changes one by one; without the ordinary obligations of joined flip-flops it makes those that are cut out of the
+/// Rust's, and asks for what the marks say after sat. For each joined pair the cut is of 21 words.
+fn check_inductive(list: &List, scope: Scope, index: u64, findings: &mut Findings, met: &mut Tally) {
+    let given = scope.for_the_rust(list);
+    let ported = Scope { inductive: false, ..scope }.run(list).record;
+    let cut = scope.run(list).record;
+    for (inductive, made) in [(false, &ported), (true, &cut)] {
+        let built = scope.divided(list, rust::run_builder(&given, inductive, Answer::Unsat, true));
+        findings.expect(built.panic.is_none(), "the builder panicked", index);
+        findings.expect(built.record.words == made.words, "other calls of the builder", index);
+        findings.expect(built.record.marks == made.marks, "other marks of the builder", index);
+    }
+    let sat = rust::run_builder(&given, true, Answer::SatThenStop, false).record;
+    let asks = sat.calls[CHECK as usize] > 0;
+    findings.expect(!asks || asked_as_marked(&sat), "marks that the builder does not ask for", index);
+
+    let pairs = twins::joined(list).len();
+    findings.expect(ported.words.len() == cut.words.len() + 21 * pairs, "a cut of another length", index);
+    findings.expect(pairs > 0 || ported.words == cut.words && ported.marks == cut.marks, "a cut of nothing", index);
+    *met.entry("call words in the ported mode".to_string()).or_default() += ported.count;
+    *met.entry("call words in the inductive mode".to_string()).or_default() += cut.count;
+    *met.entry("joined pairs".to_string()).or_default() += pairs as u64;
+    let counted = [
+        ("lists with joined flip-flops", pairs > 0),
+        ("lists whose calls differ between the modes", ported.words != cut.words),
+        ("lists whose marks differ between the modes", ported.marks != cut.marks),
+    ];
+    counted.iter().filter(|(_, here)| *here).for_each(|(name, _)| features::add(met, name.to_string()));
 }
 
 /// Whether a fault is decided by the words up to its place and the list's length.
@@ -127,10 +166,10 @@ fn decided_by_prefix(fault: Fault) -> bool {
 
 /// Damaged lists: the reader answers on each; a fault that the words up to its place decide stays when the words after
 /// it change; a list that is accepted is written back as it was; and what the Rust does with refused ones is counted.
-fn check_damaged(seed: u64, count: u64, among: Among, findings: &mut Findings) {
+fn check_damaged(seed: u64, count: u64, scope: Scope, findings: &mut Findings) {
     let (mut faults, mut of_the_rust) = (Tally::new(), Tally::new());
     for index in 0..count {
-        let mut list = damage::damage(seed, index, among);
+        let mut list = damage::damage(seed, index, scope);
         let answer = read::read(&list);
         let fault = match answer {
             Ok(whole) => {
@@ -179,10 +218,10 @@ fn print_tally(title: &str, tally: &Tally) {
 }
 
 /// All runs; whether nothing was found.
-pub fn check(seed: u64, count: u64, size: Size, among: Among) -> bool {
+pub fn check(seed: u64, count: u64, size: Size, scope: Scope) -> bool {
     let mut findings = Findings::default();
-    check_accepted(seed, count, size, among, &mut findings);
-    check_damaged(seed, count, among, &mut findings);
+    check_accepted(seed, count, size, scope, &mut findings);
+    check_damaged(seed, count, scope, &mut findings);
     print_tally("findings", &findings.0);
     findings.0.is_empty()
 }

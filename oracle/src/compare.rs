@@ -2,11 +2,12 @@
 //! counts must be equal, and what is not written must stay as it was.
 
 use crate::features::{self, Tally};
-use crate::generate::{self, Among, Size};
+use crate::generate::{self, Size};
 use crate::list::List;
 use crate::read::{self, Fault};
 use crate::record::CALLS;
-use crate::{damage, division, port, words};
+use crate::scope::Scope;
+use crate::{damage, port, twins, words};
 
 /// Elements beside a lent slice that must stay as they were, on either side.
 const MARGIN: usize = 16;
@@ -67,6 +68,16 @@ struct Wanted {
     counts: Counts,
 }
 
+impl Wanted {
+    /// The calls of a list in a mode, unless the Rust panics; divisions have theirs.
+    fn of(list: &List, inductive: bool) -> Option<Wanted> {
+        let run = Scope { divisions: true, inductive }.run(list);
+        let counts = Counts::of(&run.record.words);
+        let marks = run.record.marks.iter().map(|mark| *mark as u8).collect();
+        run.panic.is_none().then_some(Wanted { calls: run.record.words, marks, counts })
+    }
+}
+
 /// Counts taken from call words, record by record.
 #[derive(Default, Clone, Copy)]
 struct Counts {
@@ -107,9 +118,14 @@ impl Counts {
     }
 }
 
+/// Modes that there are not.
+const NO_MODES: [u32; 4] = [2, 3, 1 << 31, u32::MAX];
+
 /// What was compared, and the differences.
 #[derive(Default)]
 struct Comparison {
+    /// The mode that the entries are given; without it, those that take none.
+    mode: Option<u32>,
     met: Tally,
     differences: Tally,
 }
@@ -122,14 +138,15 @@ impl Comparison {
     fn expect(&mut self, holds: bool, otherwise: &str, list: &str) {
         if !holds {
             features::add(&mut self.differences, otherwise.to_string());
-            eprintln!("{list}: {otherwise}");
+            let mode = self.mode.map_or(String::new(), |mode| format!(" in mode {mode}"));
+            eprintln!("{list}{mode}: {otherwise}");
         }
     }
 
     /// A run of `verify` with this room, whose answer and what it writes are known.
     fn verify(&mut self, words: &[u32], room: (usize, usize), answer: u64, written: (&[u32], &[u8]), list: &str) {
         let (mut calls, mut recorded) = (Lent::new(room.0), Lent::new(room.1));
-        let said = port::verify(words, calls.slice(), recorded.slice());
+        let said = port::verify(self.mode, words, calls.slice(), recorded.slice());
         let refused = answer >> 48 > 0;
         self.expect(said == answer, if refused { "another refusal" } else { "another answer" }, list);
         self.expect(calls.holds(written.0), if refused { "calls written" } else { "other calls" }, list);
@@ -141,7 +158,7 @@ impl Comparison {
     /// A run of `counts` with this room.
     fn counts(&mut self, words: &[u32], room: usize, answer: u64, written: &[u64], list: &str) {
         let mut counts = Lent::new(room);
-        self.expect(port::counts(words, counts.slice()) == answer, "another answer of counts", list);
+        self.expect(port::counts(self.mode, words, counts.slice()) == answer, "another answer of counts", list);
         self.expect(counts.holds(written), "other counts", list);
         self.count("runs of counts", 1);
     }
@@ -168,23 +185,18 @@ impl Comparison {
         self.counts(words, 3, answer, &wanted.counts.listed(), list);
         self.counts(words, 5, answer, &wanted.counts.listed(), list);
         self.counts(words, 2, refusal(14, 3), &[], list);
-        self.count(if wanted.counts.asked { "lists that ask" } else { "lists that ask nothing" }, 1);
-        self.count("call words", room);
-        self.count("marks", slots);
-        self.count("terms", wanted.counts.terms as usize);
-        self.count("temporaries", wanted.counts.temporaries as usize);
     }
 
     /// A list on which the Rust is known to trap: accepted, and what its calls hold is what is counted.
     fn trapped(&mut self, words: &[u32], slots: usize, list: &str) {
         let mut counts = [0; 3];
-        let answer = port::counts(words, &mut counts);
+        let answer = port::counts(self.mode, words, &mut counts);
         self.expect(answer >> 48 == 0, "a refusal where the Rust traps", list);
         let (mut calls, mut recorded) = (Lent::new(counts[2] as usize), Lent::new(slots));
-        self.expect(port::verify(words, calls.slice(), recorded.slice()) == answer, "another answer", list);
+        let said = port::verify(self.mode, words, calls.slice(), recorded.slice());
+        self.expect(said == answer, "another answer", list);
         let made = Counts::of(calls.slice());
         self.expect(made.packed() == answer && made.listed() == counts, "counts of other calls", list);
-        self.count("lists where the Rust traps as known", 1);
     }
 
     /// A refused list: neither slice is written, with room or without.
@@ -195,37 +207,83 @@ impl Comparison {
         self.verify(words, (0, 0), answer, (&[], &[]), list);
         self.counts(words, 4, answer, &[], list);
         self.counts(words, 0, answer, &[], list);
-        self.count(&format!("refused {:02}", fault.number), 1);
     }
 
-    fn list(&mut self, words: &[u32], read: Result<List, Fault>, name: &str) {
+    /// Any list in a mode that there is not: refused before it is looked at.
+    fn in_no_mode(&mut self, words: &[u32], list: &str) {
+        let answer = refusal(23, 0);
+        for mode in NO_MODES {
+            self.mode = Some(mode);
+            self.verify(words, (200, 200), answer, (&[], &[]), list);
+            self.verify(words, (0, 0), answer, (&[], &[]), list);
+            self.counts(words, 4, answer, &[], list);
+            self.counts(words, 0, answer, &[], list);
+            self.count("runs in modes that there are not", 4);
+        }
+    }
+
+    /// A list through the entries without a mode, or through these and those with one, in both modes and in none.
+    fn list(&mut self, words: &[u32], read: Result<List, Fault>, scope: Scope, name: &str) {
         self.count("words", words.len());
+        let ported: &[Option<u32>] = if scope.inductive { &[None, Some(0)] } else { &[None] };
+        let inductive: &[Option<u32>] = if scope.inductive { &[Some(1)] } else { &[] };
+        if scope.inductive {
+            self.in_no_mode(words, name);
+        }
         let list = match read {
             Ok(list) => list,
-            Err(fault) => return self.refused(words, fault, name),
+            Err(fault) => {
+                self.count(&format!("refused {:02}", fault.number), 1);
+                for mode in [ported, inductive].concat() {
+                    self.mode = mode;
+                    self.refused(words, fault, name);
+                }
+                return;
+            }
         };
         self.count("accepted", 1);
-        let run = division::run(&list);
-        if run.panic.is_some() {
+        let Some(wanted) = Wanted::of(&list, false) else {
             self.expect(features::dff_by_void(&list), "the Rust panicked", name);
-            return self.trapped(words, list.slots() as usize, name);
+            self.count("lists where the Rust traps as known", 1);
+            for mode in [ported, inductive].concat() {
+                self.mode = mode;
+                self.trapped(words, list.slots() as usize, name);
+            }
+            return;
+        };
+        for mode in ported {
+            self.mode = *mode;
+            self.accepted(words, &wanted, name);
         }
-        let counts = Counts::of(&run.record.words);
-        let marks = run.record.marks.iter().map(|mark| *mark as u8).collect();
-        self.accepted(words, &Wanted { calls: run.record.words, marks, counts }, name);
+        self.count(if wanted.counts.asked { "lists that ask" } else { "lists that ask nothing" }, 1);
+        self.count("call words", wanted.calls.len());
+        self.count("marks", wanted.marks.len());
+        self.count("terms", wanted.counts.terms as usize);
+        self.count("temporaries", wanted.counts.temporaries as usize);
+        for mode in inductive {
+            self.mode = *mode;
+            let cut = Wanted::of(&list, true).expect("no other panic");
+            self.accepted(words, &cut, name);
+            let pairs = twins::joined(&list).len();
+            self.count("joined pairs", pairs);
+            self.count("lists with joined flip-flops", (pairs > 0) as usize);
+            self.count("lists whose calls differ between the modes", (cut.calls != wanted.calls) as usize);
+            self.count("lists whose marks differ between the modes", (cut.marks != wanted.marks) as usize);
+            self.count("call words in the inductive mode", cut.calls.len());
+        }
     }
 }
 
 /// So many generated lists of a size and so many damaged ones; whether nothing differs.
-pub fn compare(seed: u64, count: u64, size: Size, among: Among) -> bool {
+pub fn compare(seed: u64, count: u64, size: Size, scope: Scope) -> bool {
     let mut comparison = Comparison::default();
     for index in 0..count {
-        let list = generate::generate(seed, index, size, among);
-        comparison.list(&list.words(), Ok(list), &format!("list {index}"));
+        let list = generate::generate(seed, index, size, scope);
+        comparison.list(&list.words(), Ok(list), scope, &format!("list {index}"));
     }
     for index in 0..count {
-        let words = damage::damage(seed, index, among);
-        comparison.list(&words, read::read(&words), &format!("damaged list {index}"));
+        let words = damage::damage(seed, index, scope);
+        comparison.list(&words, read::read(&words), scope, &format!("damaged list {index}"));
     }
     println!("{} lists, half of them damaged", 2 * count);
     for (name, many) in &comparison.met {

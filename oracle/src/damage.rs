@@ -1,12 +1,13 @@
 //! Damaged design lists from a seed: an accepted list with one or two wounds. Some are accepted all the same.
 
-use crate::generate::{self, Among, Size};
+use crate::generate::{self, Size};
 use crate::list::{self, Cell, Control, Dff, List, Net};
 use crate::random::Random;
+use crate::scope::Scope;
 use crate::words::{self, HEAD, INVERTED, LAST, NET, NUMBER, TERM};
 
 /// The damaged list of this index under this seed.
-pub fn damage(seed: u64, index: u64, among: Among) -> Vec<u32> {
+pub fn damage(seed: u64, index: u64, scope: Scope) -> Vec<u32> {
     let mut random = Random::new(!seed, index);
     let size = match random.below(400) {
         0 => Size::Long,
@@ -14,10 +15,10 @@ pub fn damage(seed: u64, index: u64, among: Among) -> Vec<u32> {
         41..=160 => Size::Tiny,
         _ => Size::Small,
     };
-    let mut list = generate::generate(seed, index, size, among);
+    let mut list = generate::generate(seed, index, size, scope);
     let layout_whole = random.percent(40);
     if layout_whole {
-        wound_list(&mut list, &mut random, among);
+        wound_list(&mut list, &mut random, scope);
     }
     let mut words = list.words();
     if !layout_whole || random.percent(20) {
@@ -29,7 +30,7 @@ pub fn damage(seed: u64, index: u64, among: Among) -> Vec<u32> {
 }
 
 /// A wound that keeps the layout whole: one that only the rules see.
-fn wound_list(list: &mut List, random: &mut Random, among: Among) {
+fn wound_list(list: &mut List, random: &mut Random, scope: Scope) {
     let slots = list.slots();
     match random.below(8) {
         // Froms out of order, or one twice.
@@ -63,11 +64,9 @@ fn wound_list(list: &mut List, random: &mut Random, among: Among) {
         // Cells without width that need one, and an update past its value's end.
         4 | 5 => {
             let n = random.below(3) as usize;
-            let op = match among {
-                Among::Lowered => random.pick(&[list::EQ, list::ULT, list::SLT]),
-                // An unsigned one needs no width.
-                Among::Divisions => random.pick(&[list::UDIV, list::SDIVTRUNC, list::SMODTRUNC]),
-            };
+            // An unsigned division needs no width.
+            let divisions = [list::UDIV, list::SDIVTRUNC, list::SMODTRUNC];
+            let op = random.pick(if scope.divisions { &divisions } else { &[list::EQ, list::ULT, list::SLT] });
             let cell = match random.below(3) {
                 0 => Cell::Two(op, vec![], vec![]),
                 1 => Cell::Shift { op: list::SSHR, value: vec![], amount: vec![Net::ONE; n], stride: 1 },

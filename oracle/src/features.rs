@@ -3,6 +3,7 @@
 use std::collections::BTreeMap;
 
 use crate::list::{Cell, Control, List, NAMES, Net};
+use crate::twins;
 
 /// How often each thing was met, by its name.
 pub type Tally = BTreeMap<String, u64>;
@@ -12,7 +13,7 @@ pub fn add(tally: &mut Tally, name: String) {
 }
 
 /// The cell that a net belongs to, and whether it is of the base.
-fn cell_of(list: &List, net: Net) -> Option<(&Cell, bool)> {
+pub fn cell_of(list: &List, net: Net) -> Option<(&Cell, bool)> {
     let slot = net.slot()?;
     let mut first = 0;
     let base = list.base.iter().map(|cell| (cell, true));
@@ -137,6 +138,45 @@ pub fn features(list: &List) -> Vec<String> {
         let kind = pair(list, *from, *to);
         met.push(format!("net {}", calls_of_pair(&kind)));
         met.push(format!("pair {kind}"));
+    }
+    met.extend(of_joined(list));
+    met
+}
+
+/// A joined pair in a list with a division.
+pub const BESIDE_DIVISION: &str = "joined beside a division";
+
+/// What else may stand in a list with joined flip-flops.
+#[rustfmt::skip]
+pub const JOINED: [&str; 8] = [
+    "joined twice, on and on", "joined twice, to one", "joined twice, to and fro", "joined, one's cell replaced",
+    "joined, the new net read later", "joined beside a Void's pair", "joined beside an obliged pair", "joined nowhere",
+];
+
+/// Which of these stand in a list.
+fn of_joined(list: &List) -> Vec<String> {
+    let pairs = twins::joined(list);
+    if pairs.is_empty() {
+        return vec![JOINED[7].to_string()];
+    }
+    let in_cell = |slot: u32, first: u32, cell: &Cell| (first..first + cell.slots()).contains(&slot);
+    let kinds = list.net_replacements.iter().map(|(from, to)| pair(list, *from, *to)).collect::<Vec<_>>();
+    let some = |calls: &str| kinds.iter().any(|kind| calls_of_pair(kind) == calls);
+    let (mut on, mut to_one, mut to_and_fro, mut replaced, mut later) = (false, false, false, false, false);
+    for (from, to, _) in &pairs {
+        on |= pairs.iter().any(|(next, end, _)| next == to && end != from);
+        to_one |= pairs.iter().any(|(other, same, _)| other != from && same == to);
+        to_and_fro |= pairs.iter().any(|(next, end, _)| next == to && end == from);
+        let of_either = |(at, new): &(u32, Cell)| in_cell(*from, *at, new) || in_cell(*to, *at, new);
+        replaced |= list.cell_replacements.iter().any(|one| one.1.output_width() > 0 && of_either(one));
+        let read = |pair: &&(Net, Net)| pair.1.slot() == Some(*to) && pair.0.slot() > Some(*from);
+        later |= list.net_replacements.iter().any(|pair| read(&pair) && twins::joins(list, pair.0, pair.1).is_none());
+    }
+    let here = [on, to_one, to_and_fro, replaced, later, some("asserted"), some("obliged")];
+    let mut met =
+        JOINED.iter().zip(here).filter(|(_, here)| *here).map(|(name, _)| name.to_string()).collect::<Vec<_>>();
+    if list.cells().any(|cell| cell.divides() && cell.output_width() > 0) {
+        met.push(BESIDE_DIVISION.to_string());
     }
     met
 }

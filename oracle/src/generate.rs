@@ -4,6 +4,7 @@
 
 use crate::list::{self, Cell, Control, Dff, List, Net};
 use crate::random::Random;
+use crate::scope::Scope;
 
 /// How large a list is to be.
 #[derive(Debug, Clone, Copy, PartialEq, Eq)]
@@ -18,15 +19,6 @@ pub enum Size {
     Long,
     /// Mostly small, some medium, a long one now and then.
     Mixed,
-}
-
-/// Which operations a list may hold.
-#[derive(Debug, Clone, Copy, PartialEq, Eq)]
-pub enum Among {
-    /// Those that the Rust makes calls for.
-    Lowered,
-    /// The divisions too.
-    Divisions,
 }
 
 /// The operation of a cell and the numbers of its body, without its nets.
@@ -91,7 +83,7 @@ const STRIDES: [u32; 16] = [0, 0, 1, 1, 1, 2, 3, 4, 7, 8, 63, 64, 1_000, 1 << 15
 pub struct Generator {
     random: Random,
     size: Size,
-    among: Among,
+    scope: Scope,
     /// Which slots of the base hold Voids.
     base_voids: Vec<bool>,
     /// Slots that a net word may name.
@@ -105,7 +97,7 @@ pub struct Generator {
 }
 
 /// The list of this index under this seed.
-pub fn generate(seed: u64, index: u64, size: Size, among: Among) -> List {
+pub fn generate(seed: u64, index: u64, size: Size, scope: Scope) -> List {
     let mut random = Random::new(seed, index);
     let size = match size {
         Size::Mixed => match random.below(200) {
@@ -116,12 +108,12 @@ pub fn generate(seed: u64, index: u64, size: Size, among: Among) -> List {
         },
         size => size,
     };
-    Generator::new(random, size, among).list()
+    Generator::new(random, size, scope).list()
 }
 
 /// A list of an Input and one cell of this operation and width, one of whose nets is replaced.
 pub fn single(seed: u64, index: u64, op: u32, n: u32) -> List {
-    let mut generator = Generator::new(Random::new(seed, index), Size::Tiny, Among::Lowered);
+    let mut generator = Generator::new(Random::new(seed, index), Size::Tiny, Scope::default());
     let input = generator.shape_of(list::INPUT, n.clamp(1, 4));
     let mut shape = generator.shape_of(op, n);
     if op == list::MATCH {
@@ -143,11 +135,11 @@ fn fit(mut list: List) -> List {
 }
 
 impl Generator {
-    fn new(random: Random, size: Size, among: Among) -> Self {
+    fn new(random: Random, size: Size, scope: Scope) -> Self {
         Generator {
             random,
             size,
-            among,
+            scope,
             base_voids: vec![],
             readable: vec![],
             dff_slots: vec![],
@@ -158,14 +150,15 @@ impl Generator {
     }
 
     fn list(mut self) -> List {
+        let least = self.scope.inductive as u32;
         match self.size {
             Size::Long => fit(self.long_list()),
             Size::Tiny => {
-                let (base, added) = (self.random.below(3), self.random.below(3));
+                let (base, added) = (least + self.random.below(3), self.random.below(3));
                 self.cells_and_replacements(base, added)
             }
             Size::Small => {
-                let (base, added) = (self.random.below(5), self.random.below(3));
+                let (base, added) = (least + self.random.below(5), self.random.below(3));
                 self.cells_and_replacements(base, added)
             }
             Size::Medium | Size::Mixed => {
@@ -182,7 +175,8 @@ impl Generator {
         let mut list = self.lay_out(base, added);
         let most = if self.size == Size::Medium { 8 } else { 2 };
         self.replace_cells(&mut list, most, 40);
-        let wanted = self.random.below(2 * most + 1);
+        let least = if self.scope.inductive { most } else { 0 };
+        let wanted = least + self.random.below(2 * most + 1);
         self.replace_nets(&mut list, wanted);
         fit(list)
     }
@@ -208,7 +202,10 @@ impl Generator {
     }
 
     fn operation(&mut self) -> u32 {
-        let divides = self.among == Among::Divisions && self.random.percent(30);
+        if self.scope.inductive && self.random.percent(35) {
+            return list::DFF;
+        }
+        let divides = self.scope.divisions && self.random.percent(30);
         self.random.pick(if divides { &DIVISIONS } else { &OPERATIONS })
     }
 
@@ -451,6 +448,9 @@ impl Generator {
 
     fn from(&mut self) -> Net {
         let voids = self.base_voids.iter().filter(|void| **void).count() as u32;
+        if self.scope.inductive && !self.dff_slots.is_empty() && self.random.percent(50) {
+            return Net::of_slot(self.random.pick(&self.dff_slots));
+        }
         match self.random.below(10) {
             0 => self.constant(),
             1..=3 if !self.dff_slots.is_empty() => Net::of_slot(self.random.pick(&self.dff_slots)),
@@ -469,7 +469,7 @@ impl Generator {
     fn to(&mut self, from: Net) -> Net {
         let of_dff = from.slot().is_some_and(|slot| self.dff_slots.contains(&slot));
         let of_base_void = from.slot().is_some_and(|slot| self.base_voids.get(slot as usize) == Some(&true));
-        if of_dff && self.random.percent(55) {
+        if of_dff && self.random.percent(if self.scope.inductive { 80 } else { 55 }) {
             return Net::of_slot(self.random.pick(&self.dff_slots));
         }
         if !of_base_void && self.random.percent(6) {
@@ -482,9 +482,9 @@ impl Generator {
         to
     }
 
-    /// Lists near a bound, of eight kinds.
+    /// Lists near a bound, of eight kinds; where flip-flops are to be joined, of those that hold some, and one more.
     fn long_list(&mut self) -> List {
-        match self.random.below(8) {
+        match if self.scope.inductive { self.random.pick(&[1, 7, 8]) } else { self.random.below(8) } {
             // Wide cells until the list has exactly 16,384 words.
             0 => self.full_list(|all| {
                 let op = all.random.pick(&OPERATIONS);
@@ -536,6 +536,14 @@ impl Generator {
                 let mut list =
                     self.lay_out(vec![Shape { op: list::INPUT, n: 63, m: 0, alternates: vec![] }], vec![deep]);
                 self.replace_nets(&mut list, 3);
+                list
+            }
+            // Flip-flops of one bit, as many as the words allow, each net replaced.
+            8 => {
+                let dff = Shape { op: list::DFF, n: 1, m: 0, alternates: vec![] };
+                let base = self.random.between(0, 1_365);
+                let mut list = self.lay_out(vec![dff.clone(); base as usize], vec![dff; 1_365 - base as usize]);
+                list.net_replacements = (2..2 + self.slots).map(|at| (Net(at), self.to(Net(at)))).collect();
                 list
             }
             // Flip-flops of 63 bits, all their nets replaced by each other's.

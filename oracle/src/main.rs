@@ -1,5 +1,6 @@
 //! The oracle: the given Rust as the judge of the port's solver calls. README.md tells the commands and the forms.
 
+mod changed;
 mod check;
 #[cfg(port)]
 mod compare;
@@ -17,31 +18,37 @@ mod read;
 mod record;
 mod rust;
 mod sample;
+mod scope;
 mod script;
+mod twins;
 mod words;
 
 use std::io::{self, BufRead, Write};
 use std::path::Path;
 use std::process::ExitCode;
 
-use generate::{Among, Size};
+use generate::Size;
 use list::List;
-use record::{Answer, Digest};
+use record::{Answer, Digest, Record};
 use rust::{Run, Way};
+use scope::Scope;
 
 const USAGE: &str = "usage: oracle COMMAND
-  calls [anyway|public|divisions]
-                          lists to the calls and marks of the Rust
-  digest [divisions]      the same, the words and marks as one number
+  calls [anyway|public]   lists to the calls and marks of the Rust
+  calls [divisions] [inductive]
+                          the same, with the calls of divisions, in the inductive mode
+  digest [divisions] [inductive]
+                          the same, the words and marks as one number
   read                    lists to `accepted` or `refused N at P`
   show, words             lists to document 01's notation, and back
-  script [divisions]      lists to the text of the Rust's calls
+  script [divisions] [inductive]
+                          lists to the text of the calls
   sat                     lists to what the Rust does when the solver says sat
-  generate [divisions] SEED COUNT [tiny|small|medium|long|mixed]
-  damage [divisions] SEED COUNT
-  check [divisions] SEED COUNT [SIZE]
+  generate [divisions] [inductive] SEED COUNT [tiny|small|medium|long|mixed]
+  damage [divisions] [inductive] SEED COUNT
+  check [divisions] [inductive] SEED COUNT [SIZE]
                           many lists through everything, with the figures
-  compare [divisions] SEED COUNT [SIZE]
+  compare [divisions] [inductive] SEED COUNT [SIZE]
                           many lists through the proved archive and the Rust, with the figures
   expect                  a document's rows of lists with expected answers: which differ
   sample SEED FOLDER      writes the stored sample
@@ -64,20 +71,12 @@ fn main() -> ExitCode {
 /// Runs a command; whether all was well, or what cannot be done.
 fn command(arguments: &[&str]) -> Result<bool, String> {
     match arguments {
-        [name @ ("generate" | "damage" | "check" | "compare"), "divisions", rest @ ..] => {
-            on_lists(&[&[*name], rest].concat(), Among::Divisions)
-        }
-        ["calls"] => lines(|line| on_words(line, |words| calls(words, false, Way::AsListed))),
-        ["calls", "anyway"] => lines(|line| on_words(line, |words| calls(words, true, Way::AsListed))),
-        ["calls", "public"] => lines(|line| on_words(line, |words| calls(words, true, Way::PublicCalls))),
-        ["calls", "divisions"] => lines(|line| on_words(line, calls_with_divisions)),
+        ["calls", "anyway"] => lines(|line| on_words(line, |words| calls_anyway(words, Way::AsListed))),
+        ["calls", "public"] => lines(|line| on_words(line, |words| calls_anyway(words, Way::PublicCalls))),
         ["digest"] => lines(|line| on_words(line, digest)),
-        ["digest", "divisions"] => lines(|line| on_words(line, digest_with_divisions)),
         ["read"] => lines(|line| on_words(line, expect::by_the_rules)),
         ["show"] => lines(|line| on_words(line, notation::show)),
         ["words"] => lines(|line| notation::parse(line).map(|words| words::to_line(&words))),
-        ["script"] => lines(|line| on_words(line, |words| script_text(words, false))),
-        ["script", "divisions"] => lines(|line| on_words(line, |words| script_text(words, true))),
         ["sat"] => lines(|line| on_words(line, after_sat)),
         ["expect"] => {
             let text = io::read_to_string(io::stdin()).map_err(|error| error.to_string())?;
@@ -86,25 +85,38 @@ fn command(arguments: &[&str]) -> Result<bool, String> {
             Ok(differing == 0)
         }
         ["sample", seed, folder] => sample::sample(number(seed)?, Path::new(folder)),
-        _ => on_lists(arguments, Among::Lowered),
+        [name, rest @ ..] => {
+            let (scope, rest) = Scope::parse(rest);
+            let answer = match *name {
+                "calls" => calls,
+                "digest" => digest_of_calls,
+                "script" => script_text,
+                _ => return on_lists(name, rest, scope),
+            };
+            if !rest.is_empty() {
+                return Err(USAGE.to_string());
+            }
+            lines(|line| on_words(line, |words| on_list(words, false, |list| scoped(list, scope, answer))))
+        }
+        [] => Err(USAGE.to_string()),
     }
 }
 
 /// Runs a command on lists from a seed.
-fn on_lists(arguments: &[&str], among: Among) -> Result<bool, String> {
-    match arguments {
-        ["damage", seed, count] => {
+fn on_lists(name: &str, arguments: &[&str], scope: Scope) -> Result<bool, String> {
+    match (name, arguments) {
+        ("damage", [seed, count]) => {
             let seed = number(seed)?;
-            write_lines((0..number(count)?).map(|index| words::to_line(&damage::damage(seed, index, among))))
+            write_lines((0..number(count)?).map(|index| words::to_line(&damage::damage(seed, index, scope))))
         }
-        [name @ ("generate" | "check" | "compare"), seed, count, size @ ..] if size.len() < 2 => {
+        ("generate" | "check" | "compare", [seed, count, size @ ..]) if size.len() < 2 => {
             let size = size.first().map_or(Ok(Size::Mixed), |size| size_of(size))?;
-            let run = match *name {
+            let run = match name {
                 "generate" => generated,
-                "check" => |seed, count, size, among| Ok(check::check(seed, count, size, among)),
+                "check" => |seed, count, size, scope| Ok(check::check(seed, count, size, scope)),
                 _ => compared,
             };
-            run(number(seed)?, number(count)?, size, among)
+            run(number(seed)?, number(count)?, size, scope)
         }
         _ => Err(USAGE.to_string()),
     }
@@ -151,73 +163,61 @@ fn on_words(line: &str, answer: impl FnOnce(&[u32]) -> String) -> Result<String,
 }
 
 #[cfg(port)]
-fn compared(seed: u64, count: u64, size: Size, among: Among) -> Result<bool, String> {
-    Ok(compare::compare(seed, count, size, among))
+fn compared(seed: u64, count: u64, size: Size, scope: Scope) -> Result<bool, String> {
+    Ok(compare::compare(seed, count, size, scope))
 }
 
 #[cfg(not(port))]
-fn compared(_seed: u64, _count: u64, _size: Size, _among: Among) -> Result<bool, String> {
+fn compared(_seed: u64, _count: u64, _size: Size, _scope: Scope) -> Result<bool, String> {
     Err("built without the archive: `rt staticlib virginalmimas`, then oracle/build".to_string())
 }
 
-fn generated(seed: u64, count: u64, size: Size, among: Among) -> Result<bool, String> {
-    write_lines((0..count).map(|index| words::to_line(&generate::generate(seed, index, size, among).words())))
+fn generated(seed: u64, count: u64, size: Size, scope: Scope) -> Result<bool, String> {
+    write_lines((0..count).map(|index| words::to_line(&generate::generate(seed, index, size, scope).words())))
 }
 
-/// The calls of the Rust on a list: how many call words and marks there are, then the words, then the marks.
-fn calls(words: &[u32], anyway: bool, way: Way) -> String {
-    on_list(words, anyway, |list| calls_line(rust::run(list, way, Answer::Unsat, true)))
+/// The calls of a list in an answer's form, or the Rust's panic.
+fn scoped(list: &List, scope: Scope, answer: impl FnOnce(&Record) -> String) -> String {
+    unless_panic(scope.run(list), answer)
 }
 
-/// The same, with the calls that a division has here.
-fn calls_with_divisions(words: &[u32]) -> String {
-    on_list(words, false, |list| calls_line(division::run(list)))
+fn unless_panic(run: Run, answer: impl FnOnce(&Record) -> String) -> String {
+    run.panic.map_or_else(|| answer(&run.record), |message| expect::panic_text(&message))
 }
 
-fn calls_line(run: Run) -> String {
-    match run.panic {
-        Some(message) => expect::panic_text(&message),
-        None => {
-            let mut line = vec![run.record.words.len() as u32, run.record.marks.len() as u32];
-            line.extend(run.record.words);
-            line.extend(run.record.marks);
-            words::to_line(&line)
-        }
-    }
+/// How many call words and marks there are, then the words, then the marks.
+fn calls(record: &Record) -> String {
+    let lengths = [record.words.len(), record.marks.len()].map(|length| length as u32);
+    words::to_line(&[&lengths, record.words.as_slice(), &record.marks].concat())
 }
 
+/// The same of the Rust on a list that may be refused.
+fn calls_anyway(words: &[u32], way: Way) -> String {
+    on_list(words, true, |list| unless_panic(rust::run(list, way, Answer::Unsat, true), calls))
+}
+
+/// The digest of the Rust's calls, which are not kept: they may be many.
 fn digest(words: &[u32]) -> String {
     on_list(words, false, |list| {
-        let mut run = rust::run(list, Way::AsListed, Answer::Unsat, false);
-        match run.panic {
-            Some(message) => expect::panic_text(&message),
-            None => {
-                run.record.marks.iter().for_each(|mark| run.record.digest.add(*mark));
-                format!("{} {} {:016x}", run.record.count, run.record.marks.len(), run.record.digest.0)
-            }
-        }
+        unless_panic(rust::run(list, Way::AsListed, Answer::Unsat, false), |record| digest_line(record, record.digest))
     })
 }
 
-fn digest_with_divisions(words: &[u32]) -> String {
-    on_list(words, false, |list| {
-        let run = division::run(list);
-        let (calls, marks) = (&run.record.words, &run.record.marks);
-        let mut digest = Digest::default();
-        calls.iter().chain(marks).for_each(|word| digest.add(*word));
-        let line = format!("{} {} {:016x}", calls.len(), marks.len(), digest.0);
-        run.panic.map_or(line, |message| expect::panic_text(&message))
-    })
+/// The same of calls that are kept.
+fn digest_of_calls(record: &Record) -> String {
+    let mut digest = Digest::default();
+    record.words.iter().for_each(|word| digest.add(*word));
+    digest_line(record, digest)
 }
 
-fn script_text(words: &[u32], divisions: bool) -> String {
-    on_list(words, false, |list| {
-        let run = if divisions { division::run(list) } else { rust::run(list, Way::AsListed, Answer::Unsat, true) };
-        match run.panic {
-            Some(message) => expect::panic_text(&message),
-            None => script::script(&run.record.words, &run.record.marks),
-        }
-    })
+/// The number of call words and of marks, and the digest of both, given that of the words.
+fn digest_line(record: &Record, mut digest: Digest) -> String {
+    record.marks.iter().for_each(|mark| digest.add(*mark));
+    format!("{} {} {:016x}", record.count, record.marks.len(), digest.0)
+}
+
+fn script_text(record: &Record) -> String {
+    script::script(&record.words, &record.marks)
 }
 
 /// What becomes of a run in which the solver says sat. It need not end.

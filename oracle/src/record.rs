@@ -19,8 +19,8 @@ pub const EQUAL: u32 = 5;
 pub const ITE: u32 = 6;
 const CONCAT: u32 = 7;
 const EXTRACT: u32 = 8;
-const BVNOT: u32 = 9;
-const BVAND: u32 = 10;
+pub const BVNOT: u32 = 9;
+pub const BVAND: u32 = 10;
 const BVOR: u32 = 11;
 const BVXOR: u32 = 12;
 const BVADD: u32 = 13;
@@ -31,7 +31,7 @@ const BVSHL: u32 = 17;
 const BVLSHR: u32 = 18;
 const BVASHR: u32 = 19;
 pub const BVMUL: u32 = 20;
-const DECLARE: u32 = 21;
+pub const DECLARE: u32 = 21;
 pub const ASSERT: u32 = 22;
 pub const CHECK: u32 = 23;
 /// The first of the divisions, which the Rust never calls.
@@ -78,6 +78,13 @@ impl Name {
     }
 }
 
+/// The declare of an n or a p name, known or not, after so many terms.
+#[derive(Debug, Clone, Copy)]
+pub struct Read {
+    pub name: Name,
+    pub terms: u32,
+}
+
 /// What the engine has heard.
 #[derive(Debug, Default)]
 pub struct Record {
@@ -90,6 +97,8 @@ pub struct Record {
     pub digest: Digest,
     /// Per slot 0, 1 (n) or 2 (p), by the last declare of its n or p name.
     pub marks: Vec<u32>,
+    /// All declares of n and p names in their order, if the words are kept.
+    pub reads: Vec<Read>,
     /// The names whose values were asked for after sat.
     pub asked: Vec<Name>,
     terms: u32,
@@ -150,6 +159,9 @@ impl Record {
             && let Some(mark) = self.marks.get_mut(name.index as usize)
         {
             *mark = 1 + name.letter;
+            if self.keep {
+                self.reads.push(Read { name, terms: self.terms });
+            }
         }
         if let Some(known) = self.names.get(&name) {
             assert!(known.width == width, "engine: a name declared again with another width");

@@ -4,10 +4,13 @@ use std::panic::{self, AssertUnwindSafe};
 use std::sync::atomic::{AtomicBool, Ordering};
 
 use netlist::design::door::{self, Listed};
-use netlist::{AssignCell, Cell, Const, ControlNet, Design, FlipFlop, IoBuffer, IoValue, MatchCell, Net, Trit, Value};
+use netlist::{
+    AssignCell, Cell, Const, ControlNet, Design, FlipFlop, IoBuffer, IoValue, MatchCell, Net, SmtBuilder, Trit, Value,
+};
 
+use crate::features;
 use crate::list::{self, Cell as Word, Control, List};
-use crate::record::{Answer, Record, Recorder};
+use crate::record::{Answer, Record, Recorder, Stopped};
 
 fn net(net: list::Net) -> Net {
     match net {
@@ -167,16 +170,57 @@ pub struct Run {
 
 /// Runs `Design::verify` on a list.
 pub fn run(list: &List, way: Way, answer: Answer, keep: bool) -> Run {
-    let (engine, heard) = Recorder::new(list.slots() as usize, answer, keep);
-    QUIET.store(true, Ordering::Relaxed);
-    let ended = panic::catch_unwind(AssertUnwindSafe(|| {
+    heard(list, answer, keep, |engine| {
         let design = match way {
             Way::AsListed => design_as_listed(list),
             Way::PublicCalls => design_by_public_calls(list),
         };
-        // An error is the engine's own, after sat; what it heard tells the rest.
-        let _ = design.verify(engine);
-    }));
+        design.verify(engine)
+    })
+}
+
+/// Hands a list's cells and replacements to the Rust's builder itself, in the order of `Design::verify` and by the rules
+/// of document 01. In the inductive mode a Dff's net replaced by a Dff's makes no ordinary obligation.
+pub fn run_builder(list: &List, inductive: bool, answer: Answer, keep: bool) -> Run {
+    heard(list, answer, keep, |engine| {
+        let design = design_as_listed(list);
+        let mut builder = SmtBuilder::new(&design, engine);
+        let mut slot = 0;
+        for old in list.base.iter().chain(&list.added) {
+            let output = (slot..slot + old.output_width()).map(list::Net::of_slot).collect::<Vec<_>>();
+            let new = list.cell_replacements.iter().find(|(at, _)| *at == slot);
+            slot += old.slots();
+            match (cell(old), new.and_then(|(_, new)| cell(new))) {
+                _ if output.is_empty() => (),
+                (Some(old), Some(new)) => builder.replace_cell(&value(&output), &old, &new)?,
+                (Some(old), None) => builder.add_cell(&value(&output), &old)?,
+                (None, _) => unreachable!("a Void with an output"),
+            }
+        }
+        let cells = |from, to| [from, to].map(|net| features::cell_of(list, net).map(|(cell, _)| cell));
+        for (from, to) in list.net_replacements.iter().filter(|(from, to)| from != to) {
+            let (old, new) = (net(*from), net(*to));
+            match cells(*from, *to) {
+                [Some(Word::Void), _] => builder.replace_void_net(old, new)?,
+                [Some(Word::Dff(_)), Some(Word::Dff(_))] => {
+                    builder.replace_dff_net(old, new)?;
+                    if !inductive {
+                        builder.replace_net(old, new)?;
+                    }
+                }
+                _ => builder.replace_net(old, new)?,
+            }
+        }
+        builder.check().map(|_| ())
+    })
+}
+
+/// What a recording engine hears of the Rust's work on a list.
+fn heard(list: &List, answer: Answer, keep: bool, work: impl FnOnce(Recorder) -> Result<(), Stopped>) -> Run {
+    let (engine, heard) = Recorder::new(list.slots() as usize, answer, keep);
+    QUIET.store(true, Ordering::Relaxed);
+    // An error is the engine's own, after sat; what it heard tells the rest.
+    let ended = panic::catch_unwind(AssertUnwindSafe(|| work(engine).unwrap_or(())));
     QUIET.store(false, Ordering::Relaxed);
     let panic = ended.err().map(|message| match message.downcast::<String>() {
         Ok(text) => *text,

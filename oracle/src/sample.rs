@@ -6,16 +6,18 @@ use std::path::Path;
 
 use crate::expect;
 use crate::features::{self, features};
-use crate::generate::{self, Among, Size};
+use crate::generate::{self, Size};
 use crate::list::{self, List, NAMES};
-use crate::record::Answer;
-use crate::rust::{self, Way};
+use crate::scope::Scope;
 use crate::{damage, notation, read, words};
 
 /// How many lists the sample has, and how many refused ones of each fault go with it: without a division, with one.
 const LISTS: usize = 300;
 const REFUSED: usize = 23;
 const REFUSED_WITH_DIVISION: usize = 5;
+/// How many lists it has in the inductive mode, without and with a division.
+const INDUCTIVE: usize = 48;
+const INDUCTIVE_WITH_DIVISION: usize = 12;
 /// The faults of a design list are 1 to 13.
 const FAULTS: usize = 13;
 /// The longest call list of those that meet a need, and of the others; wide cells open the sample.
@@ -46,7 +48,16 @@ const WIDE: [(u32, u32); 16] = [
     (list::INPUT, 17),
 ];
 
-/// A list with the Rust's calls and marks.
+/// What opens the lists of the inductive mode: the smallest joined pair; equal flip-flops of the base, one replaced by
+/// the other; both replaced by an added one.
+const TWINS: [&str; 3] = [
+    "#2 #0 #0 #1, Dff #0 #0 0 0 0 0, Dff #0 #0 0 0 0 0, s0 s1",
+    "#4 #0 #0 #1, Input #1, Input #1, Dff #1 #0 s0 0 0 1 s1 X X, Dff #1 #0 s0 0 0 1 s1 X X, s3 s2",
+    "#4 #1 #0 #2, Input #1, Input #1, Dff #1 #0 s0 0 0 1 s1 X X, Dff #1 #0 s0 0 0 1 s1 X X, \
+     Dff #1 #0 s0 0 0 1 s1 X X, s2 s4, s3 s4",
+];
+
+/// A list with its calls and marks.
 struct Sampled {
     list: List,
     calls: Vec<u32>,
@@ -54,8 +65,8 @@ struct Sampled {
 }
 
 impl Sampled {
-    fn new(list: List) -> Option<Self> {
-        let run = rust::run(&list, Way::AsListed, Answer::Unsat, true);
+    fn new(list: List, scope: Scope) -> Option<Self> {
+        let run = scope.run(&list);
         match run.panic {
             None => Some(Sampled { list, calls: run.record.words, marks: run.record.marks }),
             Some(_) => None,
@@ -133,6 +144,27 @@ impl Needs {
         Needs(needs)
     }
 
+    /// What the lists of the inductive mode must hold beside divisions.
+    fn of_twins() -> Self {
+        let mut needs = BTreeMap::new();
+        for from in ["base Dff", "added Dff", "empty Dff"] {
+            for to in ["base Dff", "added Dff", "empty Dff"] {
+                let empty = from == "empty Dff" || to == "empty Dff";
+                needs.insert(format!("pair {from} by {to}"), if empty { 2 } else { 10 });
+            }
+            for to in ["constant", "base cell", "added cell"] {
+                needs.insert(format!("pair {from} by {to}"), 1);
+                needs.insert(format!("pair {to} by {from}"), 1);
+            }
+            needs.insert(format!("pair base Void by {from}"), 1);
+        }
+        needs.insert("pair equal nets".to_string(), 2);
+        for joined in features::JOINED {
+            needs.insert(joined.to_string(), 5);
+        }
+        Needs(needs)
+    }
+
     /// How many needs a list would meet.
     fn gain(&self, list: &List) -> u64 {
         let mut met = BTreeMap::new();
@@ -153,29 +185,52 @@ impl Needs {
     }
 }
 
-/// The accepted lists of the sample.
+/// The accepted lists of the sample, in the ported mode and without divisions.
 fn accepted(seed: u64) -> (Vec<Sampled>, Needs) {
     let mut needs = Needs::new();
     let mut sample = vec![];
+    let scope = Scope::default();
     for (index, (op, n)) in WIDE.iter().enumerate() {
         let list = generate::single(seed, index as u64, *op, *n);
         needs.meet(&list);
-        sample.extend(Sampled::new(list));
+        sample.extend(Sampled::new(list, scope));
     }
+    fill(&mut sample, LISTS, &mut needs, seed, scope);
+    (sample, needs)
+}
+
+/// Those in the inductive mode: without divisions, then with.
+fn inductive(seed: u64) -> (Vec<Sampled>, Needs) {
+    let mut needs = Needs::of_twins();
+    let mut sample = vec![];
+    for text in TWINS {
+        let list = notation::parse(text).ok().and_then(|words| read::read(&words).ok()).expect("an accepted list");
+        needs.meet(&list);
+        sample.extend(Sampled::new(list, Scope { divisions: false, inductive: true }));
+    }
+    fill(&mut sample, INDUCTIVE, &mut needs, seed, Scope { divisions: false, inductive: true });
+    needs.0.insert(features::BESIDE_DIVISION.to_string(), INDUCTIVE_WITH_DIVISION as u64);
+    let most = INDUCTIVE + INDUCTIVE_WITH_DIVISION;
+    fill(&mut sample, most, &mut needs, seed, Scope { divisions: true, inductive: true });
+    (sample, needs)
+}
+
+/// Draws tiny lists until there are so many.
+fn fill(sample: &mut Vec<Sampled>, lists: usize, needs: &mut Needs, seed: u64, scope: Scope) {
     let mut index = 0;
-    while sample.len() < LISTS && index < LAST_CANDIDATE {
+    while sample.len() < lists && index < LAST_CANDIDATE {
         // The candidate that meets the most needs for its length; once all are met, the first that will do.
         let mut best: Option<(u64, Sampled)> = None;
         let met = needs.open().is_empty();
         let (candidates, most_words) = if met { (1, FEWER_CALL_WORDS) } else { (CANDIDATES, CALL_WORDS) };
         for _ in 0..candidates {
-            let list = generate::generate(seed, index, Size::Tiny, Among::Lowered);
+            let list = generate::generate(seed, index, Size::Tiny, scope);
             index += 1;
             let gain = 1_000 * needs.gain(&list);
             if !met && gain == 0 || sample.iter().any(|before: &Sampled| before.list == list) {
                 continue;
             }
-            let Some(next) = Sampled::new(list) else { continue };
+            let Some(next) = Sampled::new(list, scope) else { continue };
             let score = gain / (next.calls.len() as u64 + 60);
             if next.calls.len() <= most_words && best.as_ref().is_none_or(|(most, _)| score > *most) {
                 best = Some((score, next));
@@ -186,7 +241,6 @@ fn accepted(seed: u64) -> (Vec<Sampled>, Needs) {
             sample.push(next);
         }
     }
-    (sample, needs)
 }
 
 /// Whether a head of a division stands in a list.
@@ -196,13 +250,13 @@ fn names_division(list: &[u32]) -> bool {
 }
 
 /// Refused lists, so many of each fault; those that name a division, or those that do not.
-fn refused_among(seed: u64, among: Among, wanted: usize) -> Vec<(Vec<u32>, read::Fault)> {
+fn refused_among(seed: u64, scope: Scope, wanted: usize) -> Vec<(Vec<u32>, read::Fault)> {
     let mut of_each: BTreeMap<u32, usize> = BTreeMap::new();
     let mut sample: Vec<(Vec<u32>, read::Fault)> = vec![];
     for index in 0.. {
-        let list = damage::damage(seed, index, among);
+        let list = damage::damage(seed, index, scope);
         let Err(fault) = read::read(&list) else { continue };
-        if list.len() > 60 || names_division(&list) != (among == Among::Divisions) {
+        if list.len() > 60 || names_division(&list) != scope.divisions {
             continue;
         }
         let many = of_each.entry(fault.number).or_default();
@@ -219,8 +273,8 @@ fn refused_among(seed: u64, among: Among, wanted: usize) -> Vec<(Vec<u32>, read:
 
 /// Refused lists, each fault as often as the others.
 fn refused(seed: u64) -> Vec<(Vec<u32>, read::Fault)> {
-    let mut sample = refused_among(seed, Among::Lowered, REFUSED);
-    sample.extend(refused_among(seed, Among::Divisions, REFUSED_WITH_DIVISION));
+    let mut sample = refused_among(seed, Scope::default(), REFUSED);
+    sample.extend(refused_among(seed, Scope { divisions: true, inductive: false }, REFUSED_WITH_DIVISION));
     sample.sort_by_key(|(list, fault)| (fault.number, list.len()));
     sample
 }
@@ -233,8 +287,11 @@ fn write(folder: &Path, name: &str, lines: impl Iterator<Item = String>) -> Resu
 /// Writes the sample's files; whether every need was met.
 pub fn sample(seed: u64, folder: &Path) -> Result<bool, String> {
     let (accepted, needs) = accepted(seed);
-    write(folder, "calls.txt", accepted.iter().map(|one| words::to_line(&one.record())))?;
-    write(folder, "calls-lists.txt", accepted.iter().map(|one| notation::show(&one.list.words())))?;
+    let (inductive, of_twins) = inductive(seed);
+    for (name, sample) in [("calls", &accepted), ("inductive", &inductive)] {
+        write(folder, &format!("{name}.txt"), sample.iter().map(|one| words::to_line(&one.record())))?;
+        write(folder, &format!("{name}-lists.txt"), sample.iter().map(|one| notation::show(&one.list.words())))?;
+    }
     let refused = refused(seed);
     let record = |list: &[u32], fault: &read::Fault| {
         let mut record = vec![list.len() as u32, fault.number, fault.place as u32];
@@ -246,7 +303,8 @@ pub fn sample(seed: u64, folder: &Path) -> Result<bool, String> {
     write(folder, "refused-lists.txt", refused.iter().map(|(list, _)| told(list)))?;
     let call_words = accepted.iter().map(|one| one.calls.len()).sum::<usize>();
     println!("{} accepted lists with {call_words} call words, {} refused", accepted.len(), refused.len());
-    needs.open().iter().for_each(|need| println!("not met: {need}"));
+    let open = [needs.open(), of_twins.open()].concat();
+    open.iter().for_each(|need| println!("not met: {need}"));
     let mut met = features::Tally::new();
     accepted.iter().flat_map(|one| features(&one.list)).for_each(|name| features::add(&mut met, name));
     for kind in ["cell ", "new ", "replaced by ", "net ", "pair "] {
@@ -256,5 +314,12 @@ pub fn sample(seed: u64, folder: &Path) -> Result<bool, String> {
             some.map(|(name, many)| format!("{} {many}", &name[kind.len()..])).collect::<Vec<_>>().join(", ")
         );
     }
-    Ok(needs.open().is_empty())
+    let call_words = inductive.iter().map(|one| one.calls.len()).sum::<usize>();
+    println!("{} lists with {call_words} call words in the inductive mode", inductive.len());
+    let mut met = features::Tally::new();
+    inductive.iter().flat_map(|one| features(&one.list)).for_each(|name| features::add(&mut met, name));
+    for (name, many) in met.iter().filter(|(name, _)| name.starts_with("joined") || name.contains("Dff by")) {
+        println!("{many:7}  {name}");
+    }
+    Ok(open.is_empty())
 }

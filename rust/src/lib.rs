@@ -8,8 +8,10 @@
 mod entries {
     unsafe extern "C" {
         pub fn vm_read(list: *const u32, len: usize) -> u64;
-        pub fn vm_verify(list: *const u32, len: usize, calls: *mut u32, c: usize, recorded: *mut u8, r: usize) -> u64;
-        pub fn vm_counts(list: *const u32, len: usize, counts: *mut u64, c: usize) -> u64;
+        pub fn vm_verify_mode(
+            mode: u32, list: *const u32, len: usize, calls: *mut u32, c: usize, recorded: *mut u8, r: usize,
+        ) -> u64;
+        pub fn vm_counts_mode(mode: u32, list: *const u32, len: usize, counts: *mut u64, c: usize) -> u64;
         pub fn vm_evaluate(calls: *const u32, n: usize, bits: *const u64, m: usize, values: *mut u64, v: usize) -> u64;
         pub fn vm_script(calls: *const u32, n: usize, recorded: *const u8, r: usize, text: *mut u8, t: usize) -> u64;
         pub fn vm_check(calls: *const u32, n: usize, sizes: *mut u64, s: usize) -> u64;
@@ -34,6 +36,15 @@ fn unpacked(packed: u64) -> Result<u64, (u16, usize)> {
     }
 }
 
+/// How the net of a Dff that is replaced by the net of a Dff is judged: as the original does, with an ordinary
+/// obligation besides, or by its induction step alone. Every other edit is judged alike in both.
+#[derive(Debug, Clone, Copy, PartialEq, Eq, Default)]
+pub enum Mode {
+    #[default]
+    Ported = 0,
+    Inductive = 1,
+}
+
 /// What `verify` does with a design list. Where nothing is asked there is no check among the calls, and no solver is
 /// needed.
 #[derive(Debug, Clone, Copy, PartialEq, Eq)]
@@ -44,12 +55,18 @@ pub enum Verified {
 }
 
 /// The words of the solver calls go into `calls`, and the mark of each slot into `recorded`. A slice too short is
-/// fault 14 at the room needed, `calls` before `recorded`; `counts` and `read` tell both beforehand.
+/// fault 14 at the room needed, `calls` before `recorded`; `counts` and `read` tell both beforehand. The mode is
+/// `Mode::Ported`.
 pub fn verify(list: &[u32], calls: &mut [u32], recorded: &mut [u8]) -> Verified {
-    let (room, slots) = (calls.len(), recorded.len());
+    verify_in(Mode::Ported, list, calls, recorded)
+}
+
+/// The same in a mode.
+pub fn verify_in(mode: Mode, list: &[u32], calls: &mut [u32], recorded: &mut [u8]) -> Verified {
+    let (mode, room, slots) = (mode as u32, calls.len(), recorded.len());
     let (calls, recorded) = (calls.as_mut_ptr(), recorded.as_mut_ptr());
     // Safety: each pointer goes with the length of its slice, and the archive keeps within them.
-    match unpacked(unsafe { entries::vm_verify(list.as_ptr(), list.len(), calls, room, recorded, slots) }) {
+    match unpacked(unsafe { entries::vm_verify_mode(mode, list.as_ptr(), list.len(), calls, room, recorded, slots) }) {
         Err((number, place)) => Verified::Refused { number, place },
         Ok(value) if is_asked(value) => Verified::Asked { words: words_of(value) },
         Ok(value) => Verified::NothingAsked { words: words_of(value) },
@@ -83,9 +100,15 @@ pub enum Counted {
 
 /// What `verify` would count if its slices had room enough.
 pub fn counts(list: &[u32]) -> Counted {
+    counts_in(Mode::Ported, list)
+}
+
+/// What `verify_in` would count.
+pub fn counts_in(mode: Mode, list: &[u32]) -> Counted {
     let mut counts = [0; 3];
-    // Safety: as in `verify`.
-    let packed = unsafe { entries::vm_counts(list.as_ptr(), list.len(), counts.as_mut_ptr(), counts.len()) };
+    let room = counts.len();
+    // Safety: as in `verify_in`.
+    let packed = unsafe { entries::vm_counts_mode(mode as u32, list.as_ptr(), list.len(), counts.as_mut_ptr(), room) };
     let [terms, temporaries, words] = counts;
     let counts = Counts { terms, temporaries, words };
     match unpacked(packed) {
@@ -104,7 +127,7 @@ pub enum Read {
 
 /// Reads a design list.
 pub fn read(list: &[u32]) -> Read {
-    // Safety: as in `verify`.
+    // Safety: as in `verify_in`.
     match unpacked(unsafe { entries::vm_read(list.as_ptr(), list.len()) }) {
         Err((number, place)) => Read::Refused { number, place },
         Ok(slots) => Read::Accepted { slots: slots as usize },
@@ -122,7 +145,7 @@ pub enum Checked {
 /// Checks a call list (fault 19).
 pub fn check(calls: &[u32]) -> Checked {
     let mut sizes = [0; 2];
-    // Safety: as in `verify`.
+    // Safety: as in `verify_in`.
     match unpacked(unsafe { entries::vm_check(calls.as_ptr(), calls.len(), sizes.as_mut_ptr(), sizes.len()) }) {
         Err((_, place)) => Checked::Malformed { place },
         Ok(_) => Checked::WellFormed { terms: sizes[0] as usize, declared: sizes[1] as usize },
@@ -155,7 +178,7 @@ pub enum Evaluated {
 /// term goes into `values`.
 pub fn evaluate(calls: &[u32], bits: &[u64], values: &mut [u64]) -> Evaluated {
     let (values, room) = (values.as_mut_ptr(), values.len());
-    // Safety: as in `verify`.
+    // Safety: as in `verify_in`.
     let packed = unsafe { entries::vm_evaluate(calls.as_ptr(), calls.len(), bits.as_ptr(), bits.len(), values, room) };
     evaluated(packed)
 }
@@ -164,7 +187,7 @@ pub fn evaluate(calls: &[u32], bits: &[u64], values: &mut [u64]) -> Evaluated {
 pub fn evaluate_with(calls: &[u32], bits: &[u64], values: &mut [u64], tables: &mut Tables) -> Evaluated {
     let (values, room) = (values.as_mut_ptr(), values.len());
     let (sorts, names) = (&mut tables.sorts, &mut tables.names);
-    // Safety: as in `verify`.
+    // Safety: as in `verify_in`.
     evaluated(unsafe {
         entries::vm_evaluate_with(
             calls.as_ptr(), calls.len(), bits.as_ptr(), bits.len(), values, room,
@@ -191,7 +214,7 @@ pub enum Script {
 pub fn script(calls: &[u32], recorded: &[u8], text: &mut [u8]) -> Script {
     let (text, room) = (text.as_mut_ptr(), text.len());
     let (marks, slots) = (recorded.as_ptr(), recorded.len());
-    // Safety: as in `verify`.
+    // Safety: as in `verify_in`.
     written(unsafe { entries::vm_script(calls.as_ptr(), calls.len(), marks, slots, text, room) })
 }
 
@@ -200,7 +223,7 @@ pub fn script_with(calls: &[u32], recorded: &[u8], text: &mut [u8], tables: &mut
     let (text, room) = (text.as_mut_ptr(), text.len());
     let (marks, slots) = (recorded.as_ptr(), recorded.len());
     let Tables { places, sorts, names } = tables;
-    // Safety: as in `verify`.
+    // Safety: as in `verify_in`.
     written(unsafe {
         entries::vm_script_with(
             calls.as_ptr(), calls.len(), marks, slots, text, room, places.as_mut_ptr(), places.len(),
@@ -229,7 +252,7 @@ pub enum Answer {
 pub fn answer(text: &[u8], recorded: &[u8], trits: &mut [u8]) -> Answer {
     let (trits, room) = (trits.as_mut_ptr(), trits.len());
     let (marks, slots) = (recorded.as_ptr(), recorded.len());
-    // Safety: as in `verify`.
+    // Safety: as in `verify_in`.
     match unpacked(unsafe { entries::vm_answer(text.as_ptr(), text.len(), marks, slots, trits, room) }) {
         Err((number, place)) => Answer::Refused { number, place },
         Ok(0) => Answer::Unsat,

@@ -1,4 +1,5 @@
-//! Document 01's example through every function: an Input, its Not, and the Not's net replaced by the Input's.
+//! Document 01's example through every function: an Input, its Not, and the Not's net replaced by the Input's. Twin
+//! flip-flops through those that take a mode.
 
 use virginalmimas::*;
 
@@ -114,5 +115,58 @@ fn checks_and_takes_tables() {
         let answer = evaluate(&calls, &[0, 0, 0, 1], &mut values);
         assert_eq!(evaluate_with(&calls, &[0, 0, 0, 1], &mut same, &mut tables), answer);
         assert_eq!(values, same);
+    }
+}
+
+/// #4 #0 #0 #1, Input #1, Input #1, Dff #1 #0 s0 0 0 1 s1 X X, Dff #1 #0 s0 0 0 1 s1 X X, s3 s2.
+#[rustfmt::skip]
+const TWINS: [u32; 30] = [
+    0x6000_0004, 0x6000_0000, 0x6000_0000, 0x6000_0001, // header
+    0x4000_0035, 0x6000_0001, // Input #1
+    0x4000_0035, 0x6000_0001, // Input #1
+    0x4000_0133, 0x6000_0001, 0x6000_0000, 2, 0, 0, 1, 3, 0x1fff_ffff, 0x1fff_ffff, // Dff
+    0x4000_0133, 0x6000_0001, 0x6000_0000, 2, 0, 0, 1, 3, 0x1fff_ffff, 0x1fff_ffff, // Dff
+    5, 4, // s3 s2
+];
+
+#[test]
+fn a_mode_decides_how_twins_are_judged() {
+    let room = |mode| match counts_in(mode, &TWINS) {
+        Counted::Asked(counts) => counts.words as usize,
+        other => panic!("{other:?}"),
+    };
+    let (ported, inductive) = (room(Mode::Ported), room(Mode::Inductive));
+    // The ordinary obligation has 20 words and is an argument of the query's and.
+    assert_eq!(ported, inductive + 21);
+    assert_eq!(counts(&TWINS), counts_in(Mode::Ported, &TWINS));
+
+    let (mut calls, mut recorded) = (vec![UNTOUCHED; ported], [9; 4]);
+    let refused = |place| Verified::Refused { number: 14, place };
+    assert_eq!(verify_in(Mode::Inductive, &TWINS, &mut calls[..inductive - 1], &mut recorded), refused(inductive));
+    assert_eq!(verify(&TWINS, &mut calls[..inductive], &mut recorded), refused(ported));
+    assert_eq!((&calls[..], recorded), (&vec![UNTOUCHED; ported][..], [9; 4]));
+
+    assert_eq!(verify_in(Mode::Inductive, &TWINS, &mut calls, &mut recorded), Verified::Asked { words: inductive });
+    assert_eq!(calls[inductive..], [UNTOUCHED; 21]);
+    // s2 is read current last; the clock's last read is its past.
+    assert_eq!(recorded, [2, 1, 1, 1]);
+    let step = calls[..inductive - 7].to_vec();
+    assert_eq!(verify(&TWINS, &mut calls, &mut recorded), Verified::Asked { words: ported });
+    assert_eq!(recorded, [2, 1, 2, 1]);
+    assert_eq!(calls[..inductive - 7], step);
+    let same = calls.clone();
+    assert_eq!(verify_in(Mode::Ported, &TWINS, &mut calls, &mut recorded), Verified::Asked { words: ported });
+    assert_eq!((calls, recorded), (same, [2, 1, 2, 1]));
+}
+
+#[test]
+fn a_mode_says_nothing_of_other_edits() {
+    let (calls, recorded) = verified();
+    for mode in [Mode::Ported, Mode::Inductive] {
+        let (mut same, mut marks) = ([UNTOUCHED; WORDS], [9; 2]);
+        assert_eq!(verify_in(mode, &LIST, &mut same, &mut marks), Verified::Asked { words: WORDS });
+        assert_eq!((same, marks), (calls, recorded));
+        assert_eq!(counts_in(mode, &LIST), counts(&LIST));
+        assert_eq!(counts_in(mode, &LIST[..10]), Counted::Refused { number: 1, place: 10 });
     }
 }
