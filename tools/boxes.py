@@ -6,7 +6,7 @@ clock's: both are sources.
 import re
 from dataclasses import dataclass, field
 
-from verdict import HOLDS
+from verdict import HOLDS, PORTED
 
 LONGEST = 30   # the most characters of a row's nets
 TITLE, LINE = 22, 17   # heights
@@ -229,10 +229,12 @@ class _Graph:
         names = self.result.names
         box = self._judged(index, f'{edit.old.text(names)} → {edit.new.text(names)}')
         self._old(box, edit.old)
-        row = self._row(box, 'new', [edit.new], [edit.new])
-        age = 'was' if self._is_dff(edit.new) and not self.cell_of[edit.new.slot].added else 'now'
-        box.rows[row].trit = trit_of(self.result, edit.new, age)
-        if self._is_dff(edit.old) and self._is_dff(edit.new):
+        joined = self._is_dff(edit.old) and self._is_dff(edit.new)
+        if not joined or self.result.mode == PORTED:
+            row = self._row(box, 'new', [edit.new], [edit.new])
+            age = 'was' if self._is_dff(edit.new) and not self.cell_of[edit.new.slot].added else 'now'
+            box.rows[row].trit = trit_of(self.result, edit.new, age)
+        if joined:
             row = self._text_row(box, 'joined', f'was {edit.old.text(names)} = was {edit.new.text(names)}')
             for net in (edit.old, edit.new):
                 self._wire(self._past(self.cell_of[net.slot]), box, row, 'past')

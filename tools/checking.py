@@ -74,13 +74,13 @@ def _position(result, place):
 
 def verify(verifier, result):
     """Refuses a list, or fills in its cells, counts, obligations and script, and returns its calls and marks."""
-    number, asked, (terms, temporaries, words) = verifier.counts(result.words)
+    number, asked, (terms, temporaries, words) = verifier.counts(result.words, result.mode)
     if number:
         refuse(result, number, asked)
         return None
     design.fill(result)
     slots = verifier.read(result.words)[1]
-    calls, recorded = verifier.verify(result.words, words, slots)
+    calls, recorded = verifier.verify(result.words, words, slots, result.mode)
     result.script = verifier.script(calls, recorded, terms).decode('ascii')
     query = core.query(calls) if asked else []
     edits = design.obligations(result)
@@ -103,6 +103,15 @@ def nothing(result):
     result.sentences += _unasked(result)
 
 
+def in_mode(result):
+    """What the inductive mode is to a design."""
+    pairs = design.joined(result)
+    if not pairs:
+        return "No flip-flop's net is replaced by a flip-flop's, so that mode 1 asks what mode 0 does."
+    verb = 'is' if pairs == 1 else 'are'
+    return f'{count(pairs, "pair")} of flip-flops {verb} judged by the new states alone, as mode 1 has it.'
+
+
 def _unasked(result):
     return [f"The edit '{text}' {reason}." for text, reason in design.without_obligation(result)]
 
@@ -121,6 +130,8 @@ class Checker:
         made = verify(self.verifier, result)
         if result.verdict is None:
             self._ask(result, *made)
+        if result.mode and result.verdict != REFUSED:
+            result.sentences.append(in_mode(result))
         result.seconds = time.time() - began
         return result
 

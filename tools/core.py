@@ -150,14 +150,15 @@ class Core:
         path = _loaded(say)
         try:
             self.library = ctypes.CDLL(path)
-            for name in 'read verify counts check_with evaluate_with script_with answer'.split():
+            for name in 'read verify_mode counts_mode check_with evaluate_with script_with answer'.split():
                 getattr(self.library, 'vm_' + name).restype = ctypes.c_uint64
         except (OSError, AttributeError) as error:
             raise Unavailable(f'The shared library {os.path.relpath(path)} cannot be used: {error}.')
 
-    def _ask(self, entry, *slices):
-        """An entry's answer on slices, each handed over as its pointer and its length."""
-        arguments = [part for one in slices for part in (one, ctypes.c_size_t(len(one)))]
+    def _ask(self, entry, *slices, mode=None):
+        """An entry's answer on slices, each handed over as its pointer and its length; a mode comes before them."""
+        arguments = [] if mode is None else [ctypes.c_uint32(mode)]
+        arguments += [part for one in slices for part in (one, ctypes.c_size_t(len(one)))]
         answer = getattr(self.library, 'vm_' + entry)(*arguments)
         return answer >> 48, answer & 2 ** 48 - 1
 
@@ -165,19 +166,19 @@ class Core:
         """The number of slots, or the fault."""
         return self._ask('read', words32(words))
 
-    def counts(self, words):
+    def counts(self, words, mode=0):
         """The fault and its place, or 0 and whether anything is asked; and how many terms, temporaries and words."""
         counts = (ctypes.c_uint64 * 3)()
-        number, value = self._ask('counts', words32(words), counts)
+        number, value = self._ask('counts_mode', words32(words), counts, mode=mode)
         return number, value if number else value >> 47, tuple(counts)
 
-    def verify(self, words, call_words, slots):
+    def verify(self, words, call_words, slots, mode=0):
         """The call words and the marks of an accepted list."""
         if call_words > MOST_WORDS:
             raise Unavailable(f'The calls of this design take {call_words:,} words; vm lends {MOST_WORDS:,} at most.')
         calls, recorded = (ctypes.c_uint32 * call_words)(), (ctypes.c_uint8 * slots)()
-        number, place = self._ask('verify', words32(words), calls, recorded)
-        expect(number == 0, f'vm_verify answered {number} at {place}')
+        number, place = self._ask('verify_mode', words32(words), calls, recorded, mode=mode)
+        expect(number == 0, f'vm_verify_mode answered {number} at {place}')
         return calls, recorded
 
     def script(self, calls, recorded, terms):

@@ -1,6 +1,6 @@
 """An accepted list as people see it: its cells with their nets, and its edits. It checks nothing; the verifier has."""
 import notation
-from verdict import Cell, Net, Pin, Replacement
+from verdict import PORTED, Cell, Net, Pin, Replacement
 
 # The numbers of each operation's body, then its nets: the role of each run of them, and how many they are.
 VALUE, TWO = (('value', 'n'),), (('left', 'n'), ('right', 'n'))
@@ -108,8 +108,15 @@ def kind_of_pair(edit, owned):
     return 'flip-flops' if operations == ['Dff', 'Dff'] else 'ordinary'
 
 
+def joined(result):
+    """How many pairs of flip-flops' nets have their pasts joined."""
+    owned = owners(result)
+    return sum(edit.kind == 'net' and kind_of_pair(edit, owned) == 'flip-flops' for edit in result.replacements)
+
+
 def obligations(result):
-    """For each obligation, in the order of the query's `and`, its edit's index and what it says."""
+    """For each obligation, in the order of the query's `and`, its edit's index and what it says. A pair of flip-flops
+    has the ordinary obligation too in the ported mode alone."""
     found, owned = [], owners(result)
     for index, edit in enumerate(result.replacements):
         if edit.kind == 'cell':
@@ -120,7 +127,7 @@ def obligations(result):
         kind = kind_of_pair(edit, owned)
         if kind == 'flip-flops':
             found.append((index, f'flip-flop {old} replaced by flip-flop {new}: new state against new state'))
-        if kind in ('flip-flops', 'ordinary'):
+        if kind == 'ordinary' or kind == 'flip-flops' and result.mode == PORTED:
             found.append((index, f'{old} replaced by {new}' + (', as it is read' if kind == 'flip-flops' else '')))
     return found
 

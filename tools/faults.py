@@ -1,4 +1,4 @@
-"""Document 01's faults, a sentence each."""
+"""The faults of documents 01 and 02, a sentence each."""
 
 FAULTS = {
     1: 'the list ends early, or words remain after its end',
@@ -23,9 +23,11 @@ FAULTS = {
     18: 'the solver said unknown',
     19: 'the call list is malformed, has a term before it is made, or sorts against SMT-LIB',
     20: 'bits or values are too short, or a bit is above its width',
+    23: 'there is no mode of this number: they are 0 (ported) and 1 (inductive)',
 }
 
-# Of each fault: when it is met, what to do about it, and the smallest list that has it (from 16 on: a reply, or calls).
+# Of each fault: when it is met, what to do about it, and the smallest list that has it (from 16 on: a reply, calls or a
+# mode).
 EXPLAINED = {
     1: ('The words end before the header, a record or a replacement is complete, or there are words after the last '
         'one.',
@@ -92,4 +94,8 @@ EXPLAINED = {
          'term.',
          'Count the names with vm_check, and lend that many.',
          'no bits for a list that declares n0x'),
+    23: ("The mode says how a flip-flop's net replaced by a flip-flop's is judged, and there are two. It is tested "
+         'before the list.',
+         'Hand over 0 or 1; to vm, --mode 0 or --mode 1.',
+         'any list, in mode 2'),
 }

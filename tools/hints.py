@@ -31,7 +31,7 @@ def _inner_clocks(result):
 
 
 def _twins(result):
-    """Whether a flip-flop replaced by another fails only against the other's old state."""
+    """Whether a flip-flop replaced by another fails only against the other's old state, as in the ported mode alone."""
     states = {}
     for one in result.obligations:
         states.setdefault(one.replacement, []).append(one.state)
@@ -49,7 +49,8 @@ def of(result, root):
         found.append((f'The clock of {", ".join(_inner_clocks(result)[:3])} comes from a cell, and what a cell gave '
                       'before is free.', 'c'))
     if result.verdict == BROKEN and _twins(result):
-        found.append(('A flip-flop replaced by another is held to its old state too, and only this fails.', 'e'))
+        found.append(('A flip-flop replaced by another is held to its old state too, and only this fails; --mode 1 '
+                      'does not ask it.', 'e'))
     if result.vacuous:
         found.append(('A loop leaves nothing to prove.', '04'))
     return [(sentence, _page(root, prefix)) for sentence, prefix in found]

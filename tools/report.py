@@ -52,8 +52,9 @@ def _verdict(result):
     if result.verdict == BROKEN and broken:
         sentences.append(f'{broken[0].edit}: {broken[0].shown}.')
     text = ''.join(f'<p>{escape(each)}</p>' for each in sentences)
+    mode = f'<small> {result.in_mode}</small>' if result.in_mode else ''
     return (f'<header class="verdict {CLASSES[word]}"><svg viewBox="0 0 64 64" aria-hidden="true">{SHAPES[word]}</svg>'
-            f'<div><h1>{word}</h1><p class="asked">{asked(result)}</p>{text}</div></header>')
+            f'<div><h1>{word}{mode}</h1><p class="asked">{asked(result)}</p>{text}</div></header>')
 
 
 LOOP = ('The cells have a current loop. Where it has no assignment nothing is judged, so this HOLDS may speak of '
@@ -254,10 +255,11 @@ def _footer(result):
 def page(result):
     """The page of a result."""
     name = 'standard input' if result.source == '-' else os.path.basename(result.source)
+    headline = ' '.join(filter(None, (result.headline, result.in_mode)))
     body = '\n'.join(part for part in (
         f'<p class="file">{escape(name)}</p>', _verdict(result), _hints(result), _drawing(result), _obligations(result),
         _cells(result), _design(result), _script(result), _footer(result)) if part)
     return (f'<!DOCTYPE html>\n<html lang="en"><head><meta charset="utf-8">\n'
             f'<meta name="viewport" content="width=device-width, initial-scale=1">\n'
-            f'<title>{result.headline}: {escape(name)}</title>\n<style>{STYLE}</style></head>\n'
+            f'<title>{headline}: {escape(name)}</title>\n<style>{STYLE}</style></head>\n'
             f'<body>\n{body}\n</body></html>\n')

@@ -127,7 +127,7 @@ def _in_words(words, place):
 
 def whole(result, colours, all_of_it=False):
     """A result in full; of long lists a part, unless all of it is asked for."""
-    lines = [f'{paint(result.headline, colours)}  {result.source}', '']
+    lines = [f'{paint(result.headline, colours)}  {result.title}', '']
     lines += ['  ' + sentence for sentence in result.sentences]
     if result.verdict == REFUSED:
         lines += [''] + fault(result)
@@ -157,17 +157,18 @@ def short(result):
 
 def many(results, colours):
     """A table of results, and how many designs there are of each verdict."""
-    rows = table([[result.headline, result.source, short(result)] for result in results], '')
+    rows = table([[result.headline, result.title, short(result)] for result in results], '')
     lines = [paint(result.headline, colours) + line[len(result.headline):] for result, line in zip(results, rows)]
     found = [result.headline for result in results]
     parts = [f'{found.count(headline)} {paint(headline, colours)}' for headline in COLOURS if headline in found]
-    return '\n'.join(lines) + f'\n\n{len(results)} designs: ' + ', '.join(parts)
+    mode = next((f', {result.in_mode}' for result in results if result.in_mode), '')
+    return '\n'.join(lines) + f'\n\n{len(results)} designs{mode}: ' + ', '.join(parts)
 
 
 def as_json(result):
     """A result for scripts."""
     keep = ('source', 'verdict', 'status', 'vacuous', 'two_valued', 'sentences', 'hints', 'fault', 'place', 'line',
-            'column', 'counts', 'solver', 'seconds')
+            'column', 'counts', 'solver', 'seconds', 'mode')
     found = {key: getattr(result, key) for key in keep}
     found['obligations'] = [dataclasses.asdict(one) for one in result.obligations]
     found['trits'] = {result.slot_text(slot): dataclasses.asdict(trit) for slot, trit in sorted(result.trits.items())}

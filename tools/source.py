@@ -5,7 +5,7 @@ import struct
 import sys
 
 import notation
-from verdict import Result
+from verdict import PORTED, Result
 
 MOST_BYTES = 2 ** 24
 ENDINGS = ('.txt', '.words')
@@ -67,10 +67,10 @@ def _text(path, content):
                         'text, and words would have zero bytes.')
 
 
-def read(path):
-    """The design of a file, as the beginning of a result."""
+def read(path, mode=PORTED):
+    """The design of a file, as the beginning of a result in a mode."""
     content = _bytes(path)
-    result = Result(path)
+    result = Result(path, mode=mode)
     if len(content) > MOST_BYTES:
         raise BadSource(path, f'The file has more than {MOST_BYTES:,} bytes, and a design has at most 16,384 words.')
     result.text = _text(path, content)

@@ -9,6 +9,9 @@ STATUS = {HOLDS: 0, REFUSED: 1, NOT_CHECKED: 2, NOTHING_ASKED: 3, BROKEN: 4, UNK
 BY_NO_ASSIGNMENT = 7   # the exit status of a HOLDS that is vacuous
 # From the best to the worst.
 STATUS_ORDER = [0, 3, 7, 5, 2, 1, 4, 6]
+# The modes by their numbers: how a flip-flop's net that is replaced by a flip-flop's is judged.
+PORTED, INDUCTIVE = 0, 1
+MODES = ('ported', 'inductive')
 
 
 @dataclass
@@ -103,6 +106,7 @@ class Result:
     counts: dict = field(default_factory=dict)    # 'slots', 'terms', 'temporaries', 'words', 'edits', 'obligations'
     solver: str = None                            # the solver's name, where one was asked
     seconds: float = None                         # how long it took
+    mode: int = PORTED                            # the mode in which it is verified
 
     @property
     def status(self):
@@ -113,6 +117,17 @@ class Result:
     def headline(self):
         """The verdict as it is shown large."""
         return f'{self.verdict} BY NO ASSIGNMENT' if self.vacuous else self.verdict
+
+    @property
+    def in_mode(self):
+        """The mode in words, empty for the ported one and where no mode was come to."""
+        judged = self.verdict not in (REFUSED, NOT_CHECKED)
+        return f'in mode {self.mode} ({MODES[self.mode]})' if self.mode and judged else ''
+
+    @property
+    def title(self):
+        """The source as it stands beside the verdict, with the mode: verdicts of two modes never look alike."""
+        return ', '.join(filter(None, (self.source, self.in_mode)))
 
     def slot_text(self, slot):
         return self.names.get(slot) or f's{slot}'
