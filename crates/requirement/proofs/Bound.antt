@@ -3,15 +3,13 @@ use mathlib.Core.Path.{_≡_, refl, sym, ap, subst}
 use mathlib.Core.Bool.{Bool, true, false, cond}
 use mathlib.Core.Option.{Option, none, some}
 use mathlib.Core.List.{List, [], _∷_, _++_, map}
-use Prim.Native.Nat.{ℕ, suc, _+_, _-_, _*_, _≤_}
+use Prim.Native.Nat.{ℕ, suc, _+_, _*_, _≤_}
 use native.Mathlib.Omega.{arith}
 use lib.Dec.{eqb}
 use lib.ListN.{length, length-map, length-append}
 use Rattle.logic.specs.Word.{termWord}
 use Rattle.logic.specs.Net.{Net}
 use Rattle.cell.specs.declared.Mode.{Mode}
-use Rattle.cell.specs.declared.Mode.the-variants.{Ported, Inductive}
-use Rattle.cell.specs.Mode.{portedOnly}
 use Rattle.cell.specs.Cell.{Cell, outputLen}
 use Rattle.cell.specs.Cell as c
 use Rattle.cell.specs.Design.{Design, Placed, NetPair, total, cellOf}
@@ -19,15 +17,12 @@ use Rattle.cell.specs.Each.{Each}
 use Rattle.right.specs.Bounds.{Bounded, Bounds}
 use Rattle.right.specs.Shape.{Shaped}
 use Rattle.right.specs.Laid.{Laid, CellLaid}
-use Rattle.engine.specs.Call.{Call}
-use Rattle.engine.specs.Call as call
 use Rattle.engine.specs.Meaning.{terms}
 use Rattle.engine.specs.Encode.{encode}
 use Rattle.working_out.specs.Reading.{readsPast, Pair, equal, ofVoid, ofDffs, ordinary, pairOf}
-use Rattle.smt.specs.Prog.{Prog, curr, past}
+use Rattle.smt.specs.Prog.{curr, past}
 use Rattle.smt.specs.Builder.{cell, currValue, outputNets}
-use Rattle.smt.specs.Emit.{St, emit}
-use Rattle.bound.proofs.CostsLaws.{CostsOnly, costs-more, encode-append, emit-words}
+use Rattle.bound.proofs.CostsLaws.{CostsOnly, encode-append}
 use Rattle.bound.specs.Costs.{sumBy}
 use Rattle.bound.proofs.Builder.{tvEq-costs, tvRefines-costs, netOf-costs, net-costs}
 use Rattle.bound.proofs.Cells.{then}
@@ -39,69 +34,12 @@ use Rattle.order.specs.Verify.{eachPair, steps, work, start, verify}
 use Rattle.order.proofs.Found.{found, own-cells, new-found}
 use Rattle.order.proofs.Replacements.{foundAt, inCells, wide, design-in-order}
 use Rattle.requirement.proofs.StepsSafe.{output-narrow}
+use Rattle.requirement.proofs.Within.{Within, nothing, step, more, both, ported-within, work-words}
+use Rattle.requirement.proofs.Within.{assert-step, oblige-step}
 use Rattle.requirement.proofs.Exists.{but, asked}
 use Rattle.order.proofs.StepsMean.{steps-are}
 use Rattle.requirement.proofs.Theorem.{verify-is}
 use Rattle.requirement.specs.Requirement3.{queryCalls}
-
--- A step's calls, with its assertion, or with its place in the query's and.
-abbrev StepCosts : ℕ → Step → Type 0
-StepCosts n (declared m) = CostsOnly n m
-StepCosts n (asserted m) = (2 ≤ n) × CostsOnly (n - 2) m
-StepCosts n (obliged m) = (1 ≤ n) × CostsOnly (n - 1) m
-
--- Steps within a number of words.
-data Within : ℕ → List Step → Type 0 where
-  nothing : {n : ℕ} → Within n []
-  step : {n : ℕ} {s : Step} {rest : List Step} (k : ℕ) → k ≤ n → StepCosts k s → Within (n - k) rest →
-      Within n (s ∷ rest)
-
-more : {n m : ℕ} {l : List Step} → n ≤ m → Within n l → Within m l
-more h nothing = nothing
-more {n} {m} h (step {s = p} k l s w) = step {n = m} {s = p} k (omega arith) s (more (omega arith) w)
-
-both : {n m : ℕ} {k l : List Step} → Within n k → Within m l → Within (n + m) (k ++ l)
-both {n} {m} nothing w = more (omega arith) w
-both {n} {m} (step {s = p} {rest = rest} k h s v) w =
-    step {n = n + m} {s = p} k (omega arith) s (more {n = n - k + m} (omega arith) (both v w))
-
-assert-words : (k : ℕ) (cs : List Call) → length (encode (call.assert k ∷ cs)) ≡ 2 + length (encode cs)
-unfolding encode
-assert-words k cs = omega arith
-
--- The words of the steps' calls and the obligations' places.
-work-words : {n : ℕ} {l : List Step} → Within n l → (s : St) →
-    length (encode ((work l s) .calls)) + length ((work l s) .res) ≤ n
-unfolding work
-work-words nothing s = unfold encode in omega arith
-work-words {n} (step {s = declared m} {rest = rest} k h c w) s =
-    let here = emit-words k m _ s c in
-    let after = work-words w ((emit m s) .st) in
-    let sum = encode-append ((emit m s) .calls) ((work rest ((emit m s) .st)) .calls) in
-    omega arith
-work-words {n} (step {s = asserted m} {rest = rest} k h c w) s =
-    let here = emit-words (k - 2) m _ s (c .1) in
-    let after = work-words w ((emit m s) .st) in
-    let sum = encode-append ((emit m s) .calls) (call.assert ((emit m s) .res) ∷ (work rest ((emit m s) .st)) .calls) in
-    let claim = assert-words ((emit m s) .res) ((work rest ((emit m s) .st)) .calls) in
-    omega (arith, c .0)
-work-words {n} (step {s = obliged m} {rest = rest} k h c w) s =
-    let here = emit-words (k - 1) m _ s (c .1) in
-    let after = work-words w ((emit m s) .st) in
-    let sum = encode-append ((emit m s) .calls) ((work rest ((emit m s) .st)) .calls) in
-    omega (arith, c .0)
-
--- ---- the steps of a design
-
-assert-step : (n k : ℕ) (m : Prog ℕ) (rest : List Step) → k + 2 ≤ n → CostsOnly k m → Within (n - (k + 2)) rest →
-    Within n (asserted m ∷ rest)
-assert-step n k m rest l h w =
-    step {n = n} {s = asserted m} (k + 2) l (omega arith, costs-more k (k + 2 - 2) m _ (omega arith) h) w
-
-oblige-step : (n k : ℕ) (m : Prog ℕ) (rest : List Step) → k + 1 ≤ n → CostsOnly k m → Within (n - (k + 1)) rest →
-    Within n (obliged m ∷ rest)
-oblige-step n k m rest l h w =
-    step {n = n} {s = obliged m} (k + 1) l (omega arith, costs-more k (k + 1 - 1) m _ (omega arith) h) w
 
 module _ (rp : ℕ → Bool) where
   claim-costs : (s : ℕ) (a : Cell) → Shaped a → Bounded a →
@@ -141,17 +79,12 @@ currents-costs from to =
 net-within : (rp : ℕ → Bool) (p : NetPair) → Within 41 (obliged (replaceNet rp (p .from) (p .to)) ∷ [])
 net-within rp p = oblige-step 41 40 _ _ (omega arith) (replaceNet-costs rp (p .from) (p .to)) nothing
 
-ported-within : (mode : Mode) (rp : ℕ → Bool) (p : NetPair) →
-    Within 41 (portedOnly mode (obliged (replaceNet rp (p .from) (p .to)) ∷ []))
-ported-within Ported rp p = net-within rp p
-ported-within Inductive rp p = nothing
-
 pair-within : (rp : ℕ → Bool) (mode : Mode) (k : Pair) (p : NetPair) → Within 113 (pairSteps rp mode k p)
 pair-within rp mode equal p = nothing
 pair-within rp mode ofVoid p = assert-step 113 29 _ _ (omega arith) (replaceVoidNet-costs rp (p .from) (p .to)) nothing
 pair-within rp mode ofDffs p =
     assert-step 113 29 _ _ (omega arith) (joinPasts-costs (p .from) (p .to))
-    (oblige-step 82 40 _ _ (omega arith) (currents-costs (p .from) (p .to)) (ported-within mode rp p))
+    (oblige-step 82 40 _ _ (omega arith) (currents-costs (p .from) (p .to)) (ported-within mode (net-within rp p)))
 pair-within rp mode ordinary p = more (omega arith) (net-within rp p)
 
 pairs-within : (d : Design) (pairs : List NetPair) → Within (113 * length pairs) (eachPair d pairs)

@@ -15,4 +15,5 @@ pub mod Solved
 pub mod StepsSafe
 pub mod Theorem
 pub mod WellFormed
+pub mod Within
 pub mod WorkMeets

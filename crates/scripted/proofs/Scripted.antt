@@ -92,6 +92,7 @@ list-scripted mode w is room =
 
 -- So for the words and the marks that `verify` leaves in the caller's slices: never 19, never 2.
 pub said-scripted : {mode : ℕ} {w calls recorded : List ℕ} {r : Verified} {n : Counts}
-    (s : Said mode w calls recorded r n) (room : ℕ) →
-    written (take (n .words) calls) (take (total (s .d)) recorded) room ≡ roomFor (length (scriptOf (take (n .words) calls) (take (total (s .d)) recorded))) room
+    (s : Said mode w calls recorded r n) (room : ℕ)
+    → written (take (n .words) calls) (take (total (s .d)) recorded) room
+    ≡ roomFor (length (scriptOf (take (n .words) calls) (take (total (s .d)) recorded))) room
 said-scripted {mode} {w} s room = rw (s .words, s .marks) (list-scripted mode w (s .is) room)
