@@ -3,7 +3,7 @@ import glob
 import os
 
 import design
-from verdict import BROKEN
+from verdict import BROKEN, HOLDS, INDUCTIVE
 
 GIVEN = ('Input', 'IoBuf')
 
@@ -31,11 +31,27 @@ def _inner_clocks(result):
 
 
 def _twins(result):
-    """Whether a flip-flop replaced by another fails only against the other's old state, as in the ported mode alone."""
+    """The pairs of flip-flops that fail only against the new one's old state, as in the ported mode alone: their edits'
+    indexes."""
     states = {}
     for one in result.obligations:
         states.setdefault(one.replacement, []).append(one.state)
-    return [True, False] in states.values()
+    return [index for index, found in states.items() if found == [True, False]]
+
+
+def _read_later(result):
+    """The pairs in which an added flip-flop is replaced by one of the base, likewise: what reads the first as it is now
+    reads the second as it was."""
+    owned = design.owners(result)
+    return [index for index, edit in enumerate(result.replacements)
+            if edit.kind == 'net' and design.kind_of_pair(edit, owned) == 'flip-flops'
+            and owned[edit.old.slot].added and not owned[edit.new.slot].added]
+
+
+def _ages(result, index):
+    edit = result.replacements[index]
+    old, new = result.slot_text(edit.old.slot), result.slot_text(edit.new.slot)
+    return f'{old}, an added flip-flop, is read as it is now, and {new}, which replaces it, as it was'
 
 
 def of(result, root):
@@ -48,9 +64,13 @@ def of(result, root):
     if result.verdict == BROKEN and _inner_clocks(result):
         found.append((f'The clock of {", ".join(_inner_clocks(result)[:3])} comes from a cell, and what a cell gave '
                       'before is free.', 'c'))
-    if result.verdict == BROKEN and _twins(result):
+    later, twins = _read_later(result), _twins(result) if result.verdict == BROKEN else []
+    if set(twins) - set(later):
         found.append(('A flip-flop replaced by another is held to its old state too, and only this fails; --mode 1 '
                       'does not ask it.', 'e'))
+    found += [(_ages(result, index) + '.', 'e') for index in twins if index in later][:1]
+    if later and result.verdict == HOLDS and result.mode == INDUCTIVE:
+        found.append((_ages(result, later[0]) + '; mode 1 does not ask whether that is the same.', 'e'))
     if result.vacuous:
         found.append(('A loop leaves nothing to prove.', '04'))
     return [(sentence, _page(root, prefix)) for sentence, prefix in found]
