@@ -10,10 +10,10 @@ use operators::Binary;
 ghost use mathlib.Core.Path.{_≡_};
 ghost use Prim.Native.Nat.{ℕ, suc, _-_, _≤_};
 ghost use Rattle.engine.specs.Emit.{binaryOf};
-ghost use Rattle.smt.specs.Builder.{tvShift, tvStrict, mayDivide, tvDivide, tvBinary};
-ghost use Rattle.builder.specs.Ran.{trits, MakesBool, MakesVector, MakesTrits};
+ghost use Rattle.smt.specs.Builder.{tvShift, tvBinary};
+ghost use Rattle.builder.specs.Ran.{trits, MakesVector, MakesTrits};
 ghost use Rattle.arith.specs.Shifts.{preparedOf};
-ghost use Rattle.arith.specs.Parts.{amountTimes, MakesStrict};
+ghost use Rattle.arith.specs.Parts.{amountTimes};
 
 // What prepare_shift gives: the width, the extended value and amount, and the amount times the stride.
 pub struct Prepared {
@@ -71,55 +71,6 @@ pub fn tv_shift(
     trits::tv_extract(calls, result.counts, highest(n), 0, result.value)
 }
 
-// ---- Mul, UDiv, UMod, SDivTrunc, SModTrunc
-
-// An operation on y; all X unless the term `defined` holds.
-fn tv_strict(
-    calls: &mut [u32],
-    c: Counts,
-    op: BinaryOp,
-    defined: Term,
-    a: TritVec,
-    b: TritVec,
-    n: u32,
-) -> BuiltTrits
-    ensures { λ r. ⌜ (n ≤ 64 → MakesStrict (tvStrict (binaryOf op) (defined .0) (trits n a) (trits n b) n)
-        (binaryOf op) n (now (calls .entry)) c (now (calls .exit)) r) ⌝ }
-{
-    let none = builder::build_bitvec_lit(calls, c, n, 0);
-    let all = builder::build_bitvec_lit(calls, none.counts, n, 18446744073709551615);
-    let x = builder::build_bitvec_ite(calls, all.counts, defined, none.term, all.term);
-    let y = builder::build_binary(calls, x.counts, op, a.y, b.y);
-    builder::trits(x.term, y)
-}
-
-// No operand has an X, and the divisor is not zero.
-fn may_divide(calls: &mut [u32], c: Counts, a: TritVec, b: TritVec, n: u32) -> Built
-    ensures { λ r. ⌜ (n ≤ 64 → MakesBool (mayDivide (trits n a) (trits n b) n) (now (calls .entry)) c
-        (now (calls .exit)) r) ⌝ }
-{
-    let no_x = compare::bv_no_x(calls, c, a, b, n);
-    let by_zero = bits::bv_is_zero(calls, no_x.counts, b.y, n);
-    let not_by_zero = builder::build_not(calls, by_zero.counts, by_zero.term);
-    builder::build_and(calls, not_by_zero.counts, no_x.term, not_by_zero.term)
-}
-
-// A division, by its operation on y.
-fn tv_divide(
-    calls: &mut [u32],
-    c: Counts,
-    op: BinaryOp,
-    a: TritVec,
-    b: TritVec,
-    n: u32,
-) -> BuiltTrits
-    ensures { λ r. ⌜ (n ≤ 64 → MakesStrict (tvDivide (binaryOf op) (trits n a) (trits n b) n) (binaryOf op) n
-        (now (calls .entry)) c (now (calls .exit)) r) ⌝ }
-{
-    let defined = may_divide(calls, c, a, b, n);
-    tv_strict(calls, defined.counts, op, defined.term, a, b, n)
-}
-
 // ---- And, Or, Xor, Eq, ULt, SLt, Mul, UDiv, UMod, SDivTrunc, SModTrunc
 
 // An operation on two vectors of n trits, with an output of `width`.
@@ -144,11 +95,11 @@ pub fn tv_binary(
         Binary::SLt => compare::tv_less(calls, c, Compare::Slt, a, b, n),
         Binary::Mul => {
             let no_x = compare::bv_no_x(calls, c, a, b, n);
-            tv_strict(calls, no_x.counts, BinaryOp::Mul, no_x.term, a, b, n)
+            strict::tv_strict(calls, no_x.counts, BinaryOp::Mul, no_x.term, a, b, n)
         }
-        Binary::UDiv => tv_divide(calls, c, BinaryOp::Udiv, a, b, n),
-        Binary::UMod => tv_divide(calls, c, BinaryOp::Urem, a, b, n),
-        Binary::SDivTrunc => tv_divide(calls, c, BinaryOp::Sdiv, a, b, n),
-        Binary::SModTrunc => tv_divide(calls, c, BinaryOp::Srem, a, b, n),
+        Binary::UDiv => strict::tv_divide(calls, c, BinaryOp::Udiv, a, b, n),
+        Binary::UMod => strict::tv_divide(calls, c, BinaryOp::Urem, a, b, n),
+        Binary::SDivTrunc => strict::tv_divide(calls, c, BinaryOp::Sdiv, a, b, n),
+        Binary::SModTrunc => strict::tv_divide(calls, c, BinaryOp::Srem, a, b, n),
     }
 }

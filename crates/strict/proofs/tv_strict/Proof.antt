@@ -1,12 +1,12 @@
--- `arith::tv_strict` meets its contract: its calls are those of the model, one after the other. Assumes nothing.
+-- `strict::tv_strict` meets its contract: its calls are those of the model, one after the other. Assumes nothing.
 use borrow.Author.Needs.{needs}
 use mathlib.Core.Path.{_∙_}
 use Rattle.builder.proofs.Laws.{ran-as, ran-bind, ran-ret}
 use lib.ListN.{length-replicate}
 use Rattle.bits.proofs.Literals.{narrow, zeros-lit, ones-lit}
 use Rattle.smt.specs.Builder.{tvStrict}
-use Rattle.arith.proofs.tv_strict.Statement.{statement}
-use Rattle.arith.proofs.tv_strict.Tie as tie
+use Rattle.strict.proofs.tv_strict.Statement.{statement}
+use Rattle.strict.proofs.tv_strict.Tie as tie
 
 same-length : tie.Need-same-length
 same-length c =

@@ -1,9 +1,9 @@
--- `arith::may_divide` meets its contract: its calls are those of the model, one after the other. Assumes nothing.
+-- `strict::may_divide` meets its contract: its calls are those of the model, one after the other. Assumes nothing.
 use borrow.Author.Needs.{needs}
 use Rattle.builder.proofs.Laws.{ran-bind}
 use Rattle.smt.specs.Builder.{mayDivide}
-use Rattle.arith.proofs.may_divide.Statement.{statement}
-use Rattle.arith.proofs.may_divide.Tie as tie
+use Rattle.strict.proofs.may_divide.Statement.{statement}
+use Rattle.strict.proofs.may_divide.Tie as tie
 
 returns : tie.Need-returns
 unfolding mayDivide

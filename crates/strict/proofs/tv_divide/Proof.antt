@@ -1,8 +1,8 @@
--- `arith::tv_divide` meets its contract: its calls are those of the model, one after the other. Assumes nothing.
+-- `strict::tv_divide` meets its contract: its calls are those of the model, one after the other. Assumes nothing.
 use borrow.Author.Needs.{needs}
 use Rattle.builder.proofs.Laws.{ran-bind}
-use Rattle.arith.proofs.tv_divide.Statement.{statement}
-use Rattle.arith.proofs.tv_divide.Tie as tie
+use Rattle.strict.proofs.tv_divide.Statement.{statement}
+use Rattle.strict.proofs.tv_divide.Tie as tie
 
 returns : tie.Need-returns
 returns c =
