@@ -347,6 +347,8 @@ def judge(at, results, tally):
         note(tally, 'with a division')
     worked = Design(first)
     given = sources(first, worked)
+    if first.obligations and first.looped != (worked.worked_out(*filled(worked, [])) is None):
+        raise SystemExit(f'{at}: a current loop, found {first.looped}: {text}')
     for result in results:
         if result.verdict == BROKEN:
             fits = example_fits(worked, result, given)

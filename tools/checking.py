@@ -6,6 +6,7 @@ from dataclasses import dataclass, replace
 
 import core
 import design
+import drawing
 import hints
 import notation
 import solver
@@ -137,7 +138,7 @@ class Checker:
 
     def _ask(self, result, calls, recorded):
         """Asks each solver, and takes the gravest of what they tell; what the others tell is added."""
-        told = []
+        told, result.looped = [], drawing.has_loop(result)
         for parts in self.commands():
             one = replace(result, obligations=[replace(obligation) for obligation in result.obligations])
             one.solver = os.path.basename(parts[0])
@@ -200,7 +201,7 @@ class Checker:
         """The verdict of unsat."""
         result.verdict = HOLDS
         edits = len({one.replacement for one in result.obligations})
-        result.sentences = [f'No choice of the sources breaks an obligation: {name} answered unsat.',
+        result.sentences = [f'Every {design.choice(result)} keeps every obligation: {name} answered unsat.',
                             f'Asked: {count(len(result.obligations), "obligation")}, of {count(edits, "edit")}.']
         result.sentences += _unasked(result)
 
@@ -231,10 +232,10 @@ class Checker:
                                 'Its example shows nothing; --solver asks another solver.']
             return
         false, asked = sum(not one.state for one in result.obligations), len(result.obligations)
-        verb = 'is' if false == 1 else 'are'
-        broken = 'the obligation is' if asked == 1 else f'{false} of {asked} obligations {verb}'
+        broken = 'the obligation' if asked == 1 else f'{false} of {asked} obligations'
         result.verdict = BROKEN
-        result.sentences = [f'The edits change the design: {name} found an example in which {broken} false.',
+        result.sentences = [f'{"An" if result.looped else "A"} {design.choice(result)} breaks {broken}: '
+                            f'{name} answered sat, with this example.',
                             'The proved evaluator finds every assertion of the script true there.']
 
     def _example(self, result, calls, recorded, names, answer):

@@ -114,6 +114,13 @@ def joined(result):
     return sum(edit.kind == 'net' and kind_of_pair(edit, owned) == 'flip-flops' for edit in result.replacements)
 
 
+def choice(result):
+    """What the answers unsat and sat are about (docs/UNSAT.md): without a current loop the sources fix every net."""
+    if result.looped:
+        return 'assignment that fits the cells'
+    return 'choice of the sources' + ', alike on joined flip-flops,' * (joined(result) > 0)
+
+
 def obligations(result):
     """For each obligation, in the order of the query's `and`, its edit's index and what it says. A pair of flip-flops
     has the ordinary obligation too in the ported mode alone."""

@@ -73,6 +73,9 @@ def of(result, root):
         found.append((_ages(result, later[0]) + '; mode 1 does not ask whether that is the same.', 'e'))
     if result.vacuous:
         found.append(('A loop leaves nothing to prove.', '04'))
+    elif result.looped and result.verdict in (HOLDS, BROKEN):
+        found.append(('The cells have a current loop: of some sources they may have no assignment, or more than one.',
+                      'd'))
     return [(sentence, _page(root, prefix)) for sentence, prefix in found]
 
 

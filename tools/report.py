@@ -3,6 +3,7 @@ import os
 from html import escape
 
 import boxes
+import design
 import drawing
 import notation
 from verdict import BROKEN, HOLDS, NOTHING_ASKED, REFUSED, SOLVER_WRONG, UNKNOWN
@@ -37,7 +38,7 @@ def asked(result):
     if not result.obligations:
         return 'Nothing was asked: the design has no obligation.'
     edits = len({each.replacement for each in result.obligations})
-    return (f'Asked: can some choice of the sources break {_breakable(len(result.obligations))} '
+    return (f'Asked: can some {design.choice(result)} break {_breakable(len(result.obligations))} '
             f'of {_many(edits, "edit")}?')
 
 
@@ -57,19 +58,12 @@ def _verdict(result):
             f'<div><h1>{word}{mode}</h1><p class="asked">{asked(result)}</p>{text}</div></header>')
 
 
-LOOP = ('The cells have a current loop. Where it has no assignment nothing is judged, so this HOLDS may speak of '
-        'fewer cases than the design has.', 'course/d-added-flip-flops.md')
-
-
 def _hints(result):
     """What to beware of, and the page of the course that tells more."""
-    hints = list(result.hints)
-    if result.headline == HOLDS and drawing.has_loop(result):
-        hints.append(LOOP)
-    if not hints:
+    if not result.hints:
         return ''
     parts = [f'<p>{escape(sentence)}{f" See <code>{escape(where)}</code>." if where else ""}</p>'
-             for sentence, where in hints]
+             for sentence, where in result.hints]
     return '<div class="hints">' + ''.join(parts) + '</div>'
 
 

@@ -167,7 +167,7 @@ def many(results, colours):
 
 def as_json(result):
     """A result for scripts."""
-    keep = ('source', 'verdict', 'status', 'vacuous', 'two_valued', 'sentences', 'hints', 'fault', 'place', 'line',
+    keep = ('source', 'verdict', 'status', 'looped', 'vacuous', 'two_valued', 'sentences', 'hints', 'fault', 'place', 'line',
             'column', 'counts', 'solver', 'seconds', 'mode')
     found = {key: getattr(result, key) for key in keep}
     found['obligations'] = [dataclasses.asdict(one) for one in result.obligations]

@@ -92,6 +92,7 @@ class Result:
     replacements: list = field(default_factory=list)
     owners: dict = field(default_factory=dict)    # slot -> Cell; design.owners fills it
     verdict: str = None
+    looped: bool = None                           # whether the cells have a current loop; None where nothing is asked
     vacuous: bool = False                         # of HOLDS: nothing at all satisfies the cells, so nothing is shown
     sentences: list = field(default_factory=list)  # what the verdict says, whole sentences
     two_valued: bool = None                       # of BROKEN by an X: whether the edits hold where no source is X

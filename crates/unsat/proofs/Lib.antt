@@ -1,0 +1,4 @@
+pub mod Query
+pub mod Unsat
+pub mod Script
+pub mod Examples

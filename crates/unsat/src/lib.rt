@@ -1,0 +1,1 @@
+// What unsat says of a design.
