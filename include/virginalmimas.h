@@ -99,7 +99,7 @@ uint64_t vm_evaluate(const uint32_t *calls, size_t n, const uint64_t *bits, size
 uint64_t vm_script(const uint32_t *calls, size_t n, const uint8_t *recorded, size_t r, uint8_t *text, size_t t);
 
 /* Reads a solver's answer of t bytes against r recorded marks into a table of s entries: a trit or VM_NOT_RECORDED per mark, written only after
-   sat. The value is 0 for unsat and 1 for sat. */
+   sat. The value is 0 for unsat and 1 for sat; docs/UNSAT.md has what they say of the design. */
 uint64_t vm_answer(const uint8_t *text, size_t t, const uint8_t *recorded, size_t r, uint8_t *trits, size_t s);
 
 /* The same for long call lists, with tables lent by the caller: the places of the records of terms, their sorts, and the declared names. The answers

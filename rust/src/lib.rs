@@ -243,7 +243,9 @@ fn written(packed: u64) -> Script {
 #[derive(Debug, Clone, Copy, PartialEq, Eq)]
 pub enum Answer {
     Refused { number: u16, place: usize },
+    /// Of a design without a current loop: every choice of the sources keeps every obligation (docs/UNSAT.md).
     Unsat,
+    /// Of such a design: some choice of the sources breaks an obligation.
     Sat,
 }
 

@@ -1,4 +1,4 @@
--- For every part of document 01. For every part of document 01. A statement about each element of a list.
+-- For every part of document 01. A statement about each element of a list.
 use mathlib.Core.List.{List, [], _∷_}
 
 module _ {A : Type 0} where

@@ -54,16 +54,7 @@ nots-valid from low = record {
   few-cells = omega arith;
   few-nets = omega arith;
   bounds = omega arith;
-  laid = record {
-    run = omega arith;
-    apart = omega arith;
-    cells = omega arith;
-    newCells = tt;
-    replaces = tt;
-    slots = tt;
-    nets = omega arith;
-    froms = (tt, tt);
-  };
+  laid = omega arith;
   voids = record {
     cells = (tt, (((λ _. refl), tt), (((λ _. refl), tt), tt)));
     newCells = tt;

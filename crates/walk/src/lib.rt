@@ -89,5 +89,5 @@ pub fn work(
         eqs,
         start,
     );
-    net_pairs::replace_pairs(mode, list, pairs, table, calls, names, marks, eqs, cells)
+    replaced_nets::replace_pairs(mode, list, pairs, table, calls, names, marks, eqs, cells)
 }

@@ -1,5 +1,5 @@
--- `net_pairs::replace_pairs` meets its contract: along the net replacements (`AlongPairs`), each turn does the steps of
--- one pair, and at the last word none is left. Assumes nothing.
+-- `replaced_nets::replace_pairs` meets its contract: along the net replacements (`AlongPairs`), each turn does the
+-- steps of one pair, and at the last word none is left. Assumes nothing.
 use borrow.Author.Needs.{needs}
 use mathlib.Core.Path.{_≡_, refl, _∙_}
 use Prim.Native.Nat.{ℕ, _-_}
@@ -9,9 +9,9 @@ use Rattle.cell.specs.Design.{Design}
 use Rattle.design_list.specs.Read.{read, accepted}
 use Rattle.design_list.proofs.AcceptedLaws.{accepted-read}
 use Rattle.slots.specs.Tells.{Tells}
-use Rattle.net_pairs.proofs.Pairs.{AlongPairs, pairs-along, pairs-turn, pairs-done}
-use Rattle.net_pairs.proofs.replace_pairs.Statement.{statement}
-use Rattle.net_pairs.proofs.replace_pairs.Tie as tie
+use Rattle.replaced_nets.proofs.Pairs.{AlongPairs, pairs-along, pairs-turn, pairs-done}
+use Rattle.replaced_nets.proofs.replace_pairs.Statement.{statement}
+use Rattle.replaced_nets.proofs.replace_pairs.Tie as tie
 
 abbrev Inv-loop : tie.InvT-loop
 Inv-loop mode list pairs table calls₀ names₀ marks₀ eqs₀ s₀ at₀ calls names marks eqs s at =

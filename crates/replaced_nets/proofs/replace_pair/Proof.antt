@@ -1,11 +1,11 @@
--- `net_pairs::replace_pair` meets its contract: what each kind of net replacement makes, the kind being that of the
+-- `replaced_nets::replace_pair` meets its contract: what each kind of net replacement makes, the kind being that of the
 -- words. Assumes nothing.
 use borrow.Author.Needs.{needs}
 use mathlib.Core.Path.{sym, ap, _∙_}
 use Rattle.slots.specs.Pairs.{pairKind}
 use Rattle.net_pairs.proofs.Does.{does-none}
-use Rattle.net_pairs.proofs.replace_pair.Statement.{statement}
-use Rattle.net_pairs.proofs.replace_pair.Tie as tie
+use Rattle.replaced_nets.proofs.replace_pair.Statement.{statement}
+use Rattle.replaced_nets.proofs.replace_pair.Tie as tie
 
 returns : tie.Need-returns
 returns c =

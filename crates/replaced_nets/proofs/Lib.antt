@@ -1,0 +1,2 @@
+-- Laws of the net replacements of a list, for the proofs of this crate.
+pub mod Pairs
