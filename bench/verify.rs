@@ -11,6 +11,10 @@ use std::time::Instant;
 
 use netlist::{Const, SmtEngine, SmtResponse, Trit};
 
+#[path = "../oracle/src/changed.rs"]
+mod changed;
+#[path = "../oracle/src/features.rs"]
+mod features;
 #[path = "../oracle/src/list.rs"]
 mod list;
 #[path = "../oracle/src/port.rs"]
@@ -19,6 +23,8 @@ mod port;
 mod record;
 #[path = "../oracle/src/rust.rs"]
 mod rust;
+#[path = "../oracle/src/twins.rs"]
+mod twins;
 #[path = "../oracle/src/words.rs"]
 mod words;
 
@@ -412,7 +418,7 @@ struct Times {
 fn times(list: &List) -> Times {
     let words = list.words();
     let mut counts = [0u64; 3];
-    assert!(port::counts(&words, &mut counts) >> 48 == 0, "a list that is refused");
+    assert!(port::counts(None, &words, &mut counts) >> 48 == 0, "a list that is refused");
     let room = counts[2] as usize;
     let slots = list.slots() as usize;
     let written = UnsafeCell::new(Written {
@@ -435,10 +441,10 @@ fn times(list: &List) -> Times {
             black_box(design.verify(Engine::<false>(&written)).is_ok());
         },
         &mut || {
-            black_box(port::verify(&words, &mut calls, &mut recorded));
+            black_box(port::verify(None, &words, &mut calls, &mut recorded));
         },
         &mut || {
-            black_box(port::counts(&words, &mut counts));
+            black_box(port::counts(None, &words, &mut counts));
         },
         &mut || {
             black_box(port::read(&words));
