@@ -1,6 +1,6 @@
 -- The query of a call list: what it asserts is true exactly where an argument of its and is false.
-use mathlib.Core.Path.{_≡_, refl, sym, ap, _∙_, subst}
-use mathlib.Core.Bool.{Bool, true, false, not, false≢true}
+use mathlib.Core.Path.{_≡_, sym, ap, _∙_, subst}
+use mathlib.Core.Bool.{Bool, false, not}
 use mathlib.Core.Logic.{_↔_}
 use mathlib.Core.List.{List, [], _∷_, _++_, map}
 use Prim.Native.Nat.{ℕ, suc, _+_, _<_}
@@ -10,6 +10,8 @@ use Rattle.engine.specs.Call.{Call}
 use Rattle.engine.specs.Call as c
 use Rattle.engine.specs.Meaning.{Value, bool, asBool, all, Assignment, Asserted, run, valueAt, terms, All, Earlier}
 use Rattle.engine.proofs.Laws.{All-map, run-append, length-run, run-holds}
+use Rattle.working_out.proofs.OrderLaws.{not-true}
+use Rattle.order.proofs.MeantLaws.{truths}
 use Rattle.requirement.specs.Requirement3.{queryCalls}
 
 -- ---- calls after others
@@ -47,14 +49,6 @@ earlier-right n (c.check ∷ cs) ds e = earlier-right n cs ds e
 
 -- ---- the query after other calls
 
--- The values of terms as Bools, in a list of calls under an assignment.
-abbrev pub truths : Assignment → List Call → List ℕ → List Bool
-truths ρ calls l = map (λ k. asBool (valueAt (run ρ [] calls) k)) l
-
-not-true : (b : Bool) → bool (not b) ≡ bool true → b ≡ false
-not-true true e = absurd (let f : false ≡ true = ap asBool e in false≢true f)
-not-true false e = refl
-
 module _ (ρ : Assignment) (but : List Call) where
   abbrev queried : List ℕ → List Call
   queried asked = but ++ queryCalls (terms but) asked
@@ -62,8 +56,8 @@ module _ (ρ : Assignment) (but : List Call) where
   -- The term that the query asserts has the value of the not of the and of its arguments.
   asserted-value : (o : ℕ) (more : List ℕ) → Earlier 0 (queried (o ∷ more)) →
       valueAt (run ρ [] (queried (o ∷ more))) (suc (terms but))
-      ≡ bool (not (all (truths ρ (queried (o ∷ more)) (o ∷ more))))
-  unfolding run
+      ≡ bool (not (all (truths (valueAt (run ρ [] (queried (o ∷ more)))) (o ∷ more))))
+  unfolding run truths
   asserted-value o more earlier =
       let n : length (run ρ [] but) ≡ terms but = length-run ρ [] but ∙ omega arith in
       let two : List Call = c.term (c.and (o ∷ more)) ∷ c.term (c.not (terms but)) ∷ [] in
@@ -82,12 +76,13 @@ module _ (ρ : Assignment) (but : List Call) where
   -- All assertions are true exactly where those but the query are, and some argument of the query's and is false.
   pub query-means : (asked : List ℕ) → 0 < length asked → Earlier 0 (queried asked) →
       Asserted (valueAt (run ρ [] (queried asked))) (queried asked)
-      ↔ (Asserted (valueAt (run ρ [] (queried asked))) but × (all (truths ρ (queried asked) asked) ≡ false))
+      ↔ (Asserted (valueAt (run ρ [] (queried asked))) but
+      × (all (truths (valueAt (run ρ [] (queried asked))) asked) ≡ false))
   query-means [] some earlier = absurd (omega arith)
   query-means (o ∷ more) some earlier = (
     λ h. (
       asserted-left v but query h,
-      not-true _ (sym (asserted-value o more earlier) ∙ (asserted-right v but query h) .0),
+      not-true _ (ap asBool (sym (asserted-value o more earlier) ∙ (asserted-right v but query h) .0)),
     ),
     λ h. asserted-both v but query (h .0)
         (asserted-value o more earlier ∙ ap (λ (b : Bool). bool (not b)) (h .1), tt),

@@ -3,7 +3,7 @@
 -- 3 the arguments of the query's and are true exactly for the obligations that an assignment's sources keep, so the
 -- query holds exactly where one is broken; and every choice is shown by some assignment that satisfies all the rest.
 use mathlib.Core.Path.{_≡_, refl, sym, ap, _∙_, subst}
-use mathlib.Core.Bool.{Bool, true, false, not, _&&_, true≢false}
+use mathlib.Core.Bool.{Bool, true, false, not, and-false, true≢false}
 use mathlib.Core.Logic.{_↔_}
 use mathlib.Core.List.{List, [], _∷_, map, List·Memᴰ, List·Memᴰ·head, List·Memᴰ·tail}
 use Prim.Native.Nat.{ℕ, zero, suc, _<_}
@@ -18,13 +18,15 @@ use Rattle.engine.specs.Meaning.{asBool, all, Assignment, Fits, Asserted, Earli
 use Rattle.working_out.specs.Reading.{Alike}
 use Rattle.working_out.specs.WorkingOut.{whole}
 use Rattle.working_out.specs.Obligations.{Obligation, obligations, broken}
+use Rattle.working_out.proofs.OrderLaws.{not-false}
 use Rattle.smt.specs.Prog.{Age, curr, past}
+use Rattle.order.proofs.MeantLaws.{truths}
 use Rattle.requirement.specs.Requirement3.{tritIn, tritsIn, givenTrit, Shows, Requirement3}
 use Rattle.requirement.specs.Verified.{callWords}
 use Rattle.requirement.proofs.Required.{required}
 use Rattle.unsat.specs.Choice.{BreakingChoice, KeepsAll, FirstFalse}
 use Rattle.unsat.specs.Unsat.{Questions, Satisfiable, WhatUnsatSays, Example}
-use Rattle.unsat.proofs.Query.{truths, query-means}
+use Rattle.unsat.proofs.Query.{query-means}
 
 -- ---- lists of truths
 
@@ -38,21 +40,13 @@ module _ (d : Design) (g : Trits) where
   -- What stands at the place of a broken one.
   broken-at : (l : List Obligation) (place : ℕ) → FirstFalse (map (λ o. not (broken d (whole d g) o)) l) place
       → (o : Obligation) × List·Memᴰ o l × (broken d (whole d g) o ≡ true)
-  broken-at (o ∷ l) zero e = (o, List·Memᴰ·head refl, is-true _ e)
-    where
-      is-true : (b : Bool) → not b ≡ false → b ≡ true
-      is-true true e = refl
-      is-true false e = absurd (true≢false e)
+  broken-at (o ∷ l) zero e = (o, List·Memᴰ·head refl, not-false _ e)
   broken-at (o ∷ l) (suc place) e = let r = broken-at l place (e .1) in (r .0, List·Memᴰ·tail (r .1), r .2)
 
   not-all-kept : (l : List Obligation) (o : Obligation) → List·Memᴰ o l → broken d (whole d g) o ≡ true
       → all (map (λ o. not (broken d (whole d g) o)) l) ≡ false
   not-all-kept (p ∷ l) o (List·Memᴰ·head q) e = rw (← q, e)
-  not-all-kept (p ∷ l) o (List·Memᴰ·tail m) e = and-false (not (broken d (whole d g) p)) (not-all-kept l o m e)
-    where
-      and-false : (b : Bool) {c : Bool} → c ≡ false → (b && c) ≡ false
-      and-false true e = e
-      and-false false e = refl
+  not-all-kept (p ∷ l) o (List·Memᴰ·tail m) e = rw (not-all-kept l o m e) (and-false (not (broken d (whole d g) p)))
 
   -- Where none is broken, each is kept.
   each-kept : (l : List Obligation) → ((o : Obligation) → List·Memᴰ o l → broken d (whole d g) o ≡ true → ⊥)
@@ -75,7 +69,7 @@ module _ (d : Design) (calls : List Call) (r : Requirement3 d calls) (some : 0 <
   abbrev Satisfied : List Call → Assignment → Type 0
   Satisfied cs ρ =
       Asserted (valueAt (run ρ [] cs)) cs
-      ↔ (Asserted (valueAt (run ρ [] cs)) (r .but) × (all (truths ρ cs (r .asked)) ≡ false))
+      ↔ (Asserted (valueAt (run ρ [] cs)) (r .but) × (all (truths (valueAt (run ρ [] cs)) (r .asked)) ≡ false))
 
   satisfied : (ρ : Assignment) → Satisfied calls ρ
   satisfied ρ =
@@ -92,10 +86,11 @@ module _ (d : Design) (calls : List Call) (r : Requirement3 d calls) (some : 0 <
       own past i = refl
 
   example : (ρ : Assignment) → Sat ρ calls → Example d calls ρ
+  unfolding truths
   example ρ sat =
       let s = (satisfied ρ) .0 (sat .1) in
       let own = shows-own ρ (sat .0) (s .0) in
-      let first = first-false (truths ρ calls (r .asked)) (s .1) in
+      let first = first-false (truths (valueAt (run ρ [] calls)) (r .asked)) (s .1) in
       record {
         but = r .but;
         asked = r .asked;
@@ -114,6 +109,7 @@ module _ (d : Design) (calls : List Call) (r : Requirement3 d calls) (some : 0 <
       record { given = tritsIn (s .0); alike = x .alike; obligation = o .0; among = o .1; breaks = o .2 }
 
   shown : BreakingChoice d → Satisfiable calls
+  unfolding truths
   shown b =
       let x = r .exists (b .given) (b .alike) in
       let all-false = ap all (r .judged (b .given) (x .0) (x .1))
