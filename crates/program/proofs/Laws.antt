@@ -32,7 +32,9 @@ use Rattle.requirement.specs.Verified.{readIn, verified, callWords, marks}
 use Rattle.design.specs.Verifies.{Verifies}
 use Rattle.design.specs.Said.{Says}
 use Rattle.design.proofs.Said.{verify-said}
-use Rattle.program.specs.Output.{refusalLine, scriptText, ofVerified, listOutput, ofInput, outputIn, slotsIn}
+use Rattle.program.specs.declared.Lengths.{Lengths}
+use Rattle.program.specs.Output.{Texts, refusal, loopText, scriptTexts, ofVerified, listOutput, ofInput, outputIn}
+use Rattle.program.specs.Output.{slotsIn, Leaves}
 
 -- ---- the slots of an accepted list
 
@@ -70,24 +72,28 @@ script-fits w marks room {n} is =
         let same : length (scriptOf w marks) ≡ n = cc in
         (sym same, fits)
 
--- What the writer wrote is the script.
-pub wrote-script : (w marks before after : List ℕ) {n : ℕ} → length before < 2 ^ 64
-    → Scripted w marks before after (Bytes n) (written w marks (length before))
-    → Wrote before 0 (scriptText w marks (length before)) after n
-wrote-script w marks before after short done =
-    let fits = script-fits w marks (length before) (sym (done .answers)) in
+-- What the writer wrote is the script, with the line before it.
+pub wrote-script : {line calls recorded before after lined line′ : List ℕ} {m n : ℕ} → length before < 2 ^ 64
+    → Scripted calls recorded before after (Bytes n) (written calls recorded (length before))
+    → Wrote lined 0 line line′ m
+    → Leaves (scriptTexts line calls recorded (length before)) lined before line′ after (record { line = m; text = n })
+wrote-script {calls = calls} {recorded} {before} short done named =
+    let fits = script-fits calls recorded (length before) (sym (done .answers)) in
     rw (← done .answers)
     (record {
-      words = done .writes ∙ sym (overwrite-fits before (scriptOf w marks) (fits .1));
-      count = omega (arith, fits .0, fits .1);
+      line-wrote = named;
+      text-wrote = record {
+        words = done .writes ∙ sym (overwrite-fits before (scriptOf calls recorded) (fits .1));
+        count = omega (arith, fits .0, fits .1);
+      };
     })
 
 -- After the writer's refusal the text is as it was, and takes the refusal's line.
-pub wrote-refused : (w marks before middle after : List ℕ) {e : Fault} {r : ℕ}
-    → Scripted w marks before middle (Refused e) (written w marks (length before))
-    → Wrote middle 0 (refusalLine e) after r
-    → Wrote before 0 (scriptText w marks (length before)) after r
-wrote-refused w marks before middle after done wrote = rw (← done .answers) (rw (done .writes) at wrote)
+pub wrote-refused : (line : List ℕ) {calls recorded before middle after lined line′ : List ℕ} {e : Fault} {r : Lengths}
+    → Scripted calls recorded before middle (Refused e) (written calls recorded (length before))
+    → Leaves (refusal e) lined middle line′ after r
+    → Leaves (scriptTexts line calls recorded (length before)) lined before line′ after r
+wrote-refused line done wrote = rw (← done .answers) (rw (done .writes) at wrote)
 
 -- ---- what is written for each answer of `verify`
 
@@ -97,10 +103,10 @@ nothing-says is = rw is refl
 pub asked-says : {r : Verified} {n : Counts} → r ≡ design.Asked n → Says r n
 asked-says is = rw is refl
 
-told-text : (a : Verified) (n : Counts) → Says a n → (text : List ℕ) → ofVerified a text ≡ text
-told-text (design.Refused e) n said text = absurd said
-told-text (design.NothingAsked m) n said text = refl
-told-text (design.Asked m) n said text = refl
+told-text : (a : Verified) (n : Counts) → Says a n → (texts : Texts) → ofVerified a texts ≡ texts
+told-text (design.Refused e) n said texts = absurd said
+told-text (design.NothingAsked m) n said texts = refl
+told-text (design.Asked m) n said texts = refl
 
 -- `verify` with the program's room.
 module _ {w calls recorded calls′ recorded′ : List ℕ} {r : Verified}
@@ -109,10 +115,11 @@ module _ {w calls recorded calls′ recorded′ : List ℕ} {r : Verified}
   answer-is : r ≡ verified 0 w 16384 4096
   answer-is = left .answer ∙ rw (words, marked)
 
-  pub list-refused : {e : Fault} → r ≡ design.Refused e → (room : ℕ) → listOutput w room ≡ refusalLine e
+  pub list-refused : {e : Fault} → r ≡ design.Refused e → (room : ℕ) → listOutput w room ≡ refusal e
   unfolding listOutput
   list-refused is room =
-      ap (λ (a : Verified). ofVerified a (scriptText (callWords 0 w) (marks 0 w) room)) (sym answer-is ∙ is)
+      ap (λ (a : Verified). ofVerified a (scriptTexts (loopText (readIn 0 w)) (callWords 0 w) (marks 0 w) room))
+      (sym answer-is ∙ is)
 
   module _ (n : Counts) (said : Says r n) (slots : ℕ) (all : slots ≡ slotsIn (readIn 0 w)) where
     -- The first words and marks are there.
@@ -122,19 +129,21 @@ module _ {w calls recorded calls′ recorded′ : List ℕ} {r : Verified}
         (s .room, rw (all, ap slotsIn (s .is)) (s .slots))
 
     -- They are the list's own.
-    pub list-told : (room : ℕ) → listOutput w room ≡ scriptText (take (n .words) calls′) (take slots recorded′) room
+    pub list-told : (room : ℕ) → listOutput w room
+        ≡ scriptTexts (loopText (readIn 0 w)) (take (n .words) calls′) (take slots recorded′) room
     unfolding listOutput
     list-told room =
         let s = verify-said left n said in
         let recorded-are : take slots recorded′ ≡ marks 0 w = rw (all, ap slotsIn (s .is)) (s .marks) in
-        ap (λ (a : Verified). ofVerified a (scriptText (callWords 0 w) (marks 0 w) room)) (sym answer-is)
+        ap (λ (a : Verified). ofVerified a (scriptTexts (loopText (readIn 0 w)) (callWords 0 w) (marks 0 w) room))
+        (sym answer-is)
         ∙ told-text r n said _
         ∙ rw (s .words, recorded-are)
 
 -- ---- the bytes of the input
 
 module _ (bytes : List ℕ) (room : ℕ) where
-  pub input-refused : {e : Fault} → input.Refused e ≡ inputOf bytes → outputIn bytes room ≡ refusalLine e
+  pub input-refused : {e : Fault} → input.Refused e ≡ inputOf bytes → outputIn bytes room ≡ refusal e
   unfolding outputIn
   input-refused is = ap (λ (a : Input). ofInput a (wordsOf bytes) room) (sym is)
 

@@ -2,7 +2,8 @@
 -- text that the writer leaves of them, and what the program writes.
 use mathlib.Core.Path.{_≡_, refl, sym, ap, _∙_, subst}
 use mathlib.Core.Logic.{_⊎_, inl, inr}
-use mathlib.Core.List.{List, [], _∷_}
+use mathlib.Core.Bool.{Bool, true, false}
+use mathlib.Core.List.{List, [], _∷_, _++_}
 use Prim.Native.Nat.{ℕ, _<_}
 use native.Mathlib.Omega.{arith}
 use lib.ListN.{length, take, drop}
@@ -12,20 +13,24 @@ use Rattle.little_endian.specs.declared.Input.{Input}
 use Rattle.little_endian.specs.declared.Input.the-variants as input
 use Rattle.little_endian.specs.Words.{wordsOf, inputOf}
 use Rattle.cell.specs.Design.{Design}
+use Rattle.cell.specs.declared.Mode.the-variants.{Ported}
 use Rattle.engine.specs.Encode.{decode}
 use Rattle.builder.specs.declared.Counts.{Counts}
-use Rattle.working_out.specs.Loop.{Loop}
+use Rattle.accepted.proofs.Laid.{accepted-laid}
+use Rattle.working_out.specs.Loop.{Loop, hasLoop}
+use Rattle.working_out.proofs.Solutions.{loop-decided}
 use Rattle.working_out.specs.Obligations.{Obligation, obligations}
 use Rattle.requirement.specs.declared.Verified.{Verified}
 use Rattle.requirement.specs.declared.Verified.the-variants as design
 use Rattle.requirement.specs.declared.Verified.the-variants.{NothingAsked, Asked}
-use Rattle.requirement.specs.Verified.{verified, callWords, marks}
+use Rattle.requirement.specs.Verified.{readIn, verified, callWords, marks}
 use Rattle.design.specs.Said.{Said}
 use Rattle.script.specs.declared.Written.{Written}
 use Rattle.script.specs.declared.Written.the-variants as script
 use Rattle.script.specs.declared.Written.the-variants.{Bytes}
 use Rattle.script.specs.Written.{scriptOf, written, Scripted}
-use Rattle.program.specs.Output.{refusalLine, scriptOr, scriptText, ofVerified, listOutput, ofInput, outputIn, output}
+use Rattle.program.specs.Output.{Texts, refusalLine, loopText, scriptOr, ofVerified, listOutput, ofInput, outputIn}
+use Rattle.program.specs.Output.{output}
 use Rattle.program.proofs.Laws.{script-fits}
 use Rattle.unsat.specs.Unsat.{Questions, Says}
 use Rattle.unsat.specs.Script.{ScriptSays}
@@ -74,6 +79,17 @@ writer-says mode w {d} before after {n} q done =
 
 -- ---- what the program writes
 
+-- Without a loop it names none.
+unnamed : (w : List ℕ) {d : Design} → Questions 0 w d → loopText (readIn 0 w) ≡ []
+unfolding readIn
+unnamed w {d} q =
+    let laid = accepted-laid Ported w (q .is) in
+    rw (q .is, none (hasLoop d) refl (loop-decided d laid .0))
+  where
+    none : (b : Bool) → hasLoop d ≡ b → (hasLoop d ≡ true → Loop d) → hasLoop d ≡ false
+    none true e found = absurd (q .no-loop (found e))
+    none false e found = e
+
 -- In mode 0, its refusal of the input or of the room needed, or the script.
 pub program-says : (bytes : List ℕ) {d : Design} → Questions 0 (wordsOf bytes) d →
     ((e : Fault) × (output bytes ≡ refusalLine e)) ⊎ ScriptSays 0 (wordsOf bytes) d (output bytes)
@@ -83,17 +99,17 @@ program-says bytes {d} q = of-input (inputOf bytes)
     w : List ℕ
     w = wordsOf bytes
 
-    text : List ℕ
-    text = scriptOf (callWords 0 w) (marks 0 w)
+    texts : Texts
+    texts = record { line = loopText (readIn 0 w); text = scriptOf (callWords 0 w) (marks 0 w) }
 
-    Told : List ℕ → Type 0
-    Told out = ((e : Fault) × (out ≡ refusalLine e)) ⊎ ScriptSays 0 w d out
+    Told : Texts → Type 0
+    Told out = ((e : Fault) × (out .line ++ out .text ≡ refusalLine e)) ⊎ ScriptSays 0 w d (out .line ++ out .text)
 
-    of-script : (a : Written) → Told (scriptOr a text)
-    of-script (Bytes n) = inr (record { has = refl; says = what-unsat-says 0 w d q })
+    of-script : (a : Written) → Told (scriptOr a texts)
+    of-script (Bytes n) = inr (record { has = rw (unnamed w q); says = what-unsat-says 0 w d q })
     of-script (script.Refused e) = inl (e, refl)
 
-    of-verified : (a : Verified) → Told (ofVerified a (scriptText (callWords 0 w) (marks 0 w) 65536))
+    of-verified : (a : Verified) → Told (ofVerified a (scriptOr (written (callWords 0 w) (marks 0 w) 65536) texts))
     of-verified (design.Refused e) = inl (e, refl)
     of-verified (NothingAsked n) = of-script (written (callWords 0 w) (marks 0 w) 65536)
     of-verified (Asked n) = of-script (written (callWords 0 w) (marks 0 w) 65536)

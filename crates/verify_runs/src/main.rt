@@ -30,10 +30,12 @@ fn show_name(n: usize) {
 
 // Writes what the program writes for the first n bytes of an input.
 fn answer(input: &[u8], n: usize) {
+    let mut line = [0u8; 24583];
     let mut text = io::large_buffer();
     if n <= input.len() {
-        let written = program::output(&input[..n], &mut text);
-        write_part(&text, written);
+        let written = program::output(&input[..n], &mut line, &mut text);
+        write_part(&line, written.line);
+        write_part(&text, written.text);
     }
 }
 

@@ -1,4 +1,5 @@
--- Packing loses nothing: of the list reader's refusals, and of what vm_verify and vm_counts answer (their contracts).
+-- Packing loses nothing: of the list reader's refusals, and of what vm_verify, vm_counts and vm_order answer (their
+-- contracts).
 use mathlib.Core.Path.{_≡_}
 use mathlib.Core.List.{List}
 use Prim.Native.Nat.{_/_, _%_, _^_, ℕ}
@@ -13,7 +14,10 @@ use Rattle.requirement.specs.Verified.{verified, unroomed}
 use Rattle.packed.specs.Verified.{lent}
 use Rattle.packed.specs.Whole.{Whole}
 use Rattle.packed.proofs.WholeLaws.{verified-whole, unroomed-whole}
-use Rattle.virginalmimas.specs.Packed.{packed, PackedVerified, PackedCounts}
+use Rattle.ordering.specs.Answer.{orderOf}
+use Rattle.packed_order.specs.Packed as order
+use Rattle.packed_order.proofs.WholeLaws.{order-whole}
+use Rattle.virginalmimas.specs.Packed.{packed, PackedVerified, PackedCounts, PackedOrder}
 
 -- The packed answer of a refused list gives back the fault's number and place.
 pub packed-whole :
@@ -35,3 +39,9 @@ pub counts-whole :
     (mode : ℕ) (w : List ℕ) {before after : List ℕ} {r : ℕ} → PackedCounts mode w before after r →
     Whole (lent (unroomed mode w) (length before)) r
 counts-whole mode w {before} said = rw (said .answers) (unroomed-whole mode w (length before))
+
+-- Of vm_order, for every list and every slice.
+pub slots-whole :
+    (mode : Mode) (w : List ℕ) {slots slots′ : List ℕ} {r : ℕ} → PackedOrder (read mode w) slots slots′ r →
+    order.Whole (orderOf (read mode w) (length slots)) r
+slots-whole mode w {slots} said = rw (said .answers) (order-whole mode w (length slots))

@@ -3,7 +3,7 @@ use design_list::DesignRead;
 ghost use mathlib.Core.Path.{_≡_};
 ghost use Rattle.cell.specs.declared.Mode.the-variants.{Ported};
 ghost use Rattle.design_list.specs.Read.{read, answer};
-ghost use Rattle.virginalmimas.specs.Packed.{packed, PackedVerified, PackedCounts};
+ghost use Rattle.virginalmimas.specs.Packed.{packed, PackedVerified, PackedCounts, PackedOrder};
 ghost use Rattle.packed_calls.specs.Packed.{PackedCheck, checkedOf, PackedEvaluation, PackedScript, PackedAnswer};
 
 // Reads a design list: the fault's number and place, or 0 and the number of slots.
@@ -57,6 +57,15 @@ pub extern "C" fn vm_counts_mode(mode: u32, list: &[u32], counts: &mut [u64]) ->
     ensures { λ r. ⌜ PackedCounts mode (now (list .entry)) (now (counts .entry)) (now (counts .exit)) r ⌝ }
 {
     packed::told(design::counts(mode, list), counts)
+}
+
+// The order of a design list's nodes by first slot, or the loop that is named, in front of a slice. The fault's number
+// and place, or 0 and the length, with bit 47 set for a loop.
+#[no_mangle]
+pub extern "C" fn vm_order(list: &[u32], slots: &mut [u32]) -> u64
+    ensures { λ r. ⌜ PackedOrder (read Ported (now (list .entry))) (now (slots .entry)) (now (slots .exit)) r ⌝ }
+{
+    packed_order::packed_order(ordering::order(list, slots))
 }
 
 // Checks a call list: the fault's number and place, or 0 and the number of terms; the numbers of terms and of declared

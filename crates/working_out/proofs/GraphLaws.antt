@@ -13,7 +13,7 @@ use Rattle.working_out.specs.Order.{option, isSome}
 use Rattle.working_out.proofs.OrderLaws.{none-of, not-true, not-false, eqb-same}
 use Rattle.working_out.proofs.OrderLaws.{IsLowest, lowest-some, lowest-none, pigeon}
 use Rattle.working_out.specs.Graph.{mark, undone, Chain, one, more, Loop, lacks, isReady, lowestReady, order}
-use Rattle.working_out.specs.Graph.{markAll, neverReady}
+use Rattle.working_out.specs.Graph.{markAll, neverReady, walk}
 
 pub mark-same : (done : ℕ → Bool) (a : ℕ) → mark done a a ≡ true
 unfolding mark
@@ -36,7 +36,7 @@ mark-keeps done a b d = go (eqb b a)
     go true = refl
     go false = d
 
-none-undone : (n : ℕ) (done : ℕ → Bool) → undone n done ≡ 0 → (a : ℕ) → a < n → done a ≡ true
+pub none-undone : (n : ℕ) (done : ℕ → Bool) → undone n done ≡ 0 → (a : ℕ) → a < n → done a ≡ true
 unfolding undone
 none-undone zero done e a l = absurd (omega arith)
 none-undone (suc n) done e a l = go (none-undone n done) (done n) refl e (ℕ-discrete a n)
@@ -52,7 +52,7 @@ unfolding undone
 undone-above zero done a h = refl
 undone-above (suc n) done a h = rw (mark-other done a n (omega arith), undone-above n done a (omega arith))
 
-undone-mark : (n : ℕ) (done : ℕ → Bool) (a : ℕ) → a < n → done a ≡ false → suc (undone n (mark done a)) ≡ undone n done
+pub undone-mark : (n : ℕ) (done : ℕ → Bool) (a : ℕ) → a < n → done a ≡ false → suc (undone n (mark done a)) ≡ undone n done
 unfolding undone
 undone-mark zero done a l d = absurd (omega arith)
 undone-mark (suc n) done a l d = go (ℕ-discrete a n) (λ l. undone-mark n done a l d)
@@ -73,12 +73,12 @@ module _ (N : ℕ) (reads : ℕ → ℕ → Bool) where
   Ordered done [] = (a : ℕ) → a < N → done a ≡ true
   Ordered done (a ∷ l) = Ready done a × Ordered (mark done a) l
 
-  both : (p q : Bool) → (p && not q) ≡ true → (p ≡ true) × (q ≡ false)
+  pub both : (p q : Bool) → (p && not q) ≡ true → (p ≡ true) × (q ≡ false)
   both true true e = absurd (false≢true e)
   both true false e = (refl, refl)
   both false q e = absurd (false≢true e)
 
-  lacks-none : (done : ℕ → Bool) (a : ℕ) → isSome ((lacks N reads) done a) ≡ false → (b : ℕ) → b < N → reads a b ≡ true
+  pub lacks-none : (done : ℕ → Bool) (a : ℕ) → isSome ((lacks N reads) done a) ≡ false → (b : ℕ) → b < N → reads a b ≡ true
       → done b ≡ true
   unfolding lacks
   lacks-none done a e b l r = sees (reads a b) (done b) r (lowest-none N _ (none-of ((lacks N reads) done a) e) b l)
@@ -88,7 +88,7 @@ module _ (N : ℕ) (reads : ℕ → ℕ → Bool) where
       sees true false e h = absurd (true≢false h)
       sees false false e h = e
 
-  ready-is : (done : ℕ → Bool) (a : ℕ) → (lowestReady N reads) done ≡ some a → Ready done a
+  pub ready-is : (done : ℕ → Bool) (a : ℕ) → (lowestReady N reads) done ≡ some a → Ready done a
   unfolding lowestReady
   ready-is done a e = record { low = f .below; not-done = split .0; has = lacks-none done a (split .1) }
     where
@@ -109,20 +109,16 @@ module _ (N : ℕ) (reads : ℕ → ℕ → Bool) where
 
   -- Where none is ready, each node that is not done reads one that is not done: the walk from node to the lowest such
   -- node that it reads closes, by the pigeonhole.
-  unfoldable pub walk : (ℕ → Bool) → ℕ → ℕ → ℕ
-  walk done a zero = a
-  walk done a (suc k) = option ((lacks N reads) done (walk done a k)) 0 (λ b. b)
-
   pub record Undone (done : ℕ → Bool) (a : ℕ) : Type 0 where
     pub low : a < N
     pub not-done : done a ≡ false
 
   module _ (done : ℕ → Bool) (stuck : (lowestReady N reads) done ≡ none) where
-    record Next (a b : ℕ) : Type 0 where
-      to : Undone done b
-      read : reads a b ≡ true
+    pub record Next (a b : ℕ) : Type 0 where
+      pub to : Undone done b
+      pub read : reads a b ≡ true
 
-    next : (a : ℕ) → Undone done a → Next a (option ((lacks N reads) done a) 0 (λ b. b))
+    pub next : (a : ℕ) → Undone done a → Next a (option ((lacks N reads) done a) 0 (λ b. b))
     unfolding lowestReady lacks
     next a u = go ((lacks N reads) done a) refl
       where
@@ -136,33 +132,33 @@ module _ (N : ℕ) (reads : ℕ → ℕ → Bool) where
             rw e (record { to = record { low = f .below; not-done = g .1 }; read = g .0 })
 
     module _ (a : ℕ) (u : Undone done a) where
-      walk-undone : (k : ℕ) → Undone done (walk done a k)
+      pub walk-undone : (k : ℕ) → Undone done ((walk N reads) done a k)
       unfolding walk
       walk-undone zero = u
-      walk-undone (suc k) = (next (walk done a k) (walk-undone k)) .to
+      walk-undone (suc k) = (next ((walk N reads) done a k) (walk-undone k)) .to
 
-      walk-reads : (k : ℕ) → reads (walk done a k) (walk done a (suc k)) ≡ true
+      pub walk-reads : (k : ℕ) → reads ((walk N reads) done a k) ((walk N reads) done a (suc k)) ≡ true
       unfolding walk
-      walk-reads k = (next (walk done a k) (walk-undone k)) .read
+      walk-reads k = (next ((walk N reads) done a k) (walk-undone k)) .read
 
-      walk-chain : (i d : ℕ) → (Chain N reads) (walk done a i) (walk done a (suc (i + d)))
+      walk-chain : (i d : ℕ) → (Chain N reads) ((walk N reads) done a i) ((walk N reads) done a (suc (i + d)))
       walk-chain i zero = rw add-zero (one (walk-reads i))
       walk-chain i (suc d) = rw add-suc (snoc (walk-chain i d) (walk-reads (suc (i + d))))
 
       pub closes : (Loop N reads)
       closes =
-          let t = pigeon N (walk done a) (λ i _. (walk-undone i) .low) in
+          let t = pigeon N ((walk N reads) done a) (λ i _. (walk-undone i) .low) in
           let b = t .before in
           let far : suc (t .i + (t .j - suc (t .i))) ≡ t .j = omega arith in
           let c = walk-chain (t .i) (t .j - suc (t .i)) in
-          (walk done a (t .i), rw (t .same) (rw (far, t .same) at c))
+          ((walk N reads) done a (t .i), rw (t .same) (rw (far, t .same) at c))
 
   -- The nodes of the order are ready when their turn comes; with steps enough none is ready after the last.
   abbrev pub Turns : (ℕ → Bool) → List ℕ → Type 0
   Turns done [] = Unit {0}
   Turns done (a ∷ l) = Ready done a × Turns (mark done a) l
 
-  order-turns : (k : ℕ) (done : ℕ → Bool) → Turns done ((order N reads) k done)
+  pub order-turns : (k : ℕ) (done : ℕ → Bool) → Turns done ((order N reads) k done)
   unfolding order
   order-turns zero done = tt
   order-turns (suc k) done = go (λ a. order-turns k (mark done a)) ((lowestReady N reads) done) refl
@@ -173,7 +169,7 @@ module _ (N : ℕ) (reads : ℕ → ℕ → Bool) where
       go rec none e = rw e tt
       go rec (some a) e = rw e (ready-is done a e, rec a)
 
-  order-ends : (k : ℕ) (done : ℕ → Bool) → undone N done ≤ k →
+  pub order-ends : (k : ℕ) (done : ℕ → Bool) → undone N done ≤ k →
       (lowestReady N reads) ((markAll N reads) done ((order N reads) k done)) ≡ none
   unfolding order markAll
   order-ends zero done h = go ((lowestReady N reads) done) refl

@@ -52,3 +52,8 @@ module _ (N : ℕ) (reads : ℕ → ℕ → Bool) where
   -- The lowest node that never gets ready.
   unfoldable pub neverReady : (ℕ → Bool) → Option ℕ
   neverReady done = lowest N (λ a. not (markAll done (order (undone N done) done) a))
+
+  -- The walk from a node, always to the lowest node read that is not done (document 02, change 4).
+  unfoldable pub walk : (ℕ → Bool) → ℕ → ℕ → ℕ
+  walk done a zero = a
+  walk done a (suc k) = option (lacks done (walk done a k)) 0 (λ b. b)

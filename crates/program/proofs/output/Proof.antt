@@ -16,14 +16,14 @@ enough = let many = length-replicate {A = ℕ} 16384 0 in omega arith
 
 words-fit : tie.Need-array-share-prefix-words
 words-fit c =
-    let found = c .before .before in
+    let found = c .before .before .before in
     let read = found .before .before .before in
     words-read _ (replicate 16384 0) enough (sym (found .n .given .1) ∙ read .words2 .ensures .0)
     (read .words2 .ensures .1) .0
 
 words-count : tie.Need-slice-aggregate-put-list
 words-count c =
-    let found = c .before .before .before in
+    let found = c .before .before .before .before in
     let read = found .before .before .before in
     sym (length-take-le _ _
     (words-read _ (replicate 16384 0) enough (sym (found .n .given .1) ∙ read .words2 .ensures .0)
@@ -31,15 +31,15 @@ words-count c =
 
 refuses : tie.Need-returns
 refuses c =
-    let line = c .before .before in
-    let found = line .before .before .before in
+    let refused = c .before .before .before .before in
+    let found = refused .before .before .before .before in
     let read = found .before .before .before in
-    rw (input-refused _ _ (sym (found .f .given .1) ∙ read .words2 .ensures .0)) (line .put-refusal .ensures)
+    rw (input-refused _ _ (sym (found .f .given .1) ∙ read .words2 .ensures .0)) (refused .refuse .ensures)
 
 writes : tie.Need-returns-2
 writes c =
-    let written = c .before .before in
-    let found = written .before .before .before .before in
+    let written = c .before .before .before .before in
+    let found = written .before .before .before .before .before in
     let read = found .before .before .before in
     let is = sym (found .n .given .1) ∙ read .words2 .ensures .0 in
     let words = words-read _ (replicate 16384 0) enough is (read .words2 .ensures .1) in
@@ -50,4 +50,5 @@ output-spec =
     tie.close
     (tie.spec
     (λ c. search needs) (λ c κs. search needs) (λ c. search needs) (λ c κs. search needs) (λ c. search needs)
-    words-fit words-count (λ c κs. search needs) (λ c. search needs) refuses (λ c. search needs) writes)
+    words-fit words-count (λ c κs. search needs) (λ c. search needs) (λ c. search needs) refuses (λ c. search needs)
+    (λ c. search needs) writes)

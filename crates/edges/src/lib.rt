@@ -1,0 +1,1 @@
+// The words of a design's reads say its reads: theorems, no code.

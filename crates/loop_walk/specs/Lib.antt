@@ -1,0 +1,4 @@
+pub mod First
+pub mod Steps
+pub mod Reads
+pub mod Named

@@ -1,0 +1,5 @@
+pub mod LowestLaws
+pub mod Runs
+pub mod Orders
+pub mod Named
+pub mod ByWords

@@ -1,0 +1,4 @@
+pub mod Edges
+pub mod Run
+pub mod Graph
+pub mod Is

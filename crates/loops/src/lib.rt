@@ -1,0 +1,1 @@
+// The order of the nodes and the loop that is named: definitions and theorems, no code.
