@@ -50,9 +50,10 @@ int main(int argc, char **argv) {
         return 3;
     }
     size_t words = counts[2], terms = counts[0], slots = VM_VALUE(vm_read(list, len)), bytes = 9 * (words / 5), length;
-    uint32_t *calls = room(4 * words), *places = room(4 * terms);
+    uint32_t *calls = room(4 * words), *places = room(4 * terms), *nodes = room(4 * slots);
     uint8_t *recorded = room(slots), *sorts = room(terms), *names = room(bytes), *trits = room(slots);
     vm_verify(list, len, calls, words, recorded, slots);
+    uint64_t ordered = vm_order(list, len, nodes, slots);
 
     answer = vm_script_with(calls, words, recorded, slots, NULL, 0, places, terms, sorts, terms, names, bytes);
     size_t needed = VM_VALUE(answer); /* fault 15 tells the room */
@@ -64,6 +65,12 @@ int main(int argc, char **argv) {
     if (VM_NUMBER(answer)) {
         printf("no verdict: fault %llu at byte %llu of the reply\n", (unsigned long long)VM_NUMBER(answer), (unsigned long long)VM_VALUE(answer));
         return 5;
+    }
+    if (VM_VALUE(answer) == 0 && VM_LOOPED(ordered)) {
+        printf("loop");
+        for (size_t i = 0; i < VM_LENGTH(ordered); i++) printf(" s%u", (unsigned)nodes[i]);
+        printf(": with a current loop unsat proves nothing\n");
+        return 7;
     }
     if (VM_VALUE(answer) == 0) {
         printf("holds: the edits keep the behaviour\n");

@@ -13,9 +13,11 @@
 #include <stddef.h>
 #include <stdint.h>
 
-/* The version of the entries: each higher one adds entries and changes no declaration of a lower one. 2 added the entries that take a mode. */
-#define VM_VERSION 2
-#define VM_STACK (192 * 1024)
+/* The version of the entries: each higher one adds entries and changes no declaration of a lower one. 2 added the entries that take a mode; 3
+   added vm_order. */
+#define VM_VERSION 3
+/* vm_order needs it, for its tables of 240 KB; 192 KB are enough for every other entry. */
+#define VM_STACK (256 * 1024)
 
 /* The parts of an answer. */
 #define VM_NUMBER(answer) ((uint64_t)(answer) >> 48)
@@ -23,6 +25,9 @@
 /* Of vm_verify, vm_counts and the same in a mode, without a fault: whether anything is asked, and the number of call words. */
 #define VM_ASKED(answer) ((uint64_t)(answer) >> 47 & 1)
 #define VM_WORDS(answer) ((uint64_t)(answer) & 0x7FFFFFFFFFFFu)
+/* Of vm_order, without a fault: whether the slots are a loop's, and their number. */
+#define VM_LOOPED(answer) ((uint64_t)(answer) >> 47 & 1)
+#define VM_LENGTH(answer) ((uint64_t)(answer) & 0x7FFFFFFFFFFFu)
 
 /* Faults. */
 #define VM_LIST_ENDS 1        /* the list ends early, or words remain */
@@ -87,6 +92,14 @@ uint64_t vm_counts(const uint32_t *list, size_t len, uint64_t *counts, size_t c)
 uint64_t vm_verify_mode(uint32_t mode, const uint32_t *list, size_t n, uint32_t *calls, size_t c, uint8_t *recorded, size_t r);
 uint64_t vm_counts_mode(uint32_t mode, const uint32_t *list, size_t n, uint64_t *counts, size_t c);
 
+/* Orders a design list of n words. Its nodes are the asserted cells but Input and IoBuf, and the replaced Voids, each by its first slot. Without
+   a current loop all nodes go into slots, which has room for s: each after all that it reads currently, the lowest ready one always next. With
+   one a loop goes there: each one's cell or Void reads the next, and the last reads the first. The loop is found by going from the lowest slot
+   that never gets ready always to the lowest such slot read, and starts at the first met again. VM_LOOPED is 1 for a loop; VM_LENGTH is the
+   number of slots written, none of them twice. Room for less than base + added is 14 at that number, after the list's own faults. The answer is
+   the same in every mode. */
+uint64_t vm_order(const uint32_t *list, size_t n, uint32_t *slots, size_t s);
+
 /* Checks a call list of n words: 19 at its place, or the number of its terms. The numbers of terms and of declared names, by which values and bits
    are allocated, go into sizes[0] and sizes[1]; room for less than 2 is 14 at 2. */
 uint64_t vm_check(const uint32_t *calls, size_t n, uint64_t *sizes, size_t s);
@@ -99,7 +112,8 @@ uint64_t vm_evaluate(const uint32_t *calls, size_t n, const uint64_t *bits, size
 uint64_t vm_script(const uint32_t *calls, size_t n, const uint8_t *recorded, size_t r, uint8_t *text, size_t t);
 
 /* Reads a solver's answer of t bytes against r recorded marks into a table of s entries: a trit or VM_NOT_RECORDED per mark, written only after
-   sat. The value is 0 for unsat and 1 for sat; docs/UNSAT.md has what they say of the design. */
+   sat. The value is 0 for unsat and 1 for sat; docs/UNSAT.md has what they say of the design. With a current loop unsat proves nothing: vm_order
+   tells whether there is one. */
 uint64_t vm_answer(const uint8_t *text, size_t t, const uint8_t *recorded, size_t r, uint8_t *trits, size_t s);
 
 /* The same for long call lists, with tables lent by the caller: the places of the records of terms, their sorts, and the declared names. The answers

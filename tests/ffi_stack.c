@@ -12,7 +12,9 @@
 
 /* Document 01's example. */
 static const uint32_t list[] = {NUMBER(2), NUMBER(0), NUMBER(0), NUMBER(1), HEAD(21, 1), NUMBER(1), HEAD(2, 2), NUMBER(1), SLOT(0), SLOT(1), SLOT(0)};
-static uint32_t calls[64], places[64];
+/* An Input, and a Not that reads itself. */
+static const uint32_t looped[] = {NUMBER(2), NUMBER(0), NUMBER(0), NUMBER(0), HEAD(21, 1), NUMBER(1), HEAD(2, 2), NUMBER(1), SLOT(1)};
+static uint32_t calls[64], places[64], slots[2];
 static uint8_t recorded[2], text[1024], trits[2], sorts[64], names[64];
 static uint64_t counts[3], sizes[2], bits[64], values[64];
 static const char *answer = "sat ((n0x #b0) (n0y #b0) (n1x #b0) (n1y #b1))";
@@ -23,6 +25,8 @@ static void verify(void) { vm_verify(list, 11, calls, 64, recorded, 2); }
 static void count(void) { vm_counts(list, 11, counts, 3); }
 static void verify_mode(void) { vm_verify_mode(VM_MODE_INDUCTIVE, list, 11, calls, 64, recorded, 2); }
 static void count_mode(void) { vm_counts_mode(VM_MODE_INDUCTIVE, list, 11, counts, 3); }
+static void order(void) { vm_order(list, 11, slots, 2); }
+static void name_loop(void) { vm_order(looped, 9, slots, 2); }
 static void check(void) { vm_check(calls, 60, sizes, 2); }
 static void evaluate(void) { vm_evaluate(calls, 60, bits, 64, values, 64); }
 static void script(void) { vm_script(calls, 60, recorded, 2, text, 1024); }
@@ -56,14 +60,15 @@ static size_t touched(void (*entry)(void)) {
 int main(void) {
     const struct { const char *name; void (*entry)(void); size_t most; } entries[] = {
         {"vm_read", read_list, 32}, {"vm_verify", verify, 192}, {"vm_counts", count, 192},
-        {"vm_verify_mode", verify_mode, 192}, {"vm_counts_mode", count_mode, 192}, {"vm_check", check, 128},
+        {"vm_verify_mode", verify_mode, 192}, {"vm_counts_mode", count_mode, 192}, {"vm_order", order, 256},
+        {"vm_order, of a loop", name_loop, 256}, {"vm_check", check, 128},
         {"vm_evaluate", evaluate, 128}, {"vm_script", script, 160}, {"vm_answer", read_answer, 32},
         {"vm_check_with", check_with, 4}, {"vm_evaluate_with", evaluate_with, 4}, {"vm_script_with", script_with, 4}};
     size_t before = touched(nothing), failed = 0;
     for (size_t i = 0; i < sizeof entries / sizeof *entries; i++) {
         size_t bytes = touched(entries[i].entry) - before;
         printf("%s: %zu bytes of stack, at most %zu KB\n", entries[i].name, bytes, entries[i].most);
-        failed |= bytes > entries[i].most * 1024;
+        failed |= bytes > entries[i].most * 1024 || entries[i].most * 1024 > VM_STACK;
     }
     printf(failed ? "ffi_stack: failed\n" : "ffi_stack: ok\n");
     return failed;

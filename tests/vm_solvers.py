@@ -1,9 +1,10 @@
 #!/usr/bin/env python3
 # Random accepted designs through z3 and cvc5: no error line, both agree, every reply reads back, the evaluator confirms
 # every example, working out from an example's sources gives the example, and where sources are few the verdict is that
-# of trying all of them. All this in both modes where flip-flops are joined; elsewhere the calls of the modes are the
-# same. Before them, divisions of constants give what working out does; after them come as many designs with merged
-# flip-flops.
+# of trying all of them; a current loop is found exactly where working out ends early, and the order of the nodes, or the
+# loop that is named, is that of document 02. All this in both modes where flip-flops are joined; elsewhere the calls of
+# the modes are the same. Before them, divisions of constants give what working out does; after them come as many designs
+# with merged flip-flops, and five times as many with many loops, of which the order alone is asked.
 #
 #   tests/vm_solvers.py [COUNT [SEED]]      1,000 designs from seed 1
 import itertools, os, random, sys, time
@@ -16,7 +17,7 @@ import core
 import design
 import notation
 import solver
-from verdict import BROKEN, HOLDS, INDUCTIVE, NOTHING_ASKED, PORTED, Result
+from verdict import BROKEN, HOLDS, INDUCTIVE, LOOP, NOTHING_ASKED, PORTED, Result
 from vm_working_out import DIVISIONS, Design, divide
 
 FEW = 3 ** 6
@@ -26,6 +27,7 @@ CONTROLS = ('clock', 'clear', 'reset', 'enable')
 
 class Maker:
     """Makes an accepted design at random."""
+    ahead = 0.015   # how often a net may be of any slot
 
     def __init__(self, seed):
         self.random = random.Random(seed)
@@ -38,7 +40,7 @@ class Maker:
 
     def net(self, below):
         """A net of an earlier slot, or seldom of any; a constant at times."""
-        most = self.total if self.random.random() < 0.015 else below
+        most = self.total if self.random.random() < self.ahead else below
         slots = [slot for slot in range(most) if slot not in self.voids]
         return f's{self.random.choice(slots)}' if slots and self.random.random() < 0.85 else self.constant()
 
@@ -213,6 +215,37 @@ class Twins(Maker):
         return [f's{slot} {to}' for slot, to in sorted(pairs)]
 
 
+class Tangled(Maker):
+    """Makes a design whose cells often read ahead, with replaced Voids and cells without an output: most have loops."""
+    ahead = 0.1
+
+    def __init__(self, seed):
+        super().__init__(seed)
+        self.base, self.added = self.random.randint(2, 40), self.random.choice((0, 4, 12))
+        self.total = self.base + self.added
+
+    def cell(self, operation, room, below):
+        if operation == 'Void' or self.random.random() < 0.9:
+            return super().cell(operation, room, below)
+        net = self.net(below)
+        return self.random.choice((f'Assign #0 #0 #0 {net}', f'Match #1 #0 {net} {net}', f'Dff #0 #0 {net} 0 0 1')), 0
+
+    def pin(self, operation, role, below):
+        """A Dff's clock may be a Void of the base."""
+        if self.voids and operation == 'Dff' and role == 'clock' and self.random.random() < 0.5:
+            return f's{self.random.choice(sorted(self.voids))}'
+        return super().pin(operation, role, below)
+
+    def words(self):
+        weights = [(name, 2) for name in notation.OPERATIONS] + [('Input', 6)]
+        base = self.run(0, self.base, weights)
+        added = self.run(self.base, self.total, weights[:-1] + [('Void', 12)])
+        pairs = [f's{slot} {self.net(self.total)}' for slot, text, _ in base + added
+                 if self.random.random() < (0.8 if text == 'Void' else 0.1)]
+        head = f'#{self.base} #{self.added} #0 #{len(pairs)}'
+        return notation.parse('\n'.join([head] + [text for _, text, _ in base + added] + pairs))[0]
+
+
 def sources(result, worked):
     """The given trits that the script names: (age, slot)."""
     named = [name for name, _ in core.declared(result.script) if name.endswith('x') and name[0] in 'np']
@@ -289,7 +322,9 @@ def main(count=1000, seed=1):
                 for name in ('z3', 'cvc5')]
     held = {}
     for what, words in divisions():
-        judge(what, [checker.check(Result(what, words=words)) for checker in checkers], held)
+        results = [checker.check(Result(what, words=words)) for checker in checkers]
+        judge(what, results, held)
+        ordered(what, results[0], verifier, held)
     print(f'solvers: {held["HOLDS"]} designs of divided constants hold')
     for maker, what in ((Maker, 'designs'), (Twins, 'designs with merged flip-flops')):
         tallies, began = ({}, {}), time.time()
@@ -299,13 +334,21 @@ def main(count=1000, seed=1):
                 print(f'\r{at - seed + 1} of {count}', end='', file=sys.stderr)
         print(f'solvers: {count} {what} in {time.time() - began:.0f} s')
         for mode, tally in enumerate(tallies):
-            print(f'  mode {mode}: ' + ', '.join(f'{number} {what}' for what, number in sorted(tally.items())))
+            print(f'  mode {mode}: {counted(tally)}')
+    tally = {}
+    for at in range(seed, seed + 5 * count):
+        result = Result('-', words=accepted(Tangled, at, verifier))
+        design.fill(result)
+        checking.order(verifier, result)
+        ordered(f'designs with many loops, seed {at}', result, verifier, tally)
+    print(f'solvers: {5 * count} designs with many loops: {counted(tally)}')
 
 
 def in_both_modes(what, words, checkers, tallies):
     """Judges a design in the ported mode, and in the inductive one where flip-flops are joined."""
     ported = [checker.check(Result(what, words=words)) for checker in checkers]
     judge(what, ported, tallies[PORTED])
+    ordered(what, ported[0], checkers[0].verifier, tallies[PORTED])
     if not design.joined(ported[0]):
         asked = [[list(part) for part in checking.verify(checkers[0].verifier, Result(what, words=words, mode=mode))]
                  for mode in (PORTED, INDUCTIVE)]
@@ -315,8 +358,8 @@ def in_both_modes(what, words, checkers, tallies):
     inductive = [checker.check(Result(what, words=words, mode=INDUCTIVE)) for checker in checkers]
     judge(what, inductive, tallies[INDUCTIVE])
     told = ported[0].verdict, inductive[0].verdict
-    if told == (HOLDS, BROKEN):
-        raise SystemExit(f'{what}: holds in mode 0 but not in mode 1: {", ".join(notation.show(words))}')
+    if told[0] in (HOLDS, LOOP) and told[1] == BROKEN:
+        raise SystemExit(f'{what}: {told[0]} in mode 0 but not in mode 1: {", ".join(notation.show(words))}')
     if told == (BROKEN, HOLDS):
         note(tallies[INDUCTIVE], 'BROKEN in mode 0, HOLDS here')
 
@@ -333,22 +376,31 @@ def accepted(maker, seed, verifier):
     return words
 
 
+def ordered(at, result, verifier, tally):
+    """Holds the verifier's order of the nodes, or the loop that it names, to a second rendering of document 02."""
+    found, expected = verifier.order(result.words, result.base + result.added), Design(result).order()
+    if found != expected or result.loop != (expected[1] if expected[0] else []):
+        raise SystemExit(f'{at}: the order is {found}, not {expected}: {", ".join(notation.show(result.words))}')
+    length = len(result.loop)
+    note(tally, 'with an order' if not length else 'with a loop of one' if length == 1 else 'with a loop of more')
+
+
 def judge(at, results, tally):
     """Holds two results of a design to each other and to working out."""
     first, second = results
     text = ', '.join(notation.show(first.words))
-    told = first.headline, second.headline
-    if told[0] != told[1] or first.verdict not in (HOLDS, BROKEN, NOTHING_ASKED):
+    told = first.verdict, second.verdict
+    if told[0] != told[1] or first.verdict not in (HOLDS, LOOP, BROKEN, NOTHING_ASKED):
         raise SystemExit(f'{at}: {told}, {first.sentences}, {second.sentences}: {text}')
     if len(design.obligations(first)) != len(first.obligations):
         raise SystemExit(f'{at}: the edits of the obligations are not told: {text}')
-    tally[first.headline] = tally.get(first.headline, 0) + 1
+    note(tally, first.verdict)
     if any(cell.operation in DIVISIONS for cell in first.cells):
         note(tally, 'with a division')
     worked = Design(first)
     given = sources(first, worked)
-    if first.obligations and first.looped != (worked.worked_out(*filled(worked, [])) is None):
-        raise SystemExit(f'{at}: a current loop, found {first.looped}: {text}')
+    if first.looped != (worked.worked_out(*filled(worked, [])) is None) or first.looped and first.verdict == HOLDS:
+        raise SystemExit(f'{at}: {told[0]}, a current loop, found {first.looped}: {text}')
     for result in results:
         if result.verdict == BROKEN:
             fits = example_fits(worked, result, given)
@@ -358,9 +410,13 @@ def judge(at, results, tally):
     if first.verdict == NOTHING_ASKED or 3 ** len(given) > FEW:
         return
     broken = tried(worked, given)
-    if broken is not None and (broken != (first.verdict == BROKEN) or first.vacuous):
+    if broken is not None and first.verdict != (BROKEN if broken else HOLDS):
         raise SystemExit(f'{at}: {told[0]}, but trying all sources says {"broken" if broken else "holds"}: {text}')
     note(tally, 'tried with all sources' if broken is not None else 'with few sources and a loop')
+
+
+def counted(tally):
+    return ', '.join(f'{number} {what}' for what, number in sorted(tally.items()))
 
 
 def note(tally, what):

@@ -1,7 +1,7 @@
 #!/usr/bin/env python3
 # What vm says without the proved archive and without a solver: notation with names, bad files and texts, bad arguments,
-# words and faults. Every refusal is a sentence and has its exit status; there is never a traceback. Also the divisions
-# and the modes of tests/vm_working_out.py, on examples worked out by hand.
+# words and faults. Every refusal is a sentence and has its exit status; there is never a traceback. Also the divisions,
+# the modes and the order of tests/vm_working_out.py, on examples worked out by hand.
 import importlib.machinery, importlib.util, io, os, struct, sys, tempfile
 
 ROOT = os.path.dirname(os.path.dirname(os.path.abspath(__file__)))
@@ -130,6 +130,23 @@ def modes():
         same(worked.obligations(now, was), states, f'what they are in mode {mode}')
 
 
+def orders():
+    """The order of the nodes by first slot, or the loop that is named, and how a loop is told."""
+    for text, looped, slots, what in vm_working_out.ORDERS:
+        result = verdict.Result('-', words=notation.parse(text)[0])
+        design.fill(result)
+        same(vm_working_out.Design(result).order(), (looped, slots), what)
+    result = verdict.Result('-', names={0: 'a', 2: 'b[0]', 3: 'b[1]'})
+    same((result.looped, result.cell_text(2), result.cell_text(4)), (None, 'b', 's4'), 'a loop that is not known')
+    first = 's4 reads s5, s5 reads s6, s6 reads s7, s7 reads s8, '
+    for loop, told in (([0], 'a reads itself'), ([0, 2], 'a reads b, b reads a'),
+                       ([4, 0, 2], 's4 reads a, a reads b, b reads s4'),
+                       (list(range(4, 10)), first + 's8 reads s9, s9 reads s4'),
+                       (list(range(4, 11)), first + 'and 3 more reads lead back to s4')):
+        result.loop = loop
+        same((result.looped, design.loop_text(result)), (True, told), f'the loop {loop}')
+
+
 def bad_texts():
     for text, line, column, part in (
             ('#0,\nNott #1', 2, 1, "Is it 'Not'?"),
@@ -207,7 +224,8 @@ def commands():
     same(vm('explain', '23')[0], 0, 'explain 23')
     for arguments in ((), ('check',), ('explain', '21'), ('explain', '22'), ('explain', '24'), ('explain', 'x'), ('nothing',),
                       good + ('--jobs', '0'), good + ('--timeout', '-1'), good + ('--timeout', 'nan'),
-                      good + ('--solver', '"'), ('show', 'good.txt', '--mode', '1'), ('words', 'good.txt', '--mode', '0')):
+                      good + ('--solver', '"'), ('show', 'good.txt', '--mode', '1'), ('words', 'good.txt', '--mode', '0'),
+                      ('order',), ('order', 'bad.txt'), ('order', 'good.txt', '--mode', '0'), ('order', 'good.txt', 'good.txt')):
         same(vm(*arguments)[0], 2, f'vm {arguments}')
     for named in ('check', 'report', 'script'):
         for mode in ('2', '-1', '10', 'Inductive', ''):
@@ -216,6 +234,7 @@ def commands():
     status, helped, _ = vm('check', '--help')
     same((status, [number for number in range(8) if f'  {number}  ' in helped]), (0, list(range(8))), 'check --help')
     for arguments in (good, ('script', 'good.txt'), good + ('bad.txt',), ('report', 'good.txt'), good + ('--mode', '1'),
+                      ('order', 'good.txt'),
                       ('script', 'good.txt', '--mode', 'inductive'), ('report', 'good.txt', '--mode', 'ported')):
         status, _, err = vm(*arguments)
         same((status, 'libvirginalmimas.a' in err), (2, True), f'{arguments} without an archive: {err}')
@@ -246,6 +265,6 @@ command = loaded()
 os.environ.update(PATH='', VIRGINALMIMAS_ARCHIVE='/nowhere', VM_TRACE='1')
 with tempfile.TemporaryDirectory() as folder:
     os.chdir(folder)
-    for group in (names, divisions, modes, bad_texts, both_ways, files, commands, replies):
+    for group in (names, divisions, modes, orders, bad_texts, both_ways, files, commands, replies):
         group()
 print(f'vm without an archive: {done} tests passed')

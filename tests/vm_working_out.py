@@ -1,11 +1,30 @@
-"""Document 01's "Reading nets" and "Cell rules", with document 02's divisions and modes, written from the paper as a
-second opinion, for tests alone.
+"""Document 01's "Reading nets" and "Cell rules", with document 02's divisions, modes and order, written from the paper
+as a second opinion, for tests alone.
 
 A trit is '0', '1' or 'X'. A design is a result of vm with its cells and replacements; given trits are two tables by
 slot, now and was.
 """
 GIVEN = ('Input', 'IoBuf')
 DIVISIONS = ('UDiv', 'UMod', 'SDivTrunc', 'SModTrunc')
+# Designs worked out by hand: whether there is a current loop, its first slots or those of all nodes in order, and why.
+ORDERS = (
+    ('#3 #0 #0 #0, Not #1 s1, Buf #1 s2, Input #1', False, [1, 0], 'each after what it reads'),
+    ('#5 #0 #0 #0, Buf #1 s4, Buf #1 s3, Input #1, Buf #1 s2, Buf #1 0', False, [3, 1, 4, 0], 'the lowest ready next'),
+    ('#2 #0 #0 #0, Dff #1 #0 0 0 0 1 s1 X X, Not #1 s0', False, [1, 0], 'a base Dff is read past'),
+    ('#1 #0 #0 #0, Dff #1 #0 s0 0 0 1 0 X X', True, [0], 'but its clock as it is now too'),
+    ('#0 #2 #0 #0, Dff #1 #0 0 0 0 1 s1 X X, Not #1 s0', True, [0, 1], 'an added Dff is read as it is now'),
+    ('#2 #0 #0 #0, Match #2 #2 1 s0 s1 #1 X X #0', False, [0], 'a Match does not read what no alternate compares'),
+    ('#2 #0 #0 #0, Match #2 #2 1 s0 s1 #1 X 1 #0', True, [0], 'but what one compares'),
+    ('#2 #0 #0 #0, Assign #0 #0 #0 s0, Buf #1 s0', False, [1], 'a cell without an output is no node'),
+    ('#3 #0 #0 #0, Buf #2 s2 s0, Input #1', True, [0], 'a cell is taken whole'),
+    ('#1 #1 #0 #1, Buf #1 s1, Void, s1 s0', True, [0, 1], 'a replaced Void'),
+    ('#1 #1 #0 #1, Buf #1 s1, Void, s1 s1', False, [0], 'a Void replaced by itself'),
+    ('#2 #0 #1 #0, Input #1, Buf #1 s0, #1 Buf #1 s1', False, [1], 'new cells are no nodes'),
+    ('#3 #0 #0 #0, Buf #1 s1, Buf #1 s2, Buf #1 s1', True, [1, 2], 'the loop starts at the first met again'),
+    ('#4 #0 #0 #0, Aig s3 s1, Buf #1 s2, Buf #1 s1, Buf #1 s3', True, [1, 2], 'always to the lowest slot read'),
+    ('#4 #0 #0 #0, Buf #1 0, Aig s0 s3, Buf #1 s2, Aig s2 s1', True, [1, 3], 'of those that never get ready'),
+    ('#0 #0 #0 #0', False, [], 'no nodes'),
+)
 
 
 def invert(a):
@@ -185,6 +204,29 @@ class Design:
                             alternate[at] != 'X' for alternates in cell.patterns for alternate in alternates):
                         nets.append(net)
         return [net.slot for net in nets if net.slot is not None]
+
+    def _nodes(self):
+        """The asserted cells and replaced Voids by first slot, each with those of them that it reads currently."""
+        slots = {cell.slot: self._waits_for(cell) for cell in self.cells
+                 if cell.width and cell.operation not in GIVEN + ('Void',)}
+        slots.update((slot, [] if net.slot is None or self.past(net) else [net.slot]) for slot, net in self.void.items())
+        return {node: {self.owner[slot].slot for slot in read} & set(slots) for node, read in slots.items()}
+
+    def order(self):
+        """Whether there is a current loop, and the loop that document 02 names, or the nodes in their order."""
+        reads, ordered = self._nodes(), []
+        left = set(reads)
+        while any(not reads[node] & left for node in left):
+            ordered.append(min(node for node in left if not reads[node] & left))
+            left.remove(ordered[-1])
+        if not left:
+            return False, ordered
+        walk = [min(left)]
+        while True:
+            to = min(reads[walk[-1]] & left)
+            if to in walk:
+                return True, walk[walk.index(to):]
+            walk.append(to)
 
     def worked_out(self, now, was):
         """The current trits of all slots from those of the sources, None where there is a current loop."""

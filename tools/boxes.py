@@ -51,8 +51,9 @@ class Wire:
     target: tuple
     row: int
     style: str = ''           # 'past' for a read of the past, 'edit' for an edit's
-    back: bool = False        # it closes a loop of current reads
-    looped: bool = False      # it is part of one
+    back: bool = False        # it closes a loop, and is drawn backwards
+    looped: bool = False      # it is part of a current loop
+    named: bool = False       # it is part of the loop that the verifier names
     points: list = field(default_factory=list)
 
 
@@ -213,8 +214,8 @@ class _Graph:
     def _judged(self, index, title):
         """The box of an edit's obligations, with their state."""
         states = [each.state for each in self.result.obligations if each.replacement == index]
-        proved = self.result.verdict == HOLDS and not self.result.vacuous
-        kind = 'broken' if False in states else 'kept' if True in states or proved else 'edit'
+        kept = True in states or self.result.verdict == HOLDS
+        kind = 'broken' if False in states else 'kept' if kept else 'edit'
         note = {'broken': '✗ broken', 'kept': '✓ holds', 'edit': 'edit'}[kind]
         return self._add(Box(('edit', index), kind, title, note))
 

@@ -6,16 +6,15 @@ from dataclasses import dataclass, replace
 
 import core
 import design
-import drawing
 import hints
 import notation
 import solver
 from faults import FAULTS
-from verdict import (BROKEN, HOLDS, NOTHING_ASKED, REFUSED, SOLVER_WRONG, UNKNOWN, Obligation, Trit)
+from verdict import BROKEN, HOLDS, LOOP, NOTHING_ASKED, REFUSED, SOLVER_WRONG, UNKNOWN, Obligation, Trit
 
 TRITS = '01X'
 # Of what two solvers tell, the first of these counts.
-GRAVITY = (SOLVER_WRONG, BROKEN, HOLDS, UNKNOWN)
+GRAVITY = (SOLVER_WRONG, BROKEN, HOLDS, LOOP, UNKNOWN)
 
 
 @dataclass
@@ -73,14 +72,31 @@ def _position(result, place):
     return line, column + len(re.match(r'[^\s,;]*', shown[column - 1:]).group())
 
 
+def order(verifier, result):
+    """Refuses a list, or does as `ordered`."""
+    number, slots = verifier.read(result.words)
+    if number:
+        refuse(result, number, slots)
+        return None
+    return ordered(verifier, result, slots)
+
+
+def ordered(verifier, result, slots):
+    """Fills in the current loop of an accepted list, and returns its first slots, or those of all nodes in order."""
+    looped, found = verifier.order(result.words, slots)
+    result.loop = found if looped else []
+    return found
+
+
 def verify(verifier, result):
-    """Refuses a list, or fills in its cells, counts, obligations and script, and returns its calls and marks."""
+    """Refuses a list, or fills in its cells, loop, counts, obligations and script, and returns its calls and marks."""
     number, asked, (terms, temporaries, words) = verifier.counts(result.words, result.mode)
     if number:
         refuse(result, number, asked)
         return None
     design.fill(result)
     slots = verifier.read(result.words)[1]
+    ordered(verifier, result, slots)
     calls, recorded = verifier.verify(result.words, words, slots, result.mode)
     result.script = verifier.script(calls, recorded, terms).decode('ascii')
     query = core.query(calls) if asked else []
@@ -138,16 +154,16 @@ class Checker:
 
     def _ask(self, result, calls, recorded):
         """Asks each solver, and takes the gravest of what they tell; what the others tell is added."""
-        told, result.looped = [], drawing.has_loop(result)
+        told = []
         for parts in self.commands():
             one = replace(result, obligations=[replace(obligation) for obligation in result.obligations])
             one.solver = os.path.basename(parts[0])
             self._answer(one, calls, recorded, parts)
             told.append(one)
-        grave = min(told, key=lambda one: (GRAVITY.index(one.verdict), not one.vacuous))
+        grave = min(told, key=lambda one: GRAVITY.index(one.verdict))
         others = [one for one in told if one is not grave]
-        grave.sentences += [f'{one.solver} says {one.headline}.' for one in others]
-        denied = [one.solver for one in others if one.verdict == HOLDS]
+        grave.sentences += [f'{one.solver} says {one.verdict}.' for one in others]
+        denied = [one.solver for one in others if one.verdict in (HOLDS, LOOP)]
         if grave.verdict == BROKEN and denied:
             grave.verdict = SOLVER_WRONG
             grave.sentences.insert(0, f'{" and ".join(denied)} answered unsat, but {grave.solver} has an example that '
@@ -161,8 +177,7 @@ class Checker:
         if answer.reply.late or answer.number:
             self._unknown(result, answer.reply, answer.number, answer.value)
         elif answer.value == 0:
-            self._holds(result, result.solver)
-            self._vacuous(result, calls, recorded, parts)
+            (self._holds if result.looped is False else self._loop)(result, result.solver)
         else:
             self._sat(result, calls, recorded, names, answer)
             if result.verdict == BROKEN and hints.undefined(result):
@@ -198,25 +213,21 @@ class Checker:
             result.sentences.append(f'It wrote: {said}')
 
     def _holds(self, result, name):
-        """The verdict of unsat."""
+        """The verdict of unsat without a current loop."""
         result.verdict = HOLDS
         edits = len({one.replacement for one in result.obligations})
         result.sentences = [f'Every {design.choice(result)} keeps every obligation: {name} answered unsat.',
                             f'Asked: {count(len(result.obligations), "obligation")}, of {count(edits, "edit")}.']
         result.sentences += _unasked(result)
 
-    def _vacuous(self, result, calls, recorded, parts):
-        """Asks the same without the query: where this is unsat too, unsat says nothing of the edits."""
-        script = self.verifier.script(core.unqueried(calls), recorded, result.counts['terms']).decode('ascii')
-        answer = self._question(result.solver, parts, script, recorded, [])
-        if answer.reply.late or answer.number:
-            result.sentences.append(f'Whether anything satisfies the cells at all, {result.solver} did not say.')
-        elif answer.value == 0:
-            result.vacuous = True
-            result.sentences[:1] = [
-                f'{result.solver} answered unsat, and does so without the question too: no assignment fits the cells.',
-                'So every obligation holds by no assignment, and nothing is shown of the edits.',
-                'Then the cells have a current loop, such as an inverter that is fed by itself.']
+    def _loop(self, result, name):
+        """The verdict of unsat with a current loop, which says nothing of the edits."""
+        result.verdict = LOOP
+        result.sentences = [f'The cells have a current loop: {design.loop_text(result)}.',
+                            f'{name} answered unsat, which with a loop is no proof: of some sources the cells may have '
+                            'no assignment.',
+                            'Cut the loop by a flip-flop of the base: where no loop is left, unsat answers the '
+                            'question.']
 
     def _sat(self, result, calls, recorded, names, answer):
         """The verdict of sat: the evaluator must find every assertion true under the solver's bits."""
@@ -253,7 +264,8 @@ class Checker:
         return None if agrees(result.trits, recorded, answer.read) else 'it gave one net two values'
 
     def _without_x(self, result, calls, recorded, names, parts):
-        """Asks the same where no source is X: either there is a plainer example, or only an X breaks the edits."""
+        """Asks the same where no source is X: either there is a plainer example, or, without a loop, only an X breaks
+        the edits."""
         given = hints.sources(result)
         xs = [name for name, _ in names if re.fullmatch('[np][0-9]+x', name)
               and (name[0] == 'p' or int(name[1:-1]) in given)]
@@ -262,7 +274,7 @@ class Checker:
         answer = self._question(result.solver, parts, script, recorded, names)
         if answer.reply.late or answer.number:
             return
-        result.two_valued = answer.value == 0
+        result.two_valued = None if result.looped else answer.value == 0
         if answer.value:
             plainer = replace(result, obligations=[replace(one) for one in result.obligations])
             self._sat(plainer, calls, recorded, names, answer)

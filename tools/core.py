@@ -150,7 +150,7 @@ class Core:
         path = _loaded(say)
         try:
             self.library = ctypes.CDLL(path)
-            for name in 'read verify_mode counts_mode check_with evaluate_with script_with answer'.split():
+            for name in 'read verify_mode counts_mode order check_with evaluate_with script_with answer'.split():
                 getattr(self.library, 'vm_' + name).restype = ctypes.c_uint64
         except (OSError, AttributeError) as error:
             raise Unavailable(f'The shared library {os.path.relpath(path)} cannot be used: {error}.')
@@ -180,6 +180,13 @@ class Core:
         number, place = self._ask('verify_mode', words32(words), calls, recorded, mode=mode)
         expect(number == 0, f'vm_verify_mode answered {number} at {place}')
         return calls, recorded
+
+    def order(self, words, slots):
+        """Whether an accepted list has a current loop, and the first slots of one; else of all nodes in their order."""
+        lent = (ctypes.c_uint32 * slots)()
+        number, value = self._ask('order', words32(words), lent)
+        expect(number == 0, f'vm_order answered {number} at {value}')
+        return bool(value >> 47), lent[:value & 2 ** 47 - 1]
 
     def script(self, calls, recorded, terms):
         """The script of calls that the verifier made."""
@@ -242,12 +249,6 @@ def refined(calls, term):
     if place < 17 or calls[place - 15] != binary or calls[place - 6] != binary:
         return None
     return calls[place - 14] & 2 ** 29 - 1, calls[place - 4] & 2 ** 29 - 1
-
-
-def unqueried(calls):
-    """The calls without the query's assertion, which stands before the last word, check."""
-    kept = list(calls[:len(calls) - 3]) + [calls[len(calls) - 1]]
-    return (ctypes.c_uint32 * len(kept))(*kept)
 
 
 def declared(script):

@@ -21,6 +21,9 @@ LAYOUTS = {
                                          ('clear value', 'n'), ('reset value', 'n'))),
 }
 
+# The reads of a loop that are told; of a longer loop two fewer.
+MOST_READS = 6
+
 
 def net_of(word):
     """The net of a net word or an inverted one."""
@@ -119,6 +122,17 @@ def choice(result):
     if result.looped:
         return 'assignment that fits the cells'
     return 'choice of the sources' + ', alike on joined flip-flops,' * (joined(result) > 0)
+
+
+def loop_text(result):
+    """The current loop of a result in words; of a long one the first reads, and how many more there are."""
+    names = [result.cell_text(slot) for slot in result.loop]
+    if len(names) == 1:
+        return f'{names[0]} reads itself'
+    reads = [f'{one} reads {other}' for one, other in zip(names, names[1:] + names[:1])]
+    if len(reads) > MOST_READS:
+        reads[MOST_READS - 2:] = [f'and {len(reads) - MOST_READS + 2} more reads lead back to {names[0]}']
+    return ', '.join(reads)
 
 
 def obligations(result):

@@ -25,7 +25,7 @@ class Drawing:
     width: float = 0
     height: float = 0
     bands: list = field(default_factory=list)   # the y at which each band begins
-    stubs: list = field(default_factory=list)   # (x, y, style): reads whose source is in another band or not drawn
+    stubs: list = field(default_factory=list)   # (x, y, class): reads whose source is in another band or not drawn
 
 
 # Layers
@@ -69,23 +69,34 @@ def _close(key, stack, on_stack, found):
             return
 
 
-def _mark_loops(boxes, wires):
-    """Marks the wires of loops, and those among them that are drawn backwards."""
+def _in_loops(boxes, wires):
+    """The wires that lie on a loop."""
     reads = {}
     for wire in wires:
         reads.setdefault(wire.target, []).append(wire.source)
     component = _components(list(boxes), reads)
+    return [wire for wire in wires if component[wire.source] == component[wire.target]]
+
+
+def _mark_backwards(result, boxes, wires):
+    """Marks the wires that are drawn backwards, so that the others have no loop; of the loop that is named only what the
+    first reads."""
     order = {key: at for at, key in enumerate(boxes)}
-    for wire in wires:
-        wire.looped = component[wire.source] == component[wire.target]
-        wire.back = wire.looped and order[wire.source] >= order[wire.target]
+    loop = result.loop or []
+    named = [('now', slot) for slot in loop[:1] + loop[:0:-1] if ('now', slot) in boxes]
+    order.update(zip(named, sorted(order[key] for key in named)))
+    for wire in _in_loops(boxes, wires):
+        wire.back = order[wire.source] >= order[wire.target]
 
 
-def has_loop(result):
-    """Whether the cells of a result have a current loop."""
-    boxes, wires = boxes_of(result)
-    _mark_loops(boxes, wires)
-    return any(wire.looped for wire in wires)
+def _mark_loops(result, boxes, wires):
+    """Marks the wires of current loops, in which cells without an output do not count, and those of the loop that is
+    named."""
+    skipped = {('now', cell.slot) for cell in result.cells if not cell.width and cell.operation != 'Void'}
+    loop = result.loop or []
+    reads = {(('now', source), ('now', target)) for target, source in zip(loop, loop[1:] + loop[:1])}
+    for wire in _in_loops(boxes, [wire for wire in wires if wire.target not in skipped]):
+        wire.looped, wire.named = True, (wire.source, wire.target) in reads
 
 
 def _layer(boxes, wires):
@@ -248,16 +259,17 @@ def _back(wires, boxes, bottom, widths):
 
 
 def draw(result, part=False):
-    """The drawing of a result, or of the boxes nearest to its first broken edit; None where there are no boxes to draw,
-    or more than MOST_BOXES."""
+    """The drawing of a result, or of the boxes nearest to its first broken edit, else to its loop; None where there are
+    no boxes to draw, or more than MOST_BOXES."""
     boxes, wires = boxes_of(result)
+    _mark_loops(result, boxes, wires)
     if part:
-        boxes = _nearest(boxes, wires)
+        boxes = _nearest(result, boxes, wires)
     if not 0 < len(boxes) <= MOST_BOXES:
         return None
     drawing = Drawing(list(boxes.values()), [wire for wire in wires if wire.target in boxes])
     inner = [wire for wire in drawing.wires if wire.source in boxes]
-    _mark_loops(boxes, inner)
+    _mark_backwards(result, boxes, inner)
     _layer(boxes, inner)
     for box in drawing.boxes:
         _size(box)
@@ -265,12 +277,14 @@ def draw(result, part=False):
     return drawing
 
 
-def _nearest(boxes, wires):
-    """The first broken edit's box and the PART boxes that it reads first, in the order of all boxes."""
+def _nearest(result, boxes, wires):
+    """The first broken edit's box, else those of the loop that is named, and what they read first: PART boxes at most,
+    in the order of all boxes."""
     sources = {}
     for wire in wires:
         sources.setdefault(wire.target, []).append(wire.source)
     near = [box.key for box in boxes.values() if box.kind == 'broken'][:1]
+    near = near or [('now', slot) for slot in result.loop or ()][:PART]
     for key in near:
         found = [source for source in dict.fromkeys(sources.get(key, ())) if source not in near]
         near += found[:max(0, PART - len(near))]
@@ -294,12 +308,12 @@ def _fill(drawing, boxes, inner, widths):
 def _stubs(drawing, boxes):
     """The short arrows that stand for wires from another band, or from a box that is not drawn."""
     seen = set()
-    for wire in drawing.wires:
+    for wire in sorted(drawing.wires, key=lambda wire: not wire.named):
         target = boxes[wire.target]
         cut = wire.source not in boxes or boxes[wire.source].band != target.band
         if cut and (wire.target, wire.row, wire.style) not in seen:
             seen.add((wire.target, wire.row, wire.style))
-            drawing.stubs.append((target.x, target.row_y(wire.row), wire.style))
+            drawing.stubs.append((target.x, target.row_y(wire.row), _class(wire)))
 
 
 # SVG
@@ -330,15 +344,19 @@ def _curve(wire):
     return ' '.join(parts)
 
 
+def _class(wire):
+    """The class of a wire: its style, and whether it is of the loop that is named or of another one."""
+    return ' '.join(filter(None, ('wire', wire.style, 'named' if wire.named else 'loop' if wire.looped else '')))
+
+
 def _wire_svg(wire):
-    css = ' '.join(['wire'] + [name for name in (wire.style, 'loop' if wire.looped else '') if name])
+    css = _class(wire)
     x, y = (_number(value) for value in wire.points[-1])
     return f'<path class="{css}" d="{_curve(wire)}"/><circle class="end {css}" cx="{x}" cy="{y}" r="2.5"/>'
 
 
 def _stub_svg(stub):
-    x, y, style = stub
-    css = f'wire {style}'.strip()
+    x, y, css = stub
     return (f'<path class="{css}" d="M{_number(x - 12)},{_number(y)} L{_number(x)},{_number(y)}"/>'
             f'<circle class="end {css}" cx="{_number(x)}" cy="{_number(y)}" r="2.5"/>')
 
@@ -390,7 +408,7 @@ def svg(drawing, label='The cells and nets of the design'):
     for top in drawing.bands[1:]:
         y = _number(top - BAND_GAP / 2)
         parts.append(f'<path class="band" d="M{MARGIN},{y} L{_number(drawing.width - MARGIN)},{y}"/>')
-    parts += [_wire_svg(wire) for wire in drawing.wires if wire.points]
+    parts += [_wire_svg(wire) for wire in sorted(drawing.wires, key=lambda wire: wire.named) if wire.points]
     parts += [_stub_svg(stub) for stub in drawing.stubs]
     parts += [_box_svg(box) for box in drawing.boxes]
     return '\n'.join(parts + ['</svg>'])

@@ -3,7 +3,7 @@ import glob
 import os
 
 import design
-from verdict import BROKEN, HOLDS, INDUCTIVE
+from verdict import BROKEN, HOLDS, INDUCTIVE, LOOP
 
 GIVEN = ('Input', 'IoBuf')
 
@@ -71,11 +71,11 @@ def of(result, root):
     found += [(_ages(result, index) + '.', 'e') for index in twins if index in later][:1]
     if later and result.verdict == HOLDS and result.mode == INDUCTIVE:
         found.append((_ages(result, later[0]) + '; mode 1 does not ask whether that is the same.', 'e'))
-    if result.vacuous:
-        found.append(('A loop leaves nothing to prove.', '04'))
-    elif result.looped and result.verdict in (HOLDS, BROKEN):
-        found.append(('The cells have a current loop: of some sources they may have no assignment, or more than one.',
-                      'd'))
+    if result.verdict == LOOP:
+        found.append(('With a loop a wrong edit may get unsat too.', '04'))
+    elif result.looped:
+        found.append((f'The cells have a current loop: {design.loop_text(result)}. Of some sources they may have no '
+                      'assignment, or more than one.', '04'))
     return [(sentence, _page(root, prefix)) for sentence, prefix in found]
 
 

@@ -6,16 +6,15 @@ import boxes
 import design
 import drawing
 import notation
-from verdict import BROKEN, HOLDS, NOTHING_ASKED, REFUSED, SOLVER_WRONG, UNKNOWN
+from verdict import BROKEN, HOLDS, LOOP, NOTHING_ASKED, REFUSED, SOLVER_WRONG, UNKNOWN
 
-BY_NO_ASSIGNMENT = 'HOLDS BY NO ASSIGNMENT'
 # Each verdict has a class and a shape of its own: colour is never the only sign.
-CLASSES = {HOLDS: 'holds', BY_NO_ASSIGNMENT: 'empty', BROKEN: 'broken', NOTHING_ASKED: 'nothing', REFUSED: 'refused',
+CLASSES = {HOLDS: 'holds', LOOP: 'looped', BROKEN: 'broken', NOTHING_ASKED: 'nothing', REFUSED: 'refused',
            UNKNOWN: 'unknown', SOLVER_WRONG: 'wrong'}
 SHAPES = {
     HOLDS: '<circle cx="32" cy="32" r="27"/><path d="M18 33 L28 43 L46 22"/>',
-    BY_NO_ASSIGNMENT: '<circle cx="32" cy="32" r="27" stroke-dasharray="7 7.1"/>'
-                      '<path d="M42 22 A14 14 0 1 0 46 34 M46 14 V24 H36"/>',
+    LOOP: '<circle cx="32" cy="32" r="27" stroke-dasharray="7 7.1"/>'
+          '<path d="M42 22 A14 14 0 1 0 46 34 M46 14 V24 H36"/>',
     BROKEN: '<path d="M21 5 H43 L59 21 V43 L43 59 H21 L5 43 V21 Z"/><path d="M21 21 L43 43 M43 21 L21 43"/>',
     NOTHING_ASKED: '<rect x="6" y="12" width="52" height="40" rx="3" stroke-dasharray="7 8"/>',
     REFUSED: '<rect x="6" y="6" width="52" height="52" rx="4"/><path d="M17 32 H47"/>',
@@ -47,7 +46,7 @@ def _breakable(obligations):
 
 
 def _verdict(result):
-    word = result.headline
+    word = result.verdict
     sentences = [each for each in result.sentences if not each.startswith('Asked:')]
     broken = [each for each in result.obligations if each.state is False and each.shown]
     if result.verdict == BROKEN and broken:
@@ -126,7 +125,7 @@ def _sample(kind):
 
 
 def _drawing(result):
-    """The drawing of the whole design; of a large one the part at a broken edit first, and the whole in a fold-out."""
+    """The drawing of a design; of a large one the part at a broken edit or a loop, and the whole in a fold-out."""
     if not result.cells and not result.replacements:
         return ''
     whole = drawing.draw(result)
@@ -136,7 +135,9 @@ def _drawing(result):
     part = drawing.draw(result, part=True)
     parts = ['<h2>Drawing</h2>']
     if part:
-        sentence = f'The design has {many}. These are the {len(part.boxes)} boxes nearest to the first broken edit.'
+        broken = any(box.kind == 'broken' for box in part.boxes)
+        sentence = f'The design has {many}. These are the {len(part.boxes)} boxes nearest to '
+        sentence += 'the first broken edit.' if broken else 'its current loop.'
         parts.append(f'<p>{sentence}</p>{_drawn(result, part)}')
     if whole and part:
         parts.append(f'<details><summary>The whole design: {len(whole.boxes)} boxes</summary>{_drawn(result, whole)}'
@@ -154,12 +155,14 @@ def _drawn(result, found):
                  'first.']
     if any(wire.style == 'past' for wire in found.wires):
         sentences.append('A dotted line reads the past.')
-    if any(wire.looped for wire in found.wires):
-        sentences.append('Thick lines are a current loop.')
+    if any(wire.named for wire in found.wires):
+        sentences.append(f'Thick lines are a current loop: {design.loop_text(result)}.')
+    if any(wire.looped and not wire.named for wire in found.wires):
+        sentences.append('Dashed red lines lie on other loops.')
     if found.stubs:
         sentences.append('A short line into a box comes from a net that is drawn elsewhere or not at all, and that the '
                          'box names.')
-    return (f'<p>{" ".join(sentences)}</p>{_legend(result, found.boxes)}'
+    return (f'<p>{escape(" ".join(sentences))}</p>{_legend(result, found.boxes)}'
             f'<div class="scroll" tabindex="0">{drawing.svg(found)}</div>')
 
 
@@ -187,9 +190,9 @@ def _table(title, heads, rows):
 def _obligations(result):
     if not result.obligations:
         return ''
-    unjudged = {HOLDS: '✓ no case breaks it', BY_NO_ASSIGNMENT: 'holds by no assignment: nothing is shown'}
+    unjudged = {HOLDS: '✓ no case breaks it', LOOP: 'with a loop, nothing is shown'}
     states = {True: ('kept', '✓ holds in the example'), False: ('broken', '✗ broken in the example'),
-              None: ('', unjudged.get(result.headline, 'not judged'))}
+              None: ('', unjudged.get(result.verdict, 'not judged'))}
     example = any(each.shown for each in result.obligations)
     rows = []
     for number, each in enumerate(result.obligations):
@@ -249,7 +252,7 @@ def _footer(result):
 def page(result):
     """The page of a result."""
     name = 'standard input' if result.source == '-' else os.path.basename(result.source)
-    headline = ' '.join(filter(None, (result.headline, result.in_mode)))
+    headline = ' '.join(filter(None, (result.verdict, result.in_mode)))
     body = '\n'.join(part for part in (
         f'<p class="file">{escape(name)}</p>', _verdict(result), _hints(result), _drawing(result), _obligations(result),
         _cells(result), _design(result), _script(result), _footer(result)) if part)

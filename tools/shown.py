@@ -6,10 +6,10 @@ import design
 import faults
 import notation
 import source
-from verdict import BROKEN, HOLDS, NOT_CHECKED, NOTHING_ASKED, REFUSED, SOLVER_WRONG, UNKNOWN
+from verdict import BROKEN, HOLDS, LOOP, NOT_CHECKED, NOTHING_ASKED, REFUSED, SOLVER_WRONG, UNKNOWN
 
 COLOURS = {HOLDS: '1;32', BROKEN: '1;31', REFUSED: '1;35', NOTHING_ASKED: '1;33', UNKNOWN: '1;36',
-           SOLVER_WRONG: '1;37;41', NOT_CHECKED: '1;34', HOLDS + ' BY NO ASSIGNMENT': '1;30;43'}
+           SOLVER_WRONG: '1;37;41', NOT_CHECKED: '1;34', LOOP: '1;30;43'}
 
 
 # Rows of a table of cells; of obligations half as many.
@@ -21,8 +21,8 @@ def coloured(stream):
     return stream.isatty() and not os.environ.get('NO_COLOR') and os.environ.get('TERM') != 'dumb'
 
 
-def paint(headline, colours):
-    return f'\x1b[{COLOURS[headline]}m{headline}\x1b[0m' if colours else headline
+def paint(verdict, colours):
+    return f'\x1b[{COLOURS[verdict]}m{verdict}\x1b[0m' if colours else verdict
 
 
 def table(rows, indent='  '):
@@ -93,7 +93,7 @@ def hidden(trits, ages):
 
 def obligations(result, all_of_it=False):
     """The obligations with their states, the false ones first; of many, some."""
-    states = {True: 'true', False: 'FALSE', None: 'holds' if result.headline == HOLDS else 'asked'}
+    states = {True: 'true', False: 'FALSE', None: 'holds' if result.verdict == HOLDS else 'asked'}
     found = sorted(result.obligations, key=lambda one: one.state is not False)
     kept = found if all_of_it else found[:MOST_ROWS // 2]
     rows = [[states[one.state], one.edit + (f': {one.shown}' if one.shown and one.state is False else '')]
@@ -127,7 +127,7 @@ def _in_words(words, place):
 
 def whole(result, colours, all_of_it=False):
     """A result in full; of long lists a part, unless all of it is asked for."""
-    lines = [f'{paint(result.headline, colours)}  {result.title}', '']
+    lines = [f'{paint(result.verdict, colours)}  {result.title}', '']
     lines += ['  ' + sentence for sentence in result.sentences]
     if result.verdict == REFUSED:
         lines += [''] + fault(result)
@@ -157,18 +157,18 @@ def short(result):
 
 def many(results, colours):
     """A table of results, and how many designs there are of each verdict."""
-    rows = table([[result.headline, result.title, short(result)] for result in results], '')
-    lines = [paint(result.headline, colours) + line[len(result.headline):] for result, line in zip(results, rows)]
-    found = [result.headline for result in results]
-    parts = [f'{found.count(headline)} {paint(headline, colours)}' for headline in COLOURS if headline in found]
+    rows = table([[result.verdict, result.title, short(result)] for result in results], '')
+    lines = [paint(result.verdict, colours) + line[len(result.verdict):] for result, line in zip(results, rows)]
+    found = [result.verdict for result in results]
+    parts = [f'{found.count(verdict)} {paint(verdict, colours)}' for verdict in COLOURS if verdict in found]
     mode = next((f', {result.in_mode}' for result in results if result.in_mode), '')
     return '\n'.join(lines) + f'\n\n{len(results)} designs{mode}: ' + ', '.join(parts)
 
 
 def as_json(result):
     """A result for scripts."""
-    keep = ('source', 'verdict', 'status', 'looped', 'vacuous', 'two_valued', 'sentences', 'hints', 'fault', 'place', 'line',
-            'column', 'counts', 'solver', 'seconds', 'mode')
+    keep = ('source', 'verdict', 'status', 'loop', 'looped', 'two_valued', 'sentences', 'hints', 'fault', 'place',
+            'line', 'column', 'counts', 'solver', 'seconds', 'mode')
     found = {key: getattr(result, key) for key in keep}
     found['obligations'] = [dataclasses.asdict(one) for one in result.obligations]
     found['trits'] = {result.slot_text(slot): dataclasses.asdict(trit) for slot, trit in sorted(result.trits.items())}

@@ -1,12 +1,11 @@
 """What `vm` finds out about a design: a Result, which the terminal's text, `--json` and the report are made from."""
 from dataclasses import dataclass, field
 
-REFUSED, NOTHING_ASKED, HOLDS, BROKEN, UNKNOWN, SOLVER_WRONG = (
-    'REFUSED', 'NOTHING ASKED', 'HOLDS', 'BROKEN', 'UNKNOWN', 'SOLVER WRONG')
+REFUSED, NOTHING_ASKED, HOLDS, LOOP, BROKEN, UNKNOWN, SOLVER_WRONG = (
+    'REFUSED', 'NOTHING ASKED', 'HOLDS', 'LOOP', 'BROKEN', 'UNKNOWN', 'SOLVER WRONG')
 # No verdict: the design could not be read, or the verifier or a solver could not be asked.
 NOT_CHECKED = 'NOT CHECKED'
-STATUS = {HOLDS: 0, REFUSED: 1, NOT_CHECKED: 2, NOTHING_ASKED: 3, BROKEN: 4, UNKNOWN: 5, SOLVER_WRONG: 6}
-BY_NO_ASSIGNMENT = 7   # the exit status of a HOLDS that is vacuous
+STATUS = {HOLDS: 0, REFUSED: 1, NOT_CHECKED: 2, NOTHING_ASKED: 3, BROKEN: 4, UNKNOWN: 5, SOLVER_WRONG: 6, LOOP: 7}
 # From the best to the worst.
 STATUS_ORDER = [0, 3, 7, 5, 2, 1, 4, 6]
 # The modes by their numbers: how a flip-flop's net that is replaced by a flip-flop's is judged.
@@ -92,10 +91,9 @@ class Result:
     replacements: list = field(default_factory=list)
     owners: dict = field(default_factory=dict)    # slot -> Cell; design.owners fills it
     verdict: str = None
-    looped: bool = None                           # whether the cells have a current loop; None where nothing is asked
-    vacuous: bool = False                         # of HOLDS: nothing at all satisfies the cells, so nothing is shown
+    loop: list = None                             # the first slots of a current loop, [] if none; None if refused
     sentences: list = field(default_factory=list)  # what the verdict says, whole sentences
-    two_valued: bool = None                       # of BROKEN by an X: whether the edits hold where no source is X
+    two_valued: bool = None                       # of BROKEN by an X, no loop: whether the edits hold with no source X
     hints: list = field(default_factory=list)     # (sentence, the course's page on it or None)
     fault: int = None                             # of REFUSED: the fault's number
     place: int = None                             # and its place in the list
@@ -112,12 +110,12 @@ class Result:
     @property
     def status(self):
         """The exit status of the verdict."""
-        return BY_NO_ASSIGNMENT if self.vacuous else STATUS[self.verdict]
+        return STATUS[self.verdict]
 
     @property
-    def headline(self):
-        """The verdict as it is shown large."""
-        return f'{self.verdict} BY NO ASSIGNMENT' if self.vacuous else self.verdict
+    def looped(self):
+        """Whether the cells have a current loop; None where that is not known."""
+        return None if self.loop is None else bool(self.loop)
 
     @property
     def in_mode(self):
@@ -132,3 +130,7 @@ class Result:
 
     def slot_text(self, slot):
         return self.names.get(slot) or f's{slot}'
+
+    def cell_text(self, slot):
+        """The name of the cell whose first slot it is, or that slot."""
+        return self.slot_text(slot).partition('[')[0]

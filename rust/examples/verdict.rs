@@ -40,6 +40,12 @@ fn main() -> ExitCode {
     };
     let (mut calls, mut recorded) = (vec![0; words], vec![0; slots]);
     verify(&list, &mut calls, &mut recorded);
+    let mut nodes = vec![0; slots];
+    let looped = match order(&list, &mut nodes) {
+        Order::Refused { number, place } => panic!("an accepted list was refused: {number} at {place}"),
+        Order::Ordered { .. } => &[],
+        Order::Looped { length } => &nodes[..length],
+    };
 
     let mut tables = Tables::for_words(words);
     let Script::Refused { place: bytes, .. } = script_with(&calls, &recorded, &mut [], &mut tables) else { unreachable!() };
@@ -49,7 +55,13 @@ fn main() -> ExitCode {
 
     let mut trits = vec![3; slots];
     match answer(&reply, &recorded, &mut trits) {
-        Answer::Unsat => println!("holds: the edits keep the behaviour"),
+        Answer::Unsat if looped.is_empty() => println!("holds: the edits keep the behaviour"),
+        Answer::Unsat => {
+            print!("loop");
+            looped.iter().for_each(|slot| print!(" s{slot}"));
+            println!(": with a current loop unsat proves nothing");
+            return ExitCode::from(7);
+        }
         Answer::Sat => {
             println!("broken, for example here:");
             trits.iter().enumerate().for_each(|(slot, trit)| println!("  s{slot} {}", ["0", "1", "X", "-"][*trit as usize]));

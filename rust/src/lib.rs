@@ -2,7 +2,7 @@
 //!
 //! Words, fault numbers and places are those of `include/virginalmimas.h`. Any words may be handed in: a bad list is
 //! refused with the number and place of its first fault, and a refusal leaves every lent slice as it was. There is no
-//! heap; tables are on the stack, so a thread that calls an entry needs 192 KB of it.
+//! heap; tables are on the stack, so a thread that calls an entry needs 192 KB of it, and 256 KB for `order`.
 
 /// The entries, as `include/virginalmimas.h` declares them.
 mod entries {
@@ -12,6 +12,7 @@ mod entries {
             mode: u32, list: *const u32, len: usize, calls: *mut u32, c: usize, recorded: *mut u8, r: usize,
         ) -> u64;
         pub fn vm_counts_mode(mode: u32, list: *const u32, len: usize, counts: *mut u64, c: usize) -> u64;
+        pub fn vm_order(list: *const u32, n: usize, slots: *mut u32, s: usize) -> u64;
         pub fn vm_evaluate(calls: *const u32, n: usize, bits: *const u64, m: usize, values: *mut u64, v: usize) -> u64;
         pub fn vm_script(calls: *const u32, n: usize, recorded: *const u8, r: usize, text: *mut u8, t: usize) -> u64;
         pub fn vm_check(calls: *const u32, n: usize, sizes: *mut u64, s: usize) -> u64;
@@ -68,17 +69,18 @@ pub fn verify_in(mode: Mode, list: &[u32], calls: &mut [u32], recorded: &mut [u8
     // Safety: each pointer goes with the length of its slice, and the archive keeps within them.
     match unpacked(unsafe { entries::vm_verify_mode(mode, list.as_ptr(), list.len(), calls, room, recorded, slots) }) {
         Err((number, place)) => Verified::Refused { number, place },
-        Ok(value) if is_asked(value) => Verified::Asked { words: words_of(value) },
-        Ok(value) => Verified::NothingAsked { words: words_of(value) },
+        Ok(value) if is_flagged(value) => Verified::Asked { words: many_of(value) },
+        Ok(value) => Verified::NothingAsked { words: many_of(value) },
     }
 }
 
-/// Bit 47: something is asked.
-fn is_asked(value: u64) -> bool {
+/// Bit 47: something is asked, or there is a loop.
+fn is_flagged(value: u64) -> bool {
     value >> 47 == 1
 }
 
-fn words_of(value: u64) -> usize {
+/// The bits below: how many words or slots are written.
+fn many_of(value: u64) -> usize {
     (value & ((1 << 47) - 1)) as usize
 }
 
@@ -113,7 +115,7 @@ pub fn counts_in(mode: Mode, list: &[u32]) -> Counted {
     let counts = Counts { terms, temporaries, words };
     match unpacked(packed) {
         Err((number, place)) => Counted::Refused { number, place },
-        Ok(value) if is_asked(value) => Counted::Asked(counts),
+        Ok(value) if is_flagged(value) => Counted::Asked(counts),
         Ok(_) => Counted::NothingAsked(counts),
     }
 }
@@ -131,6 +133,30 @@ pub fn read(list: &[u32]) -> Read {
     match unpacked(unsafe { entries::vm_read(list.as_ptr(), list.len()) }) {
         Err((number, place)) => Read::Refused { number, place },
         Ok(slots) => Read::Accepted { slots: slots as usize },
+    }
+}
+
+/// What `order` does with a design list: how many slots are written, an order's or a loop's.
+#[derive(Debug, Clone, Copy, PartialEq, Eq)]
+pub enum Order {
+    Refused { number: u16, place: usize },
+    /// There is no current loop. Each slot comes after all that its cell or Void reads currently, the lowest ready one
+    /// always next.
+    Ordered { length: usize },
+    /// Each slot's cell or Void reads the next one currently, and the last reads the first.
+    Looped { length: usize },
+}
+
+/// Orders the asserted cells but Input and IoBuf, and the replaced Voids, or names a current loop of them: their first
+/// slots go into `slots`, none twice. A slice shorter than the list's slots, which `read` tells, is fault 14. The mode
+/// does not matter.
+pub fn order(list: &[u32], slots: &mut [u32]) -> Order {
+    let (slots, room) = (slots.as_mut_ptr(), slots.len());
+    // Safety: as in `verify_in`.
+    match unpacked(unsafe { entries::vm_order(list.as_ptr(), list.len(), slots, room) }) {
+        Err((number, place)) => Order::Refused { number, place },
+        Ok(value) if is_flagged(value) => Order::Looped { length: many_of(value) },
+        Ok(value) => Order::Ordered { length: many_of(value) },
     }
 }
 
@@ -243,9 +269,10 @@ fn written(packed: u64) -> Script {
 #[derive(Debug, Clone, Copy, PartialEq, Eq)]
 pub enum Answer {
     Refused { number: u16, place: usize },
-    /// Of a design without a current loop: every choice of the sources keeps every obligation (docs/UNSAT.md).
+    /// Of a design without a current loop: every choice of the sources keeps every obligation (docs/UNSAT.md). With a
+    /// loop nothing is proved; `order` tells whether there is one.
     Unsat,
-    /// Of such a design: some choice of the sources breaks an obligation.
+    /// Of a design without one: some choice of the sources breaks an obligation.
     Sat,
 }
 

@@ -1,5 +1,5 @@
 //! Document 01's example through every function: an Input, its Not, and the Not's net replaced by the Input's. Twin
-//! flip-flops through those that take a mode.
+//! flip-flops through those that take a mode. Loops through `order`.
 
 use virginalmimas::*;
 
@@ -169,4 +169,65 @@ fn a_mode_says_nothing_of_other_edits() {
         assert_eq!(counts_in(mode, &LIST), counts(&LIST));
         assert_eq!(counts_in(mode, &LIST[..10]), Counted::Refused { number: 1, place: 10 });
     }
+}
+
+/// #6 #0 #0 #0, Input #1, Buf #1 s2, Not #1 s0, Aig s5 s1, Buf #1 s4, Buf #1 s3: s2 and s1 get ready. s3 and s5 are a
+/// loop, and s4 is one.
+#[rustfmt::skip]
+const LOOPS: [u32; 21] = [
+    0x6000_0006, 0x6000_0000, 0x6000_0000, 0x6000_0000, // header
+    0x4000_0035, 0x6000_0001, // Input #1
+    0x4000_0041, 0x6000_0001, 4, // Buf #1 s2
+    0x4000_0042, 0x6000_0001, 2, // Not #1 s0
+    0x4000_0048, 7, 3, // Aig s5 s1
+    0x4000_0041, 0x6000_0001, 6, // Buf #1 s4
+    0x4000_0041, 0x6000_0001, 5, // Buf #1 s3
+];
+
+/// `order` in a slice of so many words, and the slice afterwards.
+fn ordered(list: &[u32], room: usize) -> (Order, Vec<u32>) {
+    let mut slots = vec![UNTOUCHED; room];
+    (order(list, &mut slots), slots)
+}
+
+#[test]
+fn orders() {
+    assert_eq!(ordered(&LIST, 3), (Order::Ordered { length: 1 }, vec![1, UNTOUCHED, UNTOUCHED]));
+    // The Inputs are left out.
+    assert_eq!(ordered(&TWINS, 4), (Order::Ordered { length: 2 }, vec![2, 3, UNTOUCHED, UNTOUCHED]));
+    // Both loops cut, by a read of 0.
+    let mut list = LOOPS;
+    (list[13], list[17]) = (0, 0);
+    assert_eq!(ordered(&list, 6), (Order::Ordered { length: 5 }, vec![2, 1, 3, 4, 5, UNTOUCHED]));
+    assert_eq!(order(&[0x6000_0000; 4], &mut []), Order::Ordered { length: 0 });
+}
+
+#[test]
+fn names_a_loop() {
+    let rest = vec![UNTOUCHED; 4];
+    assert_eq!(ordered(&LOOPS, 6), (Order::Looped { length: 2 }, [vec![3, 5], rest].concat()));
+    // The first one cut: s3 and s5 get ready.
+    let mut list = LOOPS;
+    list[13] = 0;
+    assert_eq!(ordered(&list, 6), (Order::Looped { length: 1 }, [vec![4], vec![UNTOUCHED; 5]].concat()));
+    // s3 reads s4: it is the lowest that never gets ready, and on no loop.
+    list[13] = 6;
+    assert_eq!(ordered(&list, 6), (Order::Looped { length: 1 }, [vec![4], vec![UNTOUCHED; 5]].concat()));
+}
+
+#[test]
+fn an_order_refused_leaves_the_slice() {
+    let refused = |number, place, room| (Order::Refused { number, place }, vec![UNTOUCHED; room]);
+    assert_eq!(ordered(&LIST, 1), refused(14, 2, 1));
+    assert_eq!(ordered(&LOOPS, 5), refused(14, 6, 5));
+    assert_eq!(ordered(&LOOPS[..20], 0), refused(1, 20, 0));
+    assert_eq!(ordered(&LOOPS[..20], 6), refused(1, 20, 6));
+    assert_eq!(ordered(&[], 0), refused(1, 0, 0));
+}
+
+#[test]
+fn the_stack_of_an_order() {
+    let run = || (ordered(&LIST, 2).0, ordered(&LOOPS, 6).0);
+    let thread = std::thread::Builder::new().stack_size(256 * 1024).spawn(run).unwrap();
+    assert_eq!(thread.join().unwrap(), (Order::Ordered { length: 1 }, Order::Looped { length: 2 }));
 }

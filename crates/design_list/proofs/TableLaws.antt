@@ -1,12 +1,11 @@
 -- Laws of the definitions of Table.
-use Prim.Native.Nat.{ℕ, zero, suc, _+_, _<_, _≤_}
+use Prim.Native.Nat.{ℕ, zero, _+_, _<_, _≤_}
 use mathlib.Core.Path.{_≡_, refl, sym, ap, _∙_}
 use mathlib.Core.Bool.{Bool, true, false}
-use mathlib.Core.List.{List, [], _∷_}
+use mathlib.Core.List.{List}
 use native.Mathlib.Omega.{arith}
-use native.Mathlib.Numerals.{add-one}
-use lib.ListN.{length, getD, set, take, drop, length-take, length-map}
-use lib.Seq.{sets, sets-eq, drop-cons, getD-take, take-at}
+use lib.ListN.{length, take, drop, length-map}
+use lib.Seq.{sets, sets-eq, take-at}
 use lib.Dec.{ltb}
 use native.Mathlib.Nat.{zero-add}
 use borrow.Author.Tests.{lt-ltb, le-ltb}
@@ -65,24 +64,6 @@ stored-cells mode w h t t′ same =
         cellRepsFrom w (h .base + h .added) (replaces (atSlot (cellsRead w h .items)) (h .base)) (h .cellreps) 0
         replacements .scan
 
--- Copying n words, at a turn and at the end.
-pub copy-turn :
-    (out t : List ℕ) (i n : ℕ) → i < n → n ≤ length t →
-    sets out i (drop i (take n t)) ≡ sets (set out i (getD t i 0)) (i + 1) (drop (i + 1) (take n t))
-copy-turn out t i n inside room =
-    let size : length (take n t) ≡ n = length-take n t ∙ (omega arith) in
-    let here : i < length (take n t) = omega arith in
-    rw (drop-cons (take n t) i 0 here, getD-take n t i 0 inside, add-one i)
-
-pub copy-done : (out t : List ℕ) (i n : ℕ) → n ≤ i → sets out i (drop i (take n t)) ≡ out
-copy-done out t i n past = rw (drop-past (take n t) i (rw length-take (omega arith)))
-  where
-    drop-past : (l : List ℕ) (j : ℕ) → length l ≤ j → drop j l ≡ []
-    drop-past [] zero low = refl
-    drop-past [] (suc j) low = refl
-    drop-past (x ∷ l) zero low = absurd (omega arith)
-    drop-past (x ∷ l) (suc j) low = drop-past l j (omega arith)
-
 -- An accepted answer is that of an accepted list.
 record Accepting (r : Read) (x : Extent) : Type 0 where
   d : Design
@@ -124,7 +105,7 @@ module _ (mode : Mode) (w : List ℕ) where
   words-stored :
       (d : Design) (replacements pairs n : ℕ) (t t′ out : List ℕ) →
       read mode w ≡ accepted d replacements pairs → n ≡ total d → Stored (read mode w) t t′ →
-      4096 ≤ length t → n ≤ length out → sets out 0 (drop 0 (take n t′)) ≡ tableAfter (read mode w) out
+      4096 ≤ length t → n ≤ length out → sets out 0 (take n t′) ≡ tableAfter (read mode w) out
   unfolding Stored
   words-stored d replacements pairs n t t′ out accepts same stored room enough =
       let known = accepted-read mode w accepts in
@@ -152,7 +133,7 @@ module _ (mode : Mode) (w : List ℕ) where
 
     pub table-filled :
         (t t′ out : List ℕ) → Stored (read mode w) t t′ → 4096 ≤ length t → x .base + x .added ≤ length out →
-        sets out 0 (drop 0 (take (x .base + x .added) t′)) ≡ tableAfter (read mode w) out
+        sets out 0 (take (x .base + x .added) t′) ≡ tableAfter (read mode w) out
     table-filled t t′ out stored room enough =
         let is = accepting (read mode w) same in
         words-stored (is .d) (is .replacements) (is .pairs) (x .base + x .added) t t′ out (is .accepts) (is .same-total)

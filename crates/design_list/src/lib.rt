@@ -6,7 +6,7 @@ use logic::Fault;
 use placing::Cells;
 ghost use mathlib.Core.Path.{_≡_};
 ghost use Prim.Native.Nat.{_+_, _-_, _<_, _≤_};
-ghost use lib.ListN.{length, take, drop};
+ghost use lib.ListN.{length};
 ghost use lib.Seq.{sets};
 ghost use Rattle.cell.specs.declared.Mode.{Mode};
 ghost use Rattle.placing.specs.Slots.{slotWords};
@@ -151,18 +151,6 @@ pub fn read_design(list: &[u32]) -> DesignRead
     read_into(list, &mut table)
 }
 
-// The first n words of the table, copied to the slice.
-fn copy(out: &mut [u32], table: &[u32], n: usize)
-    requires { ⌜ n ≤ length (now table) ⌝ }
-    ensures { λ _. ⌜ now (out .exit) ≡ sets (now (out .entry)) 0 (drop 0 (take n (now (table .entry)))) ⌝ }
-{
-    let mut i: usize = 0;
-    while i < n {
-        logic::put(out, i, logic::word_at(table, i));
-        i += 1;
-    }
-}
-
 // Fills the slice by way of the table.
 fn slot_table_by(list: &[u32], out: &mut [u32], table: &mut [u32]) -> SlotTable
     requires { ⌜ 4096 ≤ length (now table) ⌝ }
@@ -178,7 +166,7 @@ fn slot_table_by(list: &[u32], out: &mut [u32], table: &mut [u32]) -> SlotTable
                     place: extent.base + extent.added,
                 });
             }
-            copy(out, table, extent.base + extent.added);
+            stores::copy(out, table, extent.base + extent.added);
             SlotTable::Filled(extent)
         }
     }

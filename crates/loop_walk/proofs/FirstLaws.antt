@@ -2,14 +2,15 @@
 use mathlib.Core.Path.{_≡_, refl, sym, _∙_}
 use mathlib.Core.Bool.{Bool, true, false, not, cond}
 use mathlib.Core.Option.{Option, none, some}
-use Prim.Native.Nat.{ℕ, zero, suc, _≤_, _<_}
+use Prim.Native.Nat.{ℕ, _≤_, _<_}
 use native.Mathlib.Omega.{arith}
-use native.Mathlib.Decide.{ℕ-discrete, decLt}
+use native.Mathlib.Decide.{decLt}
 use lib.Dec.{ltb}
 use borrow.Author.Tests.{lt-ltb, le-ltb}
 use Rattle.working_out.specs.Order.{option, lowest}
 use Rattle.working_out.proofs.OrderLaws.{lowest-some}
 use Rattle.loops.specs.Run.{lowestLeft}
+use Rattle.loops.proofs.LowestLaws.{lowest-is, lowest-is-none}
 use Rattle.loop_walk.specs.First.{First}
 
 -- The optional number that the first stands for: none at the bound.
@@ -25,30 +26,13 @@ found-none n v l = rw (le-ltb v n l)
 
 -- It is the lowest.
 pub first-lowest : (n : ℕ) (p : ℕ → Bool) (v : ℕ) → First n p v → lowest n p ≡ found n v
-unfolding lowest
-first-lowest zero p v f = sym (found-none zero v (omega arith))
-first-lowest (suc n) p v f = go (first-lowest n p) (decLt v n) (ℕ-discrete v n)
+first-lowest n p v f = go (decLt v n)
   where
-    -- No number below n passes where v is not below n.
-    up-to : ((w : ℕ) → First n p w → lowest n p ≡ found n w) → n ≤ v → lowest n p ≡ none
-    up-to rec h =
-        rec n
-        (record { within = omega arith; before = λ j l. f .before j (omega arith); here = λ l. absurd (omega arith) })
-        ∙ found-none n n (omega arith)
-
-    go : ((w : ℕ) → First n p w → lowest n p ≡ found n w) → Dec (v < n) → Dec (v ≡ n)
-        → option (lowest n p) (cond (p n) (some n) none) some ≡ found (suc n) v
-    go rec (yes l) _ =
-        let low : First n p v =
-        record { within = omega arith; before = f .before; here = λ _. f .here (omega arith) } in
-        rw (rec v low, found-below n v l, found-below (suc n) v (omega arith))
-    go rec (no l) (yes e) =
-        let passes : p n ≡ true = rw e at (f .here (omega arith)) in
-        rw (up-to rec (omega arith), passes, found-below (suc n) v (omega arith), e)
-    go rec (no l) (no e) =
-        let fails : p n ≡ false = f .before n (omega arith) in
-        let w = f .within in
-        rw (up-to rec (omega arith), fails, found-none (suc n) v (omega arith))
+    go : Dec (v < n) → lowest n p ≡ found n v
+    go (yes l) = lowest-is n p v l (f .here l) (f .before) ∙ sym (found-below n v l)
+    go (no l) =
+        let all = f .within in
+        lowest-is-none n p (λ j h. f .before j (omega arith)) ∙ sym (found-none n v (omega arith))
 
 -- What is found, and another number where nothing is.
 pub found-or : {X : Type 0} (n v : ℕ) (x : X) (f : ℕ → X) → option (found n v) x f ≡ cond (ltb v n) (f v) x

@@ -4,7 +4,7 @@ use mathlib.Core.Bool.{Bool, true, false, cond, true≢false}
 use mathlib.Core.Option.{Option, none, some}
 use Prim.Native.Nat.{ℕ, zero, suc, _≤_, _<_}
 use native.Mathlib.Omega.{arith}
-use native.Mathlib.Decide.{decLt}
+use native.Mathlib.Decide.{ℕ-discrete, decLt}
 use lib.ListN.{getD}
 use Rattle.logic.specs.Table.{tab}
 use Rattle.working_out.specs.Order.{option, isSome, lowest}
@@ -38,8 +38,8 @@ lowest-le n p i e j t = go (decLt j i)
     go (no l) = omega arith
 
 -- Where one passes there is a lowest.
-pub lowest-is : (n : ℕ) (p : ℕ → Bool) (j : ℕ) → j < n → p j ≡ true → isSome (lowest n p) ≡ true
-lowest-is n p j l t = go (lowest n p) refl
+pub lowest-there : (n : ℕ) (p : ℕ → Bool) (j : ℕ) → j < n → p j ≡ true → isSome (lowest n p) ≡ true
+lowest-there n p j l t = go (lowest n p) refl
   where
     go : (o : Option ℕ) → lowest n p ≡ o → isSome o ≡ true
     go none e = absurd (true≢false (sym t ∙ lowest-none n p e j l))
@@ -55,3 +55,21 @@ pub lowest-ext : (n : ℕ) (p q : ℕ → Bool) → ((i : ℕ) → i < n → p i
 unfolding lowest
 lowest-ext zero p q h = refl
 lowest-ext (suc n) p q h = rw (h n (omega arith), lowest-ext n p q (λ i l. h i (omega arith)))
+
+-- None passes.
+pub lowest-is-none : (n : ℕ) (p : ℕ → Bool) → ((j : ℕ) → j < n → p j ≡ false) → lowest n p ≡ none
+unfolding lowest
+lowest-is-none zero p fails = refl
+lowest-is-none (suc n) p fails =
+    rw (lowest-is-none n p (λ j h. fails j (omega arith)), fails n (omega arith))
+
+-- The number i passes and none below it.
+pub lowest-is : (n : ℕ) (p : ℕ → Bool) (i : ℕ) → i < n → p i ≡ true → ((j : ℕ) → j < i → p j ≡ false)
+    → lowest n p ≡ some i
+unfolding lowest
+lowest-is zero p i h passes fails = absurd (omega arith)
+lowest-is (suc n) p i h passes fails = go (ℕ-discrete i n) (λ l. lowest-is n p i l passes fails)
+  where
+    go : Dec (i ≡ n) → (i < n → lowest n p ≡ some i) → option (lowest n p) (cond (p n) (some n) none) some ≡ some i
+    go (yes e) rec = rw (← e, lowest-is-none i p fails, passes)
+    go (no ne) rec = rw (rec (omega arith))

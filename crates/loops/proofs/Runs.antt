@@ -17,12 +17,12 @@ use Rattle.working_out.proofs.OrderLaws.{eqb-same, IsLowest, lowest-some, Twice
 use Rattle.working_out.proofs.GraphLaws.{Undone, walk-undone, walk-reads}
 use Rattle.loops.specs.Run.{metAt, again, between, loopOf}
 use Rattle.loops.specs.Is.{Distinct, IsLoop}
-use Rattle.loops.proofs.LowestLaws.{getD-tab, lowest-below, lowest-is, is-some}
+use Rattle.loops.proofs.LowestLaws.{getD-tab, lowest-below, lowest-there, is-some}
 
 -- A place at which a slot is met that was met before.
 pub met-is : (walk : ℕ → ℕ) (i j : ℕ) → i < j → walk i ≡ walk j → isSome (metAt walk j) ≡ true
 unfolding metAt
-met-is walk i j l e = lowest-is j (λ i. eqb (walk i) (walk j)) i l (rw e (eqb-same (walk j)))
+met-is walk i j l e = lowest-there j (λ i. eqb (walk i) (walk j)) i l (rw e (eqb-same (walk j)))
 
 -- The first slot met again: met at the places `first` and `next`, and none twice before `next`.
 pub record Met (N : ℕ) (walk : ℕ → ℕ) : Type 0 where
@@ -74,7 +74,7 @@ module _ (N : ℕ) (walk : ℕ → ℕ) where
       found : (j : ℕ) × (again N walk ≡ some j)
       found =
           let high = twice .within in
-          is-some (again N walk) (lowest-is (suc N) (λ k. isSome (metAt walk k)) (twice .j) (omega arith)
+          is-some (again N walk) (lowest-there (suc N) (λ k. isSome (metAt walk k)) (twice .j) (omega arith)
           (met-is walk (twice .i) (twice .j) (twice .before) (twice .same)))
 
   module _ (met : Met N walk) where

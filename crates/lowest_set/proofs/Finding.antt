@@ -5,10 +5,12 @@ use mathlib.Core.Bool.{Bool, true, false, cond}
 use mathlib.Core.List.{List}
 use Prim.Native.Nat.{ℕ, zero, suc, _+_, _-_, _*_, _≤_, _<_, max}
 use native.Mathlib.Omega.{arith}
-use native.Mathlib.Decide.{decLt}
+use native.Mathlib.Decide.{ℕ-discrete, decLt}
 use lib.ListN.{getD}
+use lib.Dec.{eqb}
+use borrow.Author.Tests.{eq-eqb, ne-eqb}
 use Rattle.lowest_set.specs.Tree.{Holds, lowestOf}
-use Rattle.lowest_set.proofs.Searching.{lowest-is, lowest-is-none}
+use Rattle.loops.proofs.LowestLaws.{lowest-is, lowest-is-none}
 
 -- The leftmost leaf under p, which stands h above the leaves. It is p or more, and grows with p.
 abbrev leaf : ℕ → ℕ → ℕ
@@ -60,8 +62,13 @@ left-at zero at low ne = absurd (omega (arith, at .first))
 left-at {p = p} (suc h) at low ne =
     (h, record { first = at .first; last = omega (arith, at .last, leaf-middle h p); here = ne; before = at .before })
 
-pub reached-left : {tree : List ℕ} {p : ℕ} → Reached tree p → p < 4096 → getD tree (2 * p) 0 ≢ 0 → Reached tree (2 * p)
+reached-left : {tree : List ℕ} {p : ℕ} → Reached tree p → p < 4096 → getD tree (2 * p) 0 ≢ 0 → Reached tree (2 * p)
 reached-left r = left-at (r .0) (r .1)
+
+-- A child's number, either one's.
+pub child-within : (b : Bool) (p : ℕ) → (2 * p ≤ cond b (2 * p + 1) (2 * p)) × (cond b (2 * p + 1) (2 * p) ≤ 2 * p + 1)
+child-within true p = (omega arith, omega arith)
+child-within false p = (omega arith, omega arith)
 
 module _ {tree : List ℕ} {members : ℕ → Bool} (holds : Holds tree members) where
   -- Where the word at p, h above the leaves, is 0, every leaf under it is 0.
@@ -104,8 +111,17 @@ module _ {tree : List ℕ} {members : ℕ → Bool} (holds : Holds tree members)
       before x from to (no l) =
           clear h (2 * p) (omega arith) (omega (arith, at .last, leaf-middle h p)) e x (omega arith) to
 
-  pub reached-right : {p : ℕ} → Reached tree p → 0 < p → p < 4096 → getD tree (2 * p) 0 ≡ 0 → Reached tree (2 * p + 1)
+  reached-right : {p : ℕ} → Reached tree p → 0 < p → p < 4096 → getD tree (2 * p) 0 ≡ 0 → Reached tree (2 * p + 1)
   reached-right r = right-at (r .0) (r .1)
+
+  -- To the left, unless the word there is 0.
+  pub reached-down : {p w : ℕ} → Reached tree p → 0 < p → p < 4096 → w ≡ getD tree (2 * p) 0
+      → Reached tree (cond (eqb w 0) (2 * p + 1) (2 * p))
+  reached-down {p} {w} r some inner word = go (ℕ-discrete w 0)
+    where
+      go : Dec (w ≡ 0) → Reached tree (cond (eqb w 0) (2 * p + 1) (2 * p))
+      go (yes e) = rw (eq-eqb w 0 e) (reached-right r some inner (sym word ∙ e))
+      go (no ne) = rw (ne-eqb w 0 ne) (reached-left r inner (λ e. ne (word ∙ e)))
 
   -- A leaf that is reached is that of the lowest number.
   leaf-at : {p : ℕ} (h : ℕ) → At tree h p → 4096 ≤ p → p - 4096 ≡ lowestOf members

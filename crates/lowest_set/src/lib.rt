@@ -1,7 +1,8 @@
 // A set of numbers below 4,096, of which the lowest is found in twelve steps: a tree of flags.
 ghost use mathlib.Core.Path.{_≡_};
-ghost use mathlib.Core.Bool.{Bool};
+ghost use mathlib.Core.Bool.{Bool, cond};
 ghost use Prim.Native.Nat.{ℕ, _<_, max};
+ghost use lib.Dec.{eqb};
 ghost use Rattle.working_out.specs.Graph.{mark};
 ghost use Rattle.lowest_set.specs.Change.{Changes};
 ghost use Rattle.lowest_set.specs.Tree.{Holds, without, lowestOf};
@@ -45,6 +46,13 @@ pub fn remove(tree: &mut [u32], i: u32)
     renew(tree, i, 0);
 }
 
+// One child, unless its word is 0; else the other.
+fn unless_empty(word: u32, child: u32, other: u32) -> u32
+    ensures { λ r. ⌜ r ≡ cond (eqb word 0) other child ⌝ }
+{
+    if word == 0 { other } else { child }
+}
+
 // The lowest number of the set, 4,096 where it has none: from the root down, to the left where that word is not 0.
 pub fn lowest(tree: &[u32]) -> u32
     ensures { λ r. ⌜ ((members : ℕ → Bool) → Holds (now (tree .entry)) members → r ≡ lowestOf members) ⌝ }
@@ -54,10 +62,9 @@ pub fn lowest(tree: &[u32]) -> u32
     }
     let mut p: u32 = 1;
     while p < 4096 {
-        p = 2 * p;
-        if logic::word_at(tree, p as usize) == 0 {
-            p += 1;
-        }
+        let left = 2 * p;
+        let right = left + 1;
+        p = unless_empty(logic::word_at(tree, left as usize), left, right);
     }
     p - 4096
 }

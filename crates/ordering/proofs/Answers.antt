@@ -1,14 +1,14 @@
 -- The answer by words and flags: of two slices, from what is called; and of an accepted list, whose words and flags are
 -- the design's reads and nodes.
-use mathlib.Core.Path.{_≡_, refl, sym, ap, ap₂, _∙_}
+use mathlib.Core.Path.{_≡_, refl, sym, ap, _∙_}
 use mathlib.Core.Bool.{Bool, true, false, cond}
-use mathlib.Core.List.{List, _++_}
-use Prim.Native.Nat.{ℕ, _+_, _≤_}
+use mathlib.Core.List.{List}
+use Prim.Native.Nat.{ℕ, _≤_}
 use native.Mathlib.Omega.{arith}
 use native.Mathlib.Nat.{zero-add}
-use lib.ListN.{length, take, drop, replicate, length-replicate}
+use lib.ListN.{length, take}
 use lib.Seq.{sets, sets-eq, take-at}
-use borrow.Author.Tests.{le-ltb, lt-ltb}
+use borrow.Author.Tests.{le-ltb}
 use Rattle.cell.specs.Design.{Design, total}
 use Rattle.right.specs.Laid.{Laid}
 use Rattle.design_list.specs.Read.{accepted}
@@ -22,7 +22,7 @@ use Rattle.topological.specs.Sorted.{Sorted}
 use Rattle.loop_walk.specs.Named.{loopIn, Named}
 use Rattle.ordering.specs.declared.Ordering.{Ordering}
 use Rattle.ordering.specs.declared.Ordering.the-variants.{Ordered, Looped}
-use Rattle.ordering.specs.Words.{anyLeft, slotsBy, answerBy, OrdersBy}
+use Rattle.ordering.specs.Words.{anyLeft, slotsBy, OrdersBy}
 use Rattle.ordering.specs.Answer.{slotsOf, Orders}
 use Rattle.ordering.proofs.Short.{order-short, cleared-length, loop-short}
 

@@ -1,13 +1,13 @@
 -- An accepted list with its table: how many flags and words there are, and that what they answer is the list's answer.
-use mathlib.Core.Path.{_≡_, refl, sym, ap, subst, _∙_}
-use mathlib.Core.List.{List, [], _∷_}
-use Prim.Native.Nat.{ℕ, zero, suc, _+_, _≤_}
+use mathlib.Core.Path.{_≡_, refl, sym, ap, _∙_}
+use mathlib.Core.List.{List, _∷_}
+use Prim.Native.Nat.{ℕ, zero, suc, _≤_}
 use native.Mathlib.Omega.{arith}
 use native.Mathlib.Nat.{le-of-suc-le-suc}
 use lib.ListN.{length, take, replicate, length-replicate}
 use lib.Seq.{sets, sets-eq, take-at}
 use Rattle.cell.specs.declared.Mode.{Mode}
-use Rattle.cell.specs.Design.{Design, total}
+use Rattle.cell.specs.Design.{total}
 use Rattle.design_list.specs.declared.Extent.{Extent}
 use Rattle.design_list.specs.Read.{read}
 use Rattle.design_list.proofs.AcceptedLaws.{accepted-read}
@@ -19,6 +19,10 @@ use Rattle.ordering.specs.declared.Ordering.{Ordering}
 use Rattle.ordering.specs.Words.{OrdersBy, Ready}
 use Rattle.ordering.specs.Answer.{Orders}
 use Rattle.ordering.proofs.Answers.{orders-of}
+
+-- A table of zeros for the slots.
+pub zeros : length {A = ℕ} (replicate 4096 0) ≡ 4096
+zeros = length-replicate {A = ℕ} 4096 0
 
 take-zeros : (n m : ℕ) → n ≤ m → take n (replicate {A = ℕ} m 0) ≡ replicate n 0
 take-zeros zero m h = refl

@@ -1,8 +1,8 @@
 -- What `order` says of the slots that it leaves, of every list, from its contract alone. Assumes nothing.
-use mathlib.Core.Path.{_≡_, refl, sym, ap, subst, _∙_}
+use mathlib.Core.Path.{_≡_, refl, sym, ap, _∙_}
 use mathlib.Core.Bool.{Bool, true, false, cond, true≢false}
 use mathlib.Core.List.{List, _++_}
-use Prim.Native.Nat.{ℕ, _≤_, _<_}
+use Prim.Native.Nat.{ℕ, _<_}
 use native.Mathlib.Omega.{arith}
 use native.Mathlib.Decide.{decLt}
 use lib.ListN.{length, take, drop}
@@ -20,7 +20,7 @@ use Rattle.loops.specs.Graph.{namedLoop}
 use Rattle.loops.proofs.Named.{named-loop, whole-order}
 use Rattle.ordering.specs.declared.Ordering.{Ordering}
 use Rattle.ordering.specs.declared.Ordering.the-variants.{Ordered, Looped}
-use Rattle.ordering.specs.Answer.{slotsOf, Orders}
+use Rattle.ordering.specs.Answer.{Orders}
 use Rattle.ordering.specs.Says.{Found, OrderSays}
 
 module _ (d : Design) (laid : Laid d) (slots : List ℕ) where
@@ -28,7 +28,10 @@ module _ (d : Design) (laid : Laid d) (slots : List ℕ) where
   found : (b : Bool) → hasLoop d ≡ b
       → Found d (cond b (namedLoop d) (w.order d) ++ drop (length (cond b (namedLoop d) (w.order d))) slots)
       (cond b (Looped (length (namedLoop d))) (Ordered (length (w.order d))))
-  found true e = (rw (take-at (namedLoop d) (drop (length (namedLoop d)) slots) _ refl) (named-loop d e), loop-decided d laid .0 e)
+  found true e = (
+    rw (take-at (namedLoop d) (drop (length (namedLoop d)) slots) _ refl) (named-loop d e),
+    loop-decided d laid .0 e,
+  )
   found false e = (
     rw (take-at (w.order d) (drop (length (w.order d)) slots) _ refl) (whole-order d laid e),
     λ loop. true≢false (sym (loop-decided d laid .1 loop) ∙ e),

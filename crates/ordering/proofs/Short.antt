@@ -1,5 +1,5 @@
 -- The order and the loop have at most as many slots as the design.
-use mathlib.Core.Path.{_≡_, refl, ap, _∙_}
+use mathlib.Core.Path.{_≡_, refl, _∙_}
 use mathlib.Core.Bool.{Bool, true, false, cond}
 use mathlib.Core.Option.{Option, none, some}
 use mathlib.Core.List.{List, [], _∷_}
@@ -14,8 +14,7 @@ use Rattle.working_out.specs.Loop.{hasLoop}
 use Rattle.working_out.specs.Loop as w
 use Rattle.loops.specs.Edges.{hasEdge, doneIn, clearAll, orderIn}
 use Rattle.loops.specs.Graph.{namedLoop}
-use Rattle.loops.specs.Run.{loopOf}
-use Rattle.loops.proofs.Runs.{Met, loop-length, walk-meets}
+use Rattle.loops.proofs.Runs.{loop-length, walk-meets}
 use Rattle.loops.proofs.Named.{none-ready, left-undone}
 
 undone-few : (n : ℕ) (done : ℕ → Bool) → undone n done ≤ n

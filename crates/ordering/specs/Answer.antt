@@ -1,6 +1,6 @@
--- Document 02, change 4: "Add a part that answers either an order of the asserted cells and replaced Voids by first slot
--- ... or one loop as a run of first slots ... Either fills a lent slice of slot numbers from its start, no slot twice,
--- its length returned ... Checks: design-list faults come first; a slice with fewer words than slots is 14."
+-- Document 02, change 4: "Add a part that answers either an order of the asserted cells and replaced Voids by first
+-- slot ... or one loop as a run of first slots ... Either fills a lent slice of slot numbers from its start, no slot
+-- twice, its length returned ... Checks: design-list faults come first; a slice with fewer words than slots is 14."
 use mathlib.Core.Path.{_≡_}
 use mathlib.Core.Bool.{cond}
 use mathlib.Core.List.{List, _++_}

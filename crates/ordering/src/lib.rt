@@ -5,8 +5,7 @@ use design_list::SlotTable;
 use logic::Fault;
 ghost use mathlib.Core.Path.{_≡_};
 ghost use Prim.Native.Nat.{_≤_};
-ghost use lib.ListN.{length, take};
-ghost use lib.Seq.{sets};
+ghost use lib.ListN.{length};
 ghost use Rattle.cell.specs.Design.{total};
 ghost use Rattle.cell.specs.declared.Mode.{Mode};
 ghost use Rattle.design_list.specs.Read.{read};
@@ -34,18 +33,6 @@ fn any_left(flags: &[u32]) -> bool
     false
 }
 
-// The first n turns, copied to the slice.
-fn copy(slots: &mut [u32], turns: &[u32], n: usize)
-    requires { ⌜ n ≤ length (now turns) ⌝ }
-    ensures { λ _. ⌜ now (slots .exit) ≡ sets (now (slots .entry)) 0 (take n (now (turns .entry))) ⌝ }
-{
-    let mut i: usize = 0;
-    while i < n {
-        logic::put(slots, i, logic::word_at(turns, i));
-        i += 1;
-    }
-}
-
 // The order goes into turns first: where there is a loop, the slice gets nothing but the loop.
 fn order_by(edges: &[u32], flags: &mut [u32], slots: &mut [u32]) -> Ordering
     requires { ⌜ (length (now edges) ≤ 16384) × (length (now flags) ≤ 4096) ⌝ }
@@ -56,7 +43,7 @@ fn order_by(edges: &[u32], flags: &mut [u32], slots: &mut [u32]) -> Ordering
     if any_left(flags) {
         return Ordering::Looped(loop_walk::name_loop(edges, flags, slots));
     }
-    copy(slots, &turns, n);
+    stores::copy(slots, &turns, n);
     Ordering::Ordered(n)
 }
 

@@ -52,7 +52,9 @@ module _ (mode : Mode) (list : List ℕ) where
           (omega arith, omega arith)
 
       go : (r : Read) → read mode list ≡ r → Low (orderOf r room)
-      go (refused e) is = let small : Small e = rw is at (read-small mode list) in (omega (arith, small .0), omega (arith, small .1))
+      go (refused e) is =
+          let small : Small e = rw is at (read-small mode list) in
+          (omega (arith, small .0), omega (arith, small .1))
       go (accepted d replacements pairs) is = of-design is (ltb room (total d)) (hasLoop d) refl
 
   -- What `order` answers, for every list and every slice.

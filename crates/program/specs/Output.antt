@@ -2,7 +2,6 @@
 -- `refused N at P`. It lends 16,384 call words and 65,536 text bytes; a broken last word is fault 1 there, after 4 for
 -- a 16,385th word." Document 02, change 4: "The program writes a loop as a line like `; loop s1 s4` before the script,
 -- outside the lent text, and still writes the script; a refusal is written alone." What it writes, for every input.
-use mathlib.Core.Path.{_≡_}
 use mathlib.Core.Bool.{cond}
 use mathlib.Core.List.{List, [], _∷_, _++_}
 use Prim.Native.Nat.{ℕ}

@@ -11,8 +11,8 @@ ghost use Prim.Native.Nat.{_≤_};
 ghost use lib.ListN.{length, take};
 ghost use Rattle.engine.specs.Emit.{Wrote};
 ghost use Rattle.requirement.specs.Verified.{readIn};
-ghost use Rattle.program.specs.Output.{refusalLine, refusal, loopText, scriptTexts, listOutput, outputIn, slotsIn};
-ghost use Rattle.program.specs.Output.{Leaves};
+ghost use Rattle.program.specs.Output.{refusalLine, refusal, loopText, scriptTexts, listOutput, outputIn};
+ghost use Rattle.program.specs.Output.{slotsIn, Leaves};
 
 // How many bytes are written: of the line that names a loop, and of the text.
 pub struct Lengths {

@@ -1,7 +1,7 @@
-// One word, or 0, stored all along a lent slice.
+// One word, or 0, stored all along a lent slice, and the words of another slice copied to it.
 ghost use mathlib.Core.Path.{_≡_};
-ghost use Prim.Native.Nat.{_-_};
-ghost use lib.ListN.{length, replicate};
+ghost use Prim.Native.Nat.{_-_, _≤_};
+ghost use lib.ListN.{length, replicate, take};
 ghost use lib.Seq.{sets};
 
 // One word at every place from a start to an end.
@@ -31,5 +31,17 @@ pub fn clear(bytes: &mut [u8])
     while at < bytes.len() {
         bytes[at] = 0;
         at += 1;
+    }
+}
+
+// The first n words of a slice, copied to another.
+pub fn copy(out: &mut [u32], words: &[u32], n: usize)
+    ensures { λ _. ⌜ (n ≤ length (now (words .entry))
+        → now (out .exit) ≡ sets (now (out .entry)) 0 (take n (now (words .entry)))) ⌝ }
+{
+    let mut i: usize = 0;
+    while i < n {
+        logic::put(out, i, logic::word_at(words, i));
+        i += 1;
     }
 }

@@ -1,5 +1,5 @@
--- Document 01, "Faults and what stays", and document 02, changes 4 and 7. The answers of the C interface for a design list,
--- each packed into one word of 64 bits, and what the slices hold.
+-- Document 01, "Faults and what stays", and document 02, changes 4 and 7. The answers of the C interface for a design
+-- list, each packed into one word of 64 bits, and what the slices hold.
 use mathlib.Core.Path.{_≡_}
 use mathlib.Core.List.{List}
 use Prim.Native.Nat.{ℕ}

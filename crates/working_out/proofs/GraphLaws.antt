@@ -52,7 +52,8 @@ unfolding undone
 undone-above zero done a h = refl
 undone-above (suc n) done a h = rw (mark-other done a n (omega arith), undone-above n done a (omega arith))
 
-pub undone-mark : (n : ℕ) (done : ℕ → Bool) (a : ℕ) → a < n → done a ≡ false → suc (undone n (mark done a)) ≡ undone n done
+pub undone-mark : (n : ℕ) (done : ℕ → Bool) (a : ℕ) → a < n → done a ≡ false
+    → suc (undone n (mark done a)) ≡ undone n done
 unfolding undone
 undone-mark zero done a l d = absurd (omega arith)
 undone-mark (suc n) done a l d = go (ℕ-discrete a n) (λ l. undone-mark n done a l d)
@@ -78,8 +79,8 @@ module _ (N : ℕ) (reads : ℕ → ℕ → Bool) where
   both true false e = (refl, refl)
   both false q e = absurd (false≢true e)
 
-  pub lacks-none : (done : ℕ → Bool) (a : ℕ) → isSome ((lacks N reads) done a) ≡ false → (b : ℕ) → b < N → reads a b ≡ true
-      → done b ≡ true
+  pub lacks-none : (done : ℕ → Bool) (a : ℕ) → isSome ((lacks N reads) done a) ≡ false → (b : ℕ) → b < N
+      → reads a b ≡ true → done b ≡ true
   unfolding lacks
   lacks-none done a e b l r = sees (reads a b) (done b) r (lowest-none N _ (none-of ((lacks N reads) done a) e) b l)
     where

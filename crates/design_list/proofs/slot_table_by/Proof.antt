@@ -30,17 +30,6 @@ returns c mode =
     let same = sym (call .read-into .ensures mode .0) ∙ told .extent .given .1 in
     tabled _ (rw (same, lt-ltb _ _ (short .if1 .taken))) (table-short mode _ same _ (short .if1 .taken))
 
-copy-requires : tie.Need-copy-requires
-copy-requires c κs =
-    let enough = c .before .before .before in
-    let told = enough .before .before .before in
-    let call = told .before .before .before .before in
-    omega (
-      arith,
-      table-low Ported _ (sym (call .read-into .ensures Ported .0) ∙ told .extent .given .1),
-      call .read-into .kept,
-    )
-
 returns-2 : tie.Need-returns-2
 returns-2 c mode =
     let told = c .before in
@@ -58,8 +47,13 @@ returns-3 c mode =
     let start = call .before .before .before .before .before in
     let same = sym (call .read-into .ensures mode .0) ∙ told .extent .given .1 in
     tabled _ (rw (same, le-ltb _ _ (enough .if1 .left)))
-    (copied .copy .ensures ∙
-    table-filled mode _ same (start .args .table .now) _ (start .args .out .now) (call .read-into .ensures mode .1)
+    (copied .copy .ensures
+    (omega (
+      arith,
+      table-low Ported _ (sym (call .read-into .ensures Ported .0) ∙ told .extent .given .1),
+      call .read-into .kept,
+    ))
+    ∙ table-filled mode _ same (start .args .table .now) _ (start .args .out .now) (call .read-into .ensures mode .1)
     (start .pre) (enough .if1 .left))
 
 pub slot-table-by-spec : {M : Type 1} → statement M
@@ -67,4 +61,5 @@ slot-table-by-spec =
     tie.close
     (tie.spec
     (λ c κs. search needs) (λ c. search needs) (λ c. search needs) add-if1 add-room (λ c. search needs) returns
-    (λ c. search needs) copy-requires (λ c. search needs) returns-2 (λ c. search needs) (λ c. search needs) returns-3)
+    (λ c. search needs) (λ c κs. search needs) (λ c. search needs) returns-2 (λ c. search needs) (λ c. search needs)
+    returns-3)

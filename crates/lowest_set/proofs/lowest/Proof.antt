@@ -4,9 +4,10 @@ use borrow.Author.Needs.{needs}
 use mathlib.Core.Path.{sym, _∙_}
 use mathlib.Core.Bool.{Bool}
 use Prim.Native.Nat.{ℕ, _-_, _<_}
+use lib.Dec.{eqb}
 use native.Mathlib.Omega.{arith}
 use Rattle.lowest_set.specs.Tree.{Holds}
-use Rattle.lowest_set.proofs.Finding.{Reached, none-there, reached-root, reached-left, reached-right}
+use Rattle.lowest_set.proofs.Finding.{Reached, none-there, reached-root, reached-down, child-within}
 use Rattle.lowest_set.proofs.Finding.{reached-leaf}
 use Rattle.lowest_set.proofs.lowest.Statement.{statement}
 use Rattle.lowest_set.proofs.lowest.Tie as tie
@@ -24,24 +25,24 @@ loop-holds : tie.Need-loop-holds Inv-loop μ-loop
 loop-holds c =
     (omega arith, omega arith, λ members holds. reached-root (λ e. c .if1 .left (c .before .word-at .ensures ∙ e)))
 
+loop-less : tie.Need-loop-less Inv-loop μ-loop
+loop-less c =
+    let read = c .before in
+    let turn = read .before in
+    let inv = turn .before .loop .inv in
+    let child = child-within (eqb (read .word-at2 .result) 0) (turn .before .loop .p) in
+    rw (c .unless-empty .ensures) (omega (arith, inv .0, turn .loop-test .taken, child))
+
 loop-again : tie.Need-loop-again Inv-loop μ-loop
 loop-again c =
-    let turn = c .before .before in
-    let inv = turn .before .loop .inv in (
-      omega arith,
-      omega (arith, turn .loop-test .taken),
-      λ members holds. reached-right holds (inv .2 members holds) (inv .0) (turn .loop-test .taken)
-          (sym (c .before .word-at2 .ensures) ∙ c .if2 .taken),
-    )
-
-loop-again-2 : tie.Need-loop-again-2 Inv-loop μ-loop
-loop-again-2 c =
-    let turn = c .before .before in
-    let inv = turn .before .loop .inv in (
-      omega (arith, inv .0),
-      omega (arith, turn .loop-test .taken),
-      λ members holds. reached-left (inv .2 members holds) (turn .loop-test .taken)
-          (λ e. c .if2 .left (c .before .word-at2 .ensures ∙ e)),
+    let read = c .before in
+    let turn = read .before in
+    let inv = turn .before .loop .inv in
+    let child = child-within (eqb (read .word-at2 .result) 0) (turn .before .loop .p) in (
+      rw (c .unless-empty .ensures) (omega (arith, inv .0, child)),
+      rw (c .unless-empty .ensures) (omega (arith, turn .loop-test .taken, child)),
+      λ members holds. rw (c .unless-empty .ensures)
+          (reached-down holds (inv .2 members holds) (inv .0) (turn .loop-test .taken) (read .word-at2 .ensures)),
     )
 
 returns-2 : tie.Need-returns-2 Inv-loop μ-loop
@@ -52,5 +53,4 @@ lowest-spec =
     tie.close
     (tie.spec
     Inv-loop μ-loop (λ c κs. search needs) returns loop-holds (λ c. search needs) (λ c. search needs)
-    (λ c κs. search needs) (λ c. search needs) (λ c. search needs) loop-again (λ c. search needs) loop-again-2
-    returns-2)
+    (λ c. search needs) (λ c κs. search needs) (λ c κs. search needs) loop-less loop-again returns-2)

@@ -24,13 +24,15 @@ returns : tie.Need-returns Inv-loop μ-loop
 returns c =
     let tested = c .before in
     let turn = tested .before in
-    sym (left-here _ (turn .before .loop .a) (turn .loop-test .taken) (λ z. c .if1 .taken (tested .word-at .ensures ∙ z)))
+    sym (left-here _ (turn .before .loop .a) (turn .loop-test .taken)
+    (λ z. c .if1 .taken (tested .word-at .ensures ∙ z)))
 
 loop-again : tie.Need-loop-again Inv-loop μ-loop
 loop-again c =
     let tested = c .before in
     let turn = tested .before in
-    done-next _ (turn .before .loop .a) (sym (tested .word-at .ensures) ∙ omega (arith, c .if1 .left)) (turn .before .loop .inv)
+    done-next _ (turn .before .loop .a) (sym (tested .word-at .ensures) ∙ omega (arith, c .if1 .left))
+    (turn .before .loop .inv)
 
 returns-2 : tie.Need-returns-2 Inv-loop μ-loop
 returns-2 c = sym (left-none _ (c .before .loop .a) (c .loop-test .left) (c .before .loop .inv))

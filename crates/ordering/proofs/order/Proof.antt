@@ -1,18 +1,14 @@
 -- `ordering::order` meets its contract: what `slot_table` refuses is refused, then a slice too short, and an accepted
 -- list is ordered with its table. Assumes nothing.
 use borrow.Author.Needs.{needs}
-use mathlib.Core.Path.{_≡_, sym, _∙_}
-use Prim.Native.Nat.{ℕ}
+use mathlib.Core.Path.{sym, _∙_}
 use native.Mathlib.Omega.{arith}
-use lib.ListN.{length, replicate, length-replicate}
 use lib.Seq.{length-take-le}
 use Rattle.cell.specs.declared.Mode.the-variants.{Ported}
+use Rattle.ordering.proofs.Ready.{zeros}
 use Rattle.ordering.proofs.Listed.{taken-within, slots-low, ready-of, short-orders, refused-orders}
 use Rattle.ordering.proofs.order.Statement.{statement}
 use Rattle.ordering.proofs.order.Tie as tie
-
-zeros : length {A = ℕ} (replicate 4096 0) ≡ 4096
-zeros = length-replicate {A = ℕ} 4096 0
 
 add-total : tie.Need-add-total
 add-total c =

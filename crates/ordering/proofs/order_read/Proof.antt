@@ -1,23 +1,23 @@
 -- `ordering::order_read` meets its contract: the flags and the words are the design's, and so is what they answer.
 -- Assumes nothing.
 use borrow.Author.Needs.{needs}
-use mathlib.Core.Path.{_≡_, sym, _∙_}
+use mathlib.Core.Path.{sym}
 use Prim.Native.Nat.{ℕ}
 use native.Mathlib.Omega.{arith}
 use lib.ListN.{length, replicate, length-replicate}
 use lib.Seq.{length-take-le}
 use Rattle.cell.specs.declared.Mode.the-variants.{Ported}
-use Rattle.ordering.proofs.Ready.{table-low, zeros-taken, flags-low, edges-few, ready-orders}
+use Rattle.ordering.proofs.Ready.{zeros, table-low, zeros-taken, flags-low, edges-few, ready-orders}
 use Rattle.ordering.proofs.order_read.Statement.{statement}
 use Rattle.ordering.proofs.order_read.Tie as tie
 
 flags-fit : tie.Need-array-borrow-prefix-flags
-flags-fit c = let start = c .before .before .before in omega (arith, table-low (start .pre .0 Ported), length-replicate {A = ℕ} 4096 0)
+flags-fit c = let start = c .before .before .before in omega (arith, table-low (start .pre .0 Ported), zeros)
 
 flags-count : tie.Need-slice-aggregate-nodes
 flags-count c =
     let start = c .before .before .before .before in
-    sym (length-take-le _ _ (omega (arith, table-low (start .pre .0 Ported), length-replicate {A = ℕ} 4096 0)))
+    sym (length-take-le _ _ (omega (arith, table-low (start .pre .0 Ported), zeros)))
 
 edges-fit : tie.Need-array-share-prefix-edges
 edges-fit c =

@@ -19,13 +19,15 @@ nothing-requires : tie.Need-put-script-requires
 nothing-requires c κs =
     let told = c .before .before .before .before .before in
     let left = told .before .before .before .before in
-    handed (left .verify .ensures) words marks _ (nothing-says (told .c .given .1)) _ (left .before .before .before .slots-of .ensures)
+    handed (left .verify .ensures) words marks _ (nothing-says (told .c .given .1)) _
+    (left .before .before .before .slots-of .ensures)
 
 asked-requires : tie.Need-put-script-requires-2
 asked-requires c κs =
     let told = c .before .before .before .before .before in
     let left = told .before .before .before .before in
-    handed (left .verify .ensures) words marks _ (asked-says (told .c2 .given .1)) _ (left .before .before .before .slots-of .ensures)
+    handed (left .verify .ensures) words marks _ (asked-says (told .c2 .given .1)) _
+    (left .before .before .before .slots-of .ensures)
 
 refuses : tie.Need-returns
 refuses c =
