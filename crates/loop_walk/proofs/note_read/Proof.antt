@@ -1,5 +1,6 @@
 -- `loop_walk::note_read` meets its contract: each way out has what its tests say. Assumes nothing.
 use borrow.Author.Needs.{needs}
+use Prim.Native.Nat.{_%_, _<_}
 use borrow.Author.Tests.{eq-eqb, ne-eqb, lt-ltb, le-ltb}
 use Rattle.loops.specs.Edges.{doneIn}
 use Rattle.loop_walk.specs.Reads.{noted}
@@ -17,11 +18,13 @@ returns-2 c =
     let lower = put .before .before in
     let told = lower .before in
     let undone = told .before .before in
+    let start = undone .before .before .before .before in
+    let less : start .args .edge % 4096 < told .word-at2 .result = lower .if2 .taken in
     rw (
       ← undone .before .word-at .ensures,
       ne-eqb _ _ (undone .if1 .left),
       ← told .word-at2 .ensures,
-      lt-ltb _ _ (lower .if2 .taken),
+      lt-ltb _ _ less,
     )
     (put .put .ensures)
 
