@@ -1,4 +1,5 @@
-/* From a design list to a verdict: little-endian words from a file, the script to a solver, its reply read back.
+/* From a design list to a verdict on one step: little-endian words from a file, the script to a solver, its reply read
+   back. Whether edits that hold for one step stand when they are applied is told by vm check (docs/UNSAT.md).
 
        rt staticlib virginalmimas
        cc -O2 -o verdict examples/verdict.c target/staticlib/libvirginalmimas.a
@@ -38,7 +39,11 @@ int main(int argc, char **argv) {
         return 2;
     }
     uint32_t *list = room(4 * 16385);
-    size_t len = fread(list, 4, 16385, file);
+    size_t got = fread(list, 1, 4 * 16385, file), len = (got + 3) / 4;
+    if (got % 4 && len <= 16384) { /* a broken last word; past 16,384 words the list is refused as too long */
+        printf("refused 1 at %zu\n", got / 4);
+        return 1;
+    }
 
     uint64_t counts[3], answer = vm_counts(list, len, counts, 3);
     if (VM_NUMBER(answer)) {
@@ -73,7 +78,7 @@ int main(int argc, char **argv) {
         return 7;
     }
     if (VM_VALUE(answer) == 0) {
-        printf("holds: the edits keep the behaviour\n");
+        printf("holds for one step: every choice of the sources keeps every obligation\n");
         return 0;
     }
     printf("broken, for example here:\n");

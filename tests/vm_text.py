@@ -1,12 +1,15 @@
 #!/usr/bin/env python3
 # What vm says without the proved archive and without a solver: notation with names, bad files and texts, bad arguments,
-# words and faults. Every refusal is a sentence and has its exit status; there is never a traceback. Also the divisions,
-# the modes and the order of tests/vm_working_out.py, on examples worked out by hand.
-import importlib.machinery, importlib.util, io, os, struct, sys, tempfile
+# words and faults, output that cannot be written, lines at a terminal's width. Every refusal is a sentence and has its
+# exit status; there is never a traceback. Also the divisions, the modes and the order of tests/vm_working_out.py, on
+# examples worked out by hand; and whether edits stand when applied, against tests/vm_applied.py.
+import importlib.machinery, importlib.util, io, json, os, struct, subprocess, sys, tempfile
 
 ROOT = os.path.dirname(os.path.dirname(os.path.abspath(__file__)))
 sys.pycache_prefix = os.path.join(ROOT, 'target', 'pycache')
 sys.path.insert(0, os.path.join(ROOT, 'tools'))
+import applied
+import checking
 import design
 import faults
 import notation
@@ -14,6 +17,8 @@ import shown
 import solver
 import source
 import verdict
+import vm_applied
+import vm_solvers
 import vm_working_out
 
 done = 0
@@ -206,6 +211,107 @@ def files():
     same((status, '"line": 2' in out, '"verdict": "NOT CHECKED"' in out), (2, True, True), 'JSON of a bad text')
     same(['"mode": 1' in vm('check', 'bad.txt', '--json', *more)[1] for more in ((), ('--mode', '1'))], [False, True],
          'the mode in JSON')
+    for names, parts in ((('good.txt', 'none'), ('libvirginalmimas.a', 'No file of this')), (('none',), ('No file of this',)),
+                         (('good.txt',), ('libvirginalmimas.a',)), (('gone', 'bad.txt'), ('no such file', 'Nott'))):
+        status, out, err = vm('check', '--json', *names)
+        told = json.loads(out)
+        same((status, told['status'], err, [one['source'] for one in told['designs']]), (2, 2, '', list(names)),
+             f'JSON of {names}')
+        same([part in one['sentences'][0] for one, part in zip(told['designs'], parts)], [True] * len(parts), f'why: {told}')
+
+
+def spared():
+    """A design is not written over, whatever it is called; - is standard output."""
+    before = open('good.txt', 'rb').read()
+    os.symlink('good.txt', 'link.txt')
+    os.link('good.txt', 'hard.txt')
+    write('page.html', before)
+    for arguments in (('report', 'good.txt', '-o', 'good.txt'), ('report', 'link.txt', '-o', 'good.txt'),
+                      ('report', 'good.txt', '-o', './hard.txt'), ('words', 'good.txt', '-o', 'link.txt'),
+                      ('report', 'page.html')):
+        status, out, err = vm(*arguments)
+        same((status, out, 'would be lost' in err), (2, '', True), f'{arguments}: {err}')
+    with open('good.txt', 'rb') as file:
+        ran = subprocess.run([sys.executable, VM, 'words', '-', '-o', 'good.txt'], stdin=file, capture_output=True)
+    same((ran.returncode, b'would be lost' in ran.stderr), (2, True), 'words of standard input over its file')
+    same([open(name, 'rb').read() for name in ('good.txt', 'page.html')], [before] * 2, 'the design after all that')
+    by_name, packed = vm('words', 'good.txt', '-o', '-'), vm('words', 'good.txt')
+    same((by_name, os.path.exists('-')), (packed, False), 'words to standard output')
+
+
+def written():
+    """Output that cannot be written is said so, with status 2."""
+    for arguments in (('explain',), ('show', 'good.txt'), ('words', 'good.txt'), ('--help',), ('check', '--help'),
+                      ('check', '--json', 'none')):
+        with open('/dev/full', 'wb') as full:
+            ran = subprocess.run([sys.executable, VM, *arguments], stdout=full, stderr=subprocess.PIPE)
+        same((ran.returncode, ran.stderr), (2, b'vm: The output cannot be written: no space left on device.\n'),
+             f'{arguments} to a full device')
+    with open('/dev/full', 'wb') as full:
+        ran = subprocess.run([sys.executable, VM, 'show', 'gone'], stdout=subprocess.PIPE, stderr=full)
+    same((ran.returncode, ran.stdout), (2, b''), 'a sentence that cannot be written')
+
+
+def widths():
+    """Lines are broken between words at the width that COLUMNS says, and nothing is lost."""
+    for arguments in (('explain',), ('explain', '4', '12', '20'), ('--help',), ('check', 'bad.txt'), ('check', 'good.txt')):
+        whole = vm(*arguments)
+        os.environ['COLUMNS'] = '60'
+        status, out, err = vm(*arguments)
+        del os.environ['COLUMNS']
+        if '--help' not in arguments:   # argparse breaks its own text at 80 columns at the most
+            same((status, out.split(), err.split()), (whole[0], whole[1].split(), whole[2].split()), f'{arguments} at 60')
+        long = [line for line in (out + err).split('\n') if len(line) > 60 and len(line.split()) > 1]
+        same(long, [], f'long lines of {arguments} at 60 columns')
+    same(shown.wrapped('one two-three four', 9, '  ', '    '), ['  one', '    two-three', '    four'], 'broken lines')
+    same(shown.table([['a', 'one two three four five six']], '', 23), ['a  one two three four', '   five six'], 'a broken row')
+    same(shown.table([['a' * 10, 'one two three four']], '', 24), ['a' * 10, '    one two three four'], 'a narrow table')
+
+
+def standing():
+    """Whether edits stand when applied: the study's lists, others, and random designs against a second rendering."""
+    lists = [(text, modes, what) for text, modes, what in vm_applied.LISTS + vm_applied.MORE]
+    lists += [(text, modes, '') for text, modes in vm_applied.STANDING]
+    for text, modes, what in lists:
+        for mode in modes:
+            same(failing(notation.parse(text)[0], mode), set(what.split()), f'what is against {text} in mode {mode}')
+    found = set()
+    for maker in (vm_solvers.Maker, vm_solvers.Twins, vm_solvers.Tangled):
+        for seed in range(1, 151):
+            words = maker(seed).words()
+            found |= {what for mode in (0, 1) for what in failing(words, mode)}
+    same(found - {'circle'}, {'loop', 'a', 'b', 'c', 'd'}, 'what is against some of the random designs')
+    text = '#6 #0 #0 #1, clk: Input #1, nq: Not #1 q, q: Dff #1 #0 clk 0 0 1 nq X X, div: Buf #1 q, d: Input #1, ' \
+           'r: Dff #1 #0 div 0 0 1 d X X, div q'
+    words, _, names = notation.parse_named(text)
+    result = verdict.Result('-', words=words, names=names)
+    design.fill(result)
+    result.reasons = applied.Edits(result).reasons()
+    same(checking.reasons(result), ["Applied, the edit 'div q' does not stand, since clock div is replaced by flip-flop q: "
+                                    'its edges come a step earlier. Leave div as it is, and replace its other readers one '
+                                    'by one by cells that read q.'], 'a divided clock')
+    result.reasons *= 9
+    same(checking.reasons(result)[-1], '4 more reasons of this kind.', 'many reasons')
+
+
+def failing(words, mode):
+    """What is against the edits of a list, the same by both renderings."""
+    result = verdict.Result('-', words=words, mode=mode)
+    design.fill(result)
+    ours, theirs = applied.Edits(result), vm_applied.Edits(result)
+    told = ', '.join(notation.show(words))
+    same(bool(ours.circle), theirs.circular(), f'a circle of {told}')
+    if ours.circle:
+        return {reason.condition for reason in ours.reasons()}
+    made = verdict.Result('-', words=ours.words(), mode=mode)
+    design.fill(made)
+    order = vm_working_out.Design(made).order()
+    same(order, vm_working_out.Design(theirs.applied()).order(), f'the order of {told}, applied')
+    found = {reason.condition for reason in ours.reasons()}
+    same(found, theirs.failing(), f'the conditions of {told} in mode {mode}')
+    if order[0] and not vm_working_out.Design(result).order()[0]:
+        same(ours.looped(order[1]).edits != [], True, f'the edits of the loop of {told}')
+    return found | {'loop'} if order[0] else found
 
 
 def commands():
@@ -232,7 +338,9 @@ def commands():
             status, out, err = vm(named, 'good.txt', '--mode=' + mode)
             same((status, out, f"'{mode}' is no mode" in err), (2, '', True), f'{named} --mode={mode}: {err}')
     status, helped, _ = vm('check', '--help')
-    same((status, [number for number in range(8) if f'  {number}  ' in helped]), (0, list(range(8))), 'check --help')
+    same((status, [number for number in range(9) if f'  {number}  ' in helped]), (0, list(range(9))), 'check --help')
+    same([status for status, _ in command.STATUSES[:-1]], verdict.STATUS_ORDER, 'the statuses from best to worst')
+    same(sorted(verdict.STATUS.values()), sorted(verdict.STATUS_ORDER), 'a status for each verdict')
     for arguments in (good, ('script', 'good.txt'), good + ('bad.txt',), ('report', 'good.txt'), good + ('--mode', '1'),
                       ('order', 'good.txt'),
                       ('script', 'good.txt', '--mode', 'inductive'), ('report', 'good.txt', '--mode', 'ported')):
@@ -261,10 +369,12 @@ def write(name, content):
         file.write(content)
 
 
+VM = os.path.join(ROOT, 'vm')
 command = loaded()
 os.environ.update(PATH='', VIRGINALMIMAS_ARCHIVE='/nowhere', VM_TRACE='1')
 with tempfile.TemporaryDirectory() as folder:
     os.chdir(folder)
-    for group in (names, divisions, modes, orders, bad_texts, both_ways, files, commands, replies):
+    for group in (names, divisions, modes, orders, bad_texts, both_ways, files, commands, replies, spared, written, widths,
+                  standing):
         group()
 print(f'vm without an archive: {done} tests passed')

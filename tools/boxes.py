@@ -6,7 +6,7 @@ clock's: both are sources.
 import re
 from dataclasses import dataclass, field
 
-from verdict import HOLDS, PORTED
+from verdict import HOLDS, ONE_STEP, PORTED
 
 LONGEST = 30   # the most characters of a row's nets
 TITLE, LINE = 22, 17   # heights
@@ -216,7 +216,8 @@ class _Graph:
         states = [each.state for each in self.result.obligations if each.replacement == index]
         kept = True in states or self.result.verdict == HOLDS
         kind = 'broken' if False in states else 'kept' if kept else 'edit'
-        note = {'broken': '✗ broken', 'kept': '✓ holds', 'edit': 'edit'}[kind]
+        unjudged = 'one step' if self.result.verdict == ONE_STEP else 'edit'
+        note = {'broken': '✗ broken', 'kept': '✓ holds', 'edit': unjudged}[kind]
         return self._add(Box(('edit', index), kind, title, note))
 
     def _old(self, box, net):

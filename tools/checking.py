@@ -1,20 +1,27 @@
 """From a design to its verdict: the verifier's script to a solver, and its reply back through the verifier."""
 import os
 import re
+import shlex
 import time
 from dataclasses import dataclass, replace
 
+import applied
 import core
 import design
 import hints
 import notation
 import solver
 from faults import FAULTS
-from verdict import BROKEN, HOLDS, LOOP, NOTHING_ASKED, REFUSED, SOLVER_WRONG, UNKNOWN, Obligation, Trit
+from verdict import (BROKEN, HOLDS, LOOP, NOTHING_ASKED, ONE_STEP, REFUSED, SOLVER_WRONG, UNKNOWN, Asked, Obligation,
+                     Trit)
 
 TRITS = '01X'
-# Of what two solvers tell, the first of these counts.
-GRAVITY = (SOLVER_WRONG, BROKEN, HOLDS, LOOP, UNKNOWN)
+# What is said after unsat.
+UNSAT = (HOLDS, ONE_STEP, LOOP)
+# Of what several solvers tell, the first of these counts: every one must answer, or any.
+EVERY, ANY = (SOLVER_WRONG, BROKEN, UNKNOWN, *UNSAT), (SOLVER_WRONG, BROKEN, *UNSAT, UNKNOWN)
+# Reasons that are told.
+MOST_REASONS = 5
 
 
 @dataclass
@@ -129,6 +136,18 @@ def in_mode(result):
     return f'{count(pairs, "pair")} of flip-flops {verb} judged by the new states alone, as mode 1 has it.'
 
 
+def reasons(result):
+    """Why the edits of a result do not stand when applied, with what to do instead; of many the first."""
+    told = [f'{one.sentence} {one.instead}' for one in result.reasons[:MOST_REASONS]]
+    left = len(result.reasons) - len(told)
+    return told + [f'{count(left, "more reason", "more reasons")} of this kind.'] * (left > 0)
+
+
+def answered(asked):
+    """What a solver answered, in a sentence."""
+    return f'{asked.name} answered {asked.answer}.' if asked.answer else f'{asked.name} gave no answer.'
+
+
 def _unasked(result):
     return [f"The edit '{text}' {reason}." for text, reason in design.without_obligation(result)]
 
@@ -136,9 +155,11 @@ def _unasked(result):
 class Checker:
     """Asks the verifier and one or more solvers."""
 
-    def __init__(self, verifier, commands, seconds, solvers, say=None):
-        """`commands` gives the solvers' commands, and is called only where something is asked."""
+    def __init__(self, verifier, commands, seconds, solvers, say=None, any_of=False):
+        """`commands` gives the solvers' commands, and is called only where something is asked; `any_of` says whether one
+        of them is enough."""
         self.verifier, self.commands, self.seconds, self.solvers = verifier, commands, seconds, solvers
+        self.gravity = ANY if any_of else EVERY
         self.say = say or (lambda sentence, passing=False: None)
 
     def check(self, result):
@@ -153,41 +174,49 @@ class Checker:
         return result
 
     def _ask(self, result, calls, recorded):
-        """Asks each solver, and takes the gravest of what they tell; what the others tell is added."""
+        """Asks each solver, and takes the gravest of what they tell; what the others answered is added."""
         told = []
         for parts in self.commands():
             one = replace(result, obligations=[replace(obligation) for obligation in result.obligations])
             one.solver = os.path.basename(parts[0])
+            one.solvers = [Asked(one.solver, shlex.join(parts), solver.version(parts[0]))]
             self._answer(one, calls, recorded, parts)
             told.append(one)
-        grave = min(told, key=lambda one: GRAVITY.index(one.verdict))
+        grave = min(told, key=lambda one: self.gravity.index(one.verdict))
         others = [one for one in told if one is not grave]
-        grave.sentences += [f'{one.solver} says {one.verdict}.' for one in others]
-        denied = [one.solver for one in others if one.verdict in (HOLDS, LOOP)]
+        grave.sentences += [answered(*one.solvers) for one in others]
+        denied = [one.solver for one in others if one.verdict in UNSAT]
         if grave.verdict == BROKEN and denied:
             grave.verdict = SOLVER_WRONG
             grave.sentences.insert(0, f'{" and ".join(denied)} answered unsat, but {grave.solver} has an example that '
                                    'breaks an obligation.')
-        vars(result).update(vars(grave))
+        elif grave.verdict == UNKNOWN and denied:
+            grave.sentences.append('Every solver that is asked must answer; with --any the answer of one is enough.')
+        vars(result).update(vars(grave), solvers=[asked for one in told for asked in one.solvers])
 
     def _answer(self, result, calls, recorded, parts):
         """Puts a solver's verdict into a result."""
         names = core.declared(result.script)
-        answer = self._question(result.solver, parts, result.script, recorded, names)
+        answer = self._question(result, parts, result.script, recorded, names)
+        asked = result.solvers[0]
         if answer.reply.late or answer.number:
+            asked.answer = 'unknown' if answer.number == 18 and not answer.reply.late else None
             self._unknown(result, answer.reply, answer.number, answer.value)
         elif answer.value == 0:
+            asked.answer = 'unsat'
             (self._holds if result.looped is False else self._loop)(result, result.solver)
         else:
+            asked.answer = 'sat'
             self._sat(result, calls, recorded, names, answer)
             if result.verdict == BROKEN and hints.undefined(result):
                 self._without_x(result, calls, recorded, names, parts)
 
-    def _question(self, name, parts, script, recorded, names):
+    def _question(self, result, parts, script, recorded, names):
         """Asks a script, and for the values of names besides; the reply goes through the verifier's reader."""
         own = f'(get-value ({" ".join(declared for declared, _ in names)}))\n' if names else ''
         reply = self.solvers.reply(parts, (script + own).encode(), self.seconds, lambda seconds: self.say(
-            f'{name} has been at work for {seconds:.0f} s', passing=True))
+            f'{result.solver} has been at work for {seconds:.0f} s', passing=True))
+        result.solvers[0].seconds += reply.seconds
         first, listed, rest = solver.parts_of(reply.text)
         number, value, read = self.verifier.answer(first + (listed if any(recorded) else b''), recorded)
         values = solver.values_of(rest if any(recorded) else listed) if names else {}
@@ -213,11 +242,16 @@ class Checker:
             result.sentences.append(f'It wrote: {said}')
 
     def _holds(self, result, name):
-        """The verdict of unsat without a current loop."""
-        result.verdict = HOLDS
-        edits = len({one.replacement for one in result.obligations})
-        result.sentences = [f'Every {design.choice(result)} keeps every obligation: {name} answered unsat.',
-                            f'Asked: {count(len(result.obligations), "obligation")}, of {count(edits, "edit")}.']
+        """The verdict of unsat without a current loop, by whether the edits stand when applied."""
+        applied.judge(self.verifier, result)
+        result.verdict, edits = ONE_STEP if result.reasons else HOLDS, len({one.replacement for one in result.obligations})
+        asked = f'Asked: {count(len(result.obligations), "obligation")}, of {count(edits, "edit")}.'
+        kept = f'Every {design.choice(result)} keeps every obligation'
+        if result.verdict == HOLDS:
+            result.sentences = [f'{kept}: {name} answered unsat.',
+                                'Applied, the edits make no loop, and each is read in time.', asked]
+        else:
+            result.sentences = [f'{kept}, for one step: {name} answered unsat.', *reasons(result), asked]
         result.sentences += _unasked(result)
 
     def _loop(self, result, name):
@@ -271,7 +305,7 @@ class Checker:
               and (name[0] == 'p' or int(name[1:-1]) in given)]
         defined = ''.join(f'(assert (= {name} #b0))\n' for name in xs)
         script = result.script.replace('(check-sat)\n', defined + '(check-sat)\n')
-        answer = self._question(result.solver, parts, script, recorded, names)
+        answer = self._question(result, parts, script, recorded, names)
         if answer.reply.late or answer.number:
             return
         result.two_valued = None if result.looped else answer.value == 0

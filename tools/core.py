@@ -4,7 +4,6 @@ from the proved archive.
 Every entry here asks the archive and lends the room that the archive says it needs; nothing is worked out in Python.
 """
 import ctypes
-import fcntl
 import glob
 import os
 import re
@@ -12,68 +11,13 @@ import shutil
 import struct
 import subprocess
 import sys
-import time
 import zlib
 
-ROOT = os.path.dirname(os.path.dirname(os.path.abspath(__file__)))
-FOLDER = os.path.join(ROOT, 'target', 'vm')
+import building
+from building import Unavailable
+
 # Call words that are lent at most: their script has some 16 bytes for each.
 MOST_WORDS = 2 ** 25
-
-
-class Unavailable(Exception):
-    """A sentence that says why the verifier cannot be asked."""
-
-
-def _newest():
-    """When a source of the archive was last changed."""
-    times = [os.path.getmtime(os.path.join(ROOT, 'crates.txt'))]
-    for folder, _, names in os.walk(os.path.join(ROOT, 'crates')):
-        times += [os.path.getmtime(os.path.join(folder, name)) for name in names]
-    return max(times)
-
-
-def _proved(archive, stamp):
-    """Whether the archive is there and no source has changed since its making began."""
-    return os.path.exists(archive) and os.path.exists(stamp) and _newest() < os.path.getmtime(stamp)
-
-
-def _prove(archive, stamp, say):
-    """Proves and writes the archive."""
-    if not shutil.which('rt'):
-        with open(os.path.join(ROOT, 'toolchain.txt')) as pinned:
-            kit = pinned.read().strip()
-        raise Unavailable("The proved archive is not built for these sources, and 'rt', the command of the Rattle kit "
-                          f'({kit}), is not on the PATH. Install the kit, or name the folder of a built archive in '
-                          'VIRGINALMIMAS_ARCHIVE.')
-    began, log = time.time(), os.path.join(FOLDER, 'staticlib.log')
-    say('proving the verifier and building its archive; the first time this takes some ten minutes on two cores')
-    with open(log, 'wb') as out:
-        running = subprocess.Popen(['rt', 'staticlib', 'virginalmimas'], cwd=ROOT, stdout=out, stderr=subprocess.STDOUT,
-                                   stdin=subprocess.DEVNULL)
-        try:
-            while running.poll() is None:
-                time.sleep(0.2)
-                say(f'proving the verifier, {time.time() - began:.0f} s: {_last_line(log)}', passing=True)
-        finally:
-            if running.poll() is None:
-                running.terminate()
-                running.wait()
-    if running.returncode != 0 or not os.path.exists(archive):
-        raise Unavailable(f'The archive was not built: rt staticlib ended with status {running.returncode}. '
-                          f'What it wrote is in {os.path.relpath(log)}.')
-    with open(stamp, 'w'):
-        pass
-    os.utime(stamp, (began, began))
-    say(f'proved and built in {time.time() - began:.0f} s')
-
-
-def _last_line(path):
-    """The end of what is written to a file so far, for a progress line."""
-    with open(path, 'rb') as file:
-        file.seek(max(0, os.path.getsize(path) - 400))
-        lines = file.read().decode(errors='replace').split('\n')
-    return next((line.strip()[:50] for line in reversed(lines[:-1]) if line.strip()), '')
 
 
 def _link(archive, library):
@@ -101,20 +45,12 @@ def _library(archive, folder):
 def _folders():
     """Where shared libraries are kept: in the repository, and in the user's own cache where that cannot be written."""
     cache = os.environ.get('XDG_CACHE_HOME') or os.path.join(os.path.expanduser('~'), '.cache')
-    return FOLDER, os.path.join(cache, 'virginalmimas')
+    return building.FOLDER, os.path.join(cache, 'virginalmimas')
 
 
 def _found(archive):
     """The shared library of an archive, None if it is still to be made."""
     return next((path for path in (_library(archive, folder) for folder in _folders()) if os.path.exists(path)), None)
-
-
-def _locked(folder, work):
-    """Does work in a folder, one process at a time."""
-    os.makedirs(folder, exist_ok=True)
-    with open(os.path.join(folder, 'lock'), 'w') as lock:
-        fcntl.flock(lock, fcntl.LOCK_EX)
-        return work()
 
 
 def _made(archive, folder):
@@ -126,18 +62,16 @@ def _made(archive, folder):
 
 def _loaded(say):
     """The path of the shared library, proved and made where it is missing or old."""
-    named, stamp = os.environ.get('VIRGINALMIMAS_ARCHIVE'), os.path.join(FOLDER, 'stamp')
-    archive = os.path.join(named or os.path.join(ROOT, 'target', 'staticlib'), 'libvirginalmimas.a')
+    named = os.environ.get('VIRGINALMIMAS_ARCHIVE')
+    archive = os.path.join(named, 'libvirginalmimas.a') if named else building.ARCHIVE
     if named and not os.path.exists(archive):
         raise Unavailable(f'VIRGINALMIMAS_ARCHIVE names a folder without libvirginalmimas.a: {named}.')
-    own, cache = _folders()
-    folder = own if os.access(own if os.path.isdir(own) else ROOT, os.W_OK) else cache
     try:
-        if not named and not _proved(archive, stamp):
-            if folder != own:
-                raise Unavailable(f'The proved archive is not built for these sources, but you cannot write in {ROOT}.')
-            _locked(own, lambda: _proved(archive, stamp) or _prove(archive, stamp, say))
-        return _found(archive) or _locked(folder, lambda: _made(archive, folder))
+        if not named:
+            building.build(say)
+        own, cache = _folders()
+        folder = own if os.access(own if os.path.isdir(own) else building.ROOT, os.W_OK) else cache
+        return _found(archive) or building.locked(folder, lambda: _made(archive, folder))
     except OSError as error:
         raise Unavailable(f'The shared library could not be made: {(error.strerror or "").lower()}: {error.filename}.')
 
@@ -261,18 +195,25 @@ def progress(name='vm'):
     """A `say` that writes to standard error; passing lines only on a terminal, each over the one before."""
     state = {'open': False}
 
+    def write(text):
+        try:
+            sys.stderr.write(text)
+            sys.stderr.flush()
+        except OSError:
+            pass
+
     def say(sentence, passing=False):
         if passing and not sys.stderr.isatty():
             return
-        over = '\r\x1b[K' if sys.stderr.isatty() else ''
-        sys.stderr.write(f'{over}{name}: {sentence}' + ('' if passing else '.\n'))
-        sys.stderr.flush()
+        line = f'{name}: {sentence}'
+        if passing:
+            line = line[:shutil.get_terminal_size().columns - 1]
+        write(('\r\x1b[K' if sys.stderr.isatty() else '') + line + ('' if passing else '.\n'))
         state['open'] = passing
 
     def close():
         if state['open']:
-            sys.stderr.write('\r\x1b[K')
-            sys.stderr.flush()
+            write('\r\x1b[K')
             state['open'] = False
 
     say.close = close

@@ -124,9 +124,9 @@ def choice(result):
     return 'choice of the sources' + ', alike on joined flip-flops,' * (joined(result) > 0)
 
 
-def loop_text(result):
-    """The current loop of a result in words; of a long one the first reads, and how many more there are."""
-    names = [result.cell_text(slot) for slot in result.loop]
+def loop_text(result, loop=None):
+    """The current loop of a result, or another, in words; of a long one the first reads, and how many more there are."""
+    names = [result.cell_text(slot) for slot in loop or result.loop]
     if len(names) == 1:
         return f'{names[0]} reads itself'
     reads = [f'{one} reads {other}' for one, other in zip(names, names[1:] + names[:1])]

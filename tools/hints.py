@@ -3,7 +3,7 @@ import glob
 import os
 
 import design
-from verdict import BROKEN, HOLDS, INDUCTIVE, LOOP
+from verdict import BROKEN, LOOP, ONE_STEP
 
 GIVEN = ('Input', 'IoBuf')
 
@@ -69,8 +69,8 @@ def of(result, root):
         found.append(('A flip-flop replaced by another is held to its old state too, and only this fails; --mode 1 '
                       'does not ask it.', 'e'))
     found += [(_ages(result, index) + '.', 'e') for index in twins if index in later][:1]
-    if later and result.verdict == HOLDS and result.mode == INDUCTIVE:
-        found.append((_ages(result, later[0]) + '; mode 1 does not ask whether that is the same.', 'e'))
+    if result.verdict == ONE_STEP:
+        found.append(('A verdict judges one step, with the edits pending. The netlist is run with the edits applied.', 'i'))
     if result.verdict == LOOP:
         found.append(('With a loop a wrong edit may get unsat too.', '04'))
     elif result.looped:

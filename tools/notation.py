@@ -255,8 +255,9 @@ def word_text(found, names=None):
     return f'kind{kind}:{payload}'
 
 
-def _count(found):
-    return (found & LAST) // 32
+def count(head):
+    """The count of words that follow a head."""
+    return (head & LAST) // 32
 
 
 def records(words):
@@ -267,7 +268,7 @@ def records(words):
     while at < len(words):
         head = at + (words[at] >> 29 == NUMBER)
         if head < len(words) and words[head] >> 29 == HEAD:
-            end = head + 1 + _count(words[head])
+            end = head + 1 + count(words[head])
         else:
             end = at + 2
         yield at, min(end, len(words))
@@ -278,7 +279,7 @@ def record_tokens(words, start, end, names=None):
     """The tokens of the words from a record's start to its end, a count left out where it is the record's own."""
     tokens = [word_text(found, names) for found in words[start:end]]
     for at in range(start, min(start + 2, end)):
-        if start >= 4 and words[at] >> 29 == HEAD and at + 1 + _count(words[at]) == end:
+        if start >= 4 and words[at] >> 29 == HEAD and at + 1 + count(words[at]) == end:
             tokens[at - start] = _operation_text(words[at])
     return tokens
 

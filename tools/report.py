@@ -6,13 +6,15 @@ import boxes
 import design
 import drawing
 import notation
-from verdict import BROKEN, HOLDS, LOOP, NOTHING_ASKED, REFUSED, SOLVER_WRONG, UNKNOWN
+from verdict import BROKEN, HOLDS, LOOP, NOTHING_ASKED, ONE_STEP, REFUSED, SOLVER_WRONG, UNKNOWN
 
 # Each verdict has a class and a shape of its own: colour is never the only sign.
-CLASSES = {HOLDS: 'holds', LOOP: 'looped', BROKEN: 'broken', NOTHING_ASKED: 'nothing', REFUSED: 'refused',
-           UNKNOWN: 'unknown', SOLVER_WRONG: 'wrong'}
+CLASSES = {HOLDS: 'holds', ONE_STEP: 'once', LOOP: 'looped', BROKEN: 'broken', NOTHING_ASKED: 'nothing',
+           REFUSED: 'refused', UNKNOWN: 'unknown', SOLVER_WRONG: 'wrong'}
 SHAPES = {
     HOLDS: '<circle cx="32" cy="32" r="27"/><path d="M18 33 L28 43 L46 22"/>',
+    ONE_STEP: '<path d="M5 57 V43 H24 V29"/><path d="M24 29 H43 V15 H59 V57 H5" stroke-dasharray="4 8"/>'
+              '<path d="M9 31 L13 35 L20 25"/>',
     LOOP: '<circle cx="32" cy="32" r="27" stroke-dasharray="7 7.1"/>'
           '<path d="M42 22 A14 14 0 1 0 46 34 M46 14 V24 H36"/>',
     BROKEN: '<path d="M21 5 H43 L59 21 V43 L43 59 H21 L5 43 V21 Z"/><path d="M21 21 L43 43 M43 21 L21 43"/>',
@@ -190,7 +192,7 @@ def _table(title, heads, rows):
 def _obligations(result):
     if not result.obligations:
         return ''
-    unjudged = {HOLDS: '✓ no case breaks it', LOOP: 'with a loop, nothing is shown'}
+    unjudged = {HOLDS: '✓ no case breaks it', ONE_STEP: 'kept for one step', LOOP: 'with a loop, nothing is shown'}
     states = {True: ('kept', '✓ holds in the example'), False: ('broken', '✗ broken in the example'),
               None: ('', unjudged.get(result.verdict, 'not judged'))}
     example = any(each.shown for each in result.obligations)
@@ -242,8 +244,7 @@ def _script(result):
 
 def _footer(result):
     parts = [_many(number, name[:-1]) for name, number in result.counts.items()]
-    if result.solver:
-        parts.append(f'solver {result.solver}')
+    parts += [f'solver {asked.version or asked.name}: {asked.answer or "no answer"}' for asked in result.solvers]
     if result.seconds is not None:
         parts.append(f'{result.seconds:.2f} s')
     return f'<footer>{escape(", ".join(parts))}.</footer>' if parts else ''

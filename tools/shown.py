@@ -1,15 +1,17 @@
 """Results as text on a terminal, and as JSON."""
 import dataclasses
 import os
+import shutil
+import textwrap
 
 import design
 import faults
 import notation
 import source
-from verdict import BROKEN, HOLDS, LOOP, NOT_CHECKED, NOTHING_ASKED, REFUSED, SOLVER_WRONG, UNKNOWN
+from verdict import BROKEN, HOLDS, LOOP, NOT_CHECKED, NOTHING_ASKED, ONE_STEP, REFUSED, SOLVER_WRONG, UNKNOWN
 
 COLOURS = {HOLDS: '1;32', BROKEN: '1;31', REFUSED: '1;35', NOTHING_ASKED: '1;33', UNKNOWN: '1;36',
-           SOLVER_WRONG: '1;37;41', NOT_CHECKED: '1;34', LOOP: '1;30;43'}
+           SOLVER_WRONG: '1;37;41', NOT_CHECKED: '1;34', LOOP: '1;30;43', ONE_STEP: '1;30;46'}
 
 
 # Rows of a table of cells; of obligations half as many.
@@ -25,11 +27,39 @@ def paint(verdict, colours):
     return f'\x1b[{COLOURS[verdict]}m{verdict}\x1b[0m' if colours else verdict
 
 
-def table(rows, indent='  '):
-    """Rows of texts in columns; the last column is as long as it is."""
+def columns(stream):
+    """The columns that lines are broken at: a terminal's, or what COLUMNS says; None elsewhere, where they are whole."""
+    said = os.environ.get('COLUMNS', '')
+    if not stream.isatty() and not (said.isdecimal() and int(said)):
+        return None
+    return max(24, shutil.get_terminal_size().columns)
+
+
+def wrapped(text, width, indent='', hanging=None):
+    """A text in lines of at most a width, broken between words; in one line where there is no width."""
+    if width is None:
+        return [(indent + text).rstrip()]
+    return textwrap.wrap(text, width, initial_indent=indent, subsequent_indent=indent if hanging is None else hanging,
+                         break_long_words=False, break_on_hyphens=False) or [indent.rstrip()]
+
+
+def rows_of(rows, indent='  ', width=None):
+    """The lines of each row of a table; the last column is as long as it is, and is broken at a width."""
     rows = [[str(part) for part in row] for row in rows]
-    widths = [max(len(row[at]) for row in rows) for at in range(len(rows[0]))] if rows else []
-    return [(indent + '  '.join(part.ljust(width) for part, width in zip(row, widths))).rstrip() for row in rows]
+    widths = [max(len(row[at]) for row in rows) for at in range(len(rows[0]) - 1)] if rows else []
+    made = []
+    for row in rows:
+        start = indent + ''.join(part.ljust(most) + '  ' for part, most in zip(row, widths))
+        if width and width - len(start) < 20:
+            made.append([start.rstrip()] + wrapped(row[-1], width, indent + '    '))
+        else:
+            made.append(wrapped(row[-1], width, start, ' ' * len(start)))
+    return made
+
+
+def table(rows, indent='  ', width=None):
+    """Rows of texts in columns."""
+    return [line for lines in rows_of(rows, indent, width) for line in lines]
 
 
 def run_of(cell):
@@ -64,7 +94,7 @@ def near(result, most):
     return [kept[slot] for slot in sorted(kept)]
 
 
-def example(result, all_of_it=False):
+def example(result, all_of_it=False, width=None):
     """The table of cells with their trits, highest first; of a large design the part where an obligation is false."""
     few = all_of_it or len(result.cells) <= MOST_ROWS
     cells = result.cells if few else near(result, MOST_ROWS)
@@ -74,9 +104,12 @@ def example(result, all_of_it=False):
     for cell in cells:
         trits = [result.trits.get(slot) for slot in reversed(range(cell.slot, cell.slot + max(1, cell.width)))]
         if any(trits):
-            rows.append([run_of(cell), cut(label(result, cell))]
+            rows.append([run_of(cell), label(result, cell)]
                         + [''.join(getattr(trit, age, None) or '-' for trit in trits) for age in ages]
                         + [hidden(trits, ages)] * under)
+    beside = sum(2 + max(len(row[at]) for row in rows) for at in range(len(rows[0])) if at != 1)
+    for row in rows:
+        row[1] = cut(row[1], min(60, max(12, width - 2 - beside)) if width else 60)
     left = len(result.cells) - len(cells)
     return table(rows) + [f'  {left} more cells; --all shows them'] * (left > 0)
 
@@ -91,54 +124,59 @@ def hidden(trits, ages):
     return ', '.join(texts)
 
 
-def obligations(result, all_of_it=False):
+def obligations(result, all_of_it=False, width=None):
     """The obligations with their states, the false ones first; of many, some."""
-    states = {True: 'true', False: 'FALSE', None: 'holds' if result.verdict == HOLDS else 'asked'}
+    unjudged = {HOLDS: 'holds', ONE_STEP: 'one step'}.get(result.verdict, 'asked')
+    states = {True: 'true', False: 'FALSE', None: unjudged}
     found = sorted(result.obligations, key=lambda one: one.state is not False)
     kept = found if all_of_it else found[:MOST_ROWS // 2]
     rows = [[states[one.state], one.edit + (f': {one.shown}' if one.shown and one.state is False else '')]
             for one in kept]
     left = [states[one.state] for one in found[len(kept):]]
     more = ' and '.join(f"{left.count(state)} more of '{state}'" for state in dict.fromkeys(left))
-    return table(rows) + [f'  {more}; --all shows them'] * (more != '')
+    return table(rows, width=width) + [f'  {more}; --all shows them'] * (more != '')
 
 
-def fault(result):
+def fault(result, width=None):
     """Where the fault of a refused list stands, with carets."""
+    most = max(20, width - 4) if width else 100
     if result.text is not None:
-        lines = source.caret(result.text, result.line, result.column)
+        lines = source.caret(result.text, result.line, result.column, min(100, most))
         where = f'line {result.line}, column {result.column}'
     else:
-        lines, where = _in_words(result.words, result.place), 'the list'
+        lines, where = _in_words(result.words, result.place, min(100, most)), 'the list'
     last = ', past the last' if result.place >= len(result.words) else ''
     return [f'  {where}, word {result.place}{last}:', ''] + ['    ' + line for line in lines]
 
 
-def _in_words(words, place):
+def _in_words(words, place, most):
     """The record that holds a word, in notation, with carets under it."""
     spans = list(notation.records(words)) or [(0, 0)]
     start, end = next((span for span in spans if span[0] <= place < span[1]), spans[-1])
     tokens = notation.record_tokens(words, start, end)
     before = ' '.join(tokens[:place - start]) + ' ' * (place > start)
     size = len(tokens[place - start]) if place < end else 1
-    cutting = max(0, len(before) - 60)
-    return [(' '.join(tokens) + ' ')[cutting:cutting + 100], ' ' * (len(before) - cutting) + '^' * size]
+    cutting = max(0, len(before) - most * 3 // 5)
+    return [(' '.join(tokens) + ' ')[cutting:cutting + most], ' ' * (len(before) - cutting) + '^' * size]
 
 
-def whole(result, colours, all_of_it=False):
+def whole(result, colours, all_of_it=False, width=None):
     """A result in full; of long lists a part, unless all of it is asked for."""
-    lines = [f'{paint(result.verdict, colours)}  {result.title}', '']
-    lines += ['  ' + sentence for sentence in result.sentences]
+    lines = wrapped(f'{result.verdict}  {result.title}', width, hanging='  ')
+    lines[0] = paint(result.verdict, colours) + lines[0][len(result.verdict):]
+    lines.append('')
+    for sentence in result.sentences:
+        lines += wrapped(sentence, width, '  ')
     if result.verdict == REFUSED:
-        lines += [''] + fault(result)
+        lines += [''] + fault(result, width)
     if result.obligations:
-        lines += [''] + obligations(result, all_of_it)
+        lines += [''] + obligations(result, all_of_it, width)
     if result.verdict in (BROKEN, SOLVER_WRONG) and result.trits:
-        lines += [''] + example(result, all_of_it)
+        lines += [''] + example(result, all_of_it, width)
     if result.hints:
         lines.append('')
         for sentence, page in result.hints:
-            lines += [f'  Hint: {sentence}'] + [f'        See {page}.'] * (page is not None)
+            lines += wrapped(f'Hint: {sentence}', width, '  ', ' ' * 8) + [f'        See {page}.'] * (page is not None)
     return '\n'.join(lines)
 
 
@@ -152,13 +190,17 @@ def short(result):
         return f'{false} of {asked} obligations false'
     if result.verdict in (HOLDS, NOTHING_ASKED):
         return f'{asked} obligation' + 's' * (asked != 1)
+    if result.verdict == ONE_STEP:
+        return result.reasons[0].sentence
     return (where[2:] + ': ' if where else '') + result.sentences[0]
 
 
-def many(results, colours):
+def many(results, colours, width=None):
     """A table of results, and how many designs there are of each verdict."""
-    rows = table([[result.verdict, result.title, short(result)] for result in results], '')
-    lines = [paint(result.verdict, colours) + line[len(result.verdict):] for result, line in zip(results, rows)]
+    lines = []
+    for result, (first, *rest) in zip(results, rows_of([[result.verdict, result.title, short(result)]
+                                                        for result in results], '', width)):
+        lines += [paint(result.verdict, colours) + first[len(result.verdict):], *rest]
     found = [result.verdict for result in results]
     parts = [f'{found.count(verdict)} {paint(verdict, colours)}' for verdict in COLOURS if verdict in found]
     mode = next((f', {result.in_mode}' for result in results if result.in_mode), '')
@@ -167,10 +209,11 @@ def many(results, colours):
 
 def as_json(result):
     """A result for scripts."""
-    keep = ('source', 'verdict', 'status', 'loop', 'looped', 'two_valued', 'sentences', 'hints', 'fault', 'place',
-            'line', 'column', 'counts', 'solver', 'seconds', 'mode')
+    keep = ('source', 'verdict', 'status', 'loop', 'looped', 'applied', 'timely', 'two_valued', 'sentences', 'hints', 'fault',
+            'place', 'line', 'column', 'counts', 'solver', 'seconds', 'mode')
     found = {key: getattr(result, key) for key in keep}
-    found['obligations'] = [dataclasses.asdict(one) for one in result.obligations]
+    for key in ('reasons', 'solvers', 'obligations'):
+        found[key] = [dataclasses.asdict(one) for one in getattr(result, key)]
     found['trits'] = {result.slot_text(slot): dataclasses.asdict(trit) for slot, trit in sorted(result.trits.items())}
     return found
 
@@ -213,7 +256,8 @@ def listing(result):
             for text, comment in zip(texts, comments(result, spans))]
 
 
-def explained(number):
+def explained(number, width=None):
     """A fault in two sentences, with the smallest list that has it."""
     first, second, listed = faults.EXPLAINED[number]
-    return f'Fault {number}: {faults.FAULTS[number]}.\n  {first}\n  {second}\n\n    {listed}'
+    lines = wrapped(f'Fault {number}: {faults.FAULTS[number]}.', width, hanging='  ')
+    return '\n'.join(lines + wrapped(first, width, '  ') + wrapped(second, width, '  ') + ['', f'    {listed}'])

@@ -1,4 +1,5 @@
 """SMT-LIB solvers as commands: which are there, what one replies to a script, and the values in its reply."""
+import functools
 import os
 import re
 import shlex
@@ -8,10 +9,13 @@ import subprocess
 import tempfile
 import threading
 import time
+from contextlib import contextmanager
 from dataclasses import dataclass
 
 # A solver's command; the name of a script comes after it.
 KNOWN = {'z3': ['z3', '-smt2'], 'cvc5': ['cvc5', '--lang=smt2']}
+# Solvers that tell their version when asked with --version; other commands may do anything then.
+VERSIONED = ('z3', 'cvc5', 'cvc4', 'bitwuzla', 'boolector', 'yices-smt2')
 MISSING = 'No solver is on the PATH. Install one (apt-get install z3, or cvc5), or name a command with --solver.'
 
 
@@ -25,6 +29,7 @@ class Reply:
     status: int          # of the solver's process; below 0 the signal that ended it
     late: bool           # it was stopped at the time limit
     errors: str          # what it wrote to standard error
+    seconds: float       # how long it took
 
 
 def command(asked=None):
@@ -45,6 +50,36 @@ def command(asked=None):
     return parts
 
 
+@functools.lru_cache(maxsize=None)
+def version(command):
+    """The first line that a known solver tells of itself, None of other commands."""
+    if os.path.basename(command) not in VERSIONED:
+        return None
+    try:
+        told = subprocess.run([command, '--version'], stdin=subprocess.DEVNULL, stdout=subprocess.PIPE,
+                              stderr=subprocess.DEVNULL, timeout=5).stdout.decode(errors='replace')
+    except (OSError, subprocess.TimeoutExpired):
+        return None
+    return told.strip().partition('\n')[0] or None
+
+
+@contextmanager
+def _stored(script):
+    """The name of a file that holds a script meanwhile."""
+    try:
+        file = tempfile.NamedTemporaryFile(prefix='vm-', suffix='.smt2', buffering=0)
+    except OSError as error:
+        raise NoSolver(f'There is no temporary folder to put the script into: {(error.strerror or str(error)).lower()}.')
+    with file:
+        left = memoryview(script)
+        try:
+            while left:
+                left = left[file.write(left):]
+        except OSError as error:
+            raise NoSolver(f'The script cannot be put into {file.name}: {(error.strerror or str(error)).lower()}.')
+        yield file.name
+
+
 class Solvers:
     """The solver processes that run, so that all of them can be stopped."""
 
@@ -59,16 +94,21 @@ class Solvers:
 
     def reply(self, parts, script, seconds, tick=lambda seconds: None):
         """What a solver replies to a script within a time, None for any; `tick` is told of each half second."""
-        with tempfile.NamedTemporaryFile(prefix='vm-', suffix='.smt2') as file:
-            file.write(script)
-            file.flush()
-            with self.lock:
-                if self.stopped:
-                    raise KeyboardInterrupt
-                process = subprocess.Popen(parts + [file.name], stdin=subprocess.DEVNULL, stdout=subprocess.PIPE,
+        with _stored(script) as name:
+            return self._read(self._started(parts + [name]), seconds, tick)
+
+    def _started(self, parts):
+        """A solver's process, in a process group of its own."""
+        with self.lock:
+            if self.stopped:
+                raise KeyboardInterrupt
+            try:
+                process = subprocess.Popen(parts, stdin=subprocess.DEVNULL, stdout=subprocess.PIPE,
                                            stderr=subprocess.PIPE, start_new_session=True)
-                self.running.add(process)
-            return self._read(process, seconds, tick)
+            except OSError as error:
+                raise NoSolver(f"The command '{parts[0]}' cannot be started: {(error.strerror or str(error)).lower()}.")
+            self.running.add(process)
+            return process
 
     def _read(self, process, seconds, tick):
         began, late, text = time.time(), False, None
@@ -83,19 +123,18 @@ class Solvers:
                         late = True
                         _end(process)
         finally:
+            _end(process)
             with self.lock:
                 self.running.discard(process)
-            _end(process)
-        return Reply(text, process.returncode, late, errors.decode(errors='replace').strip())
+        return Reply(text, process.returncode, late, errors.decode(errors='replace').strip(), time.time() - began)
 
 
 def _end(process):
-    """Ends a solver and what it started, if it still runs."""
-    if process.poll() is None:
-        try:
-            os.killpg(process.pid, signal.SIGKILL)
-        except ProcessLookupError:
-            pass
+    """Ends a solver and what it started, as far as they still run."""
+    try:
+        os.killpg(process.pid, signal.SIGKILL)
+    except (ProcessLookupError, PermissionError):
+        pass
 
 
 def parts_of(text):

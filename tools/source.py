@@ -1,6 +1,7 @@
 """Designs in files: document 01's notation, or little-endian words."""
 import os
 import re
+import stat
 import struct
 import sys
 
@@ -8,6 +9,7 @@ import notation
 from verdict import PORTED, Result
 
 MOST_BYTES = 2 ** 24
+LONG = f'The file has more than {MOST_BYTES:,} bytes, and a design has at most 16,384 words.'
 ENDINGS = ('.txt', '.words')
 # In a directory, the verdicts that its designs should have; no design.
 EXPECTED = 'expected.txt'
@@ -45,6 +47,8 @@ def _bytes(path):
         with open(path, 'rb') as file:
             return file.read(MOST_BYTES + 1)
     except IsADirectoryError:
+        if not _designs(path):
+            raise BadSource(path, f'No file of this directory ends in {" or ".join(ENDINGS)}.')
         raise BadSource(path, 'This is a directory. `vm check` takes directories; the other commands take a file.')
     except FileNotFoundError:
         raise BadSource(path, 'There is no such file.')
@@ -60,6 +64,8 @@ def _text(path, content):
         raise BadSource(path, 'This text is in UTF-16. Save it as UTF-8 or ASCII.')
     if b'\0' in content:
         return None
+    if len(content) > MOST_BYTES:
+        raise BadSource(path, LONG)
     try:
         return content.decode('utf-8-sig').replace('\r\n', '\n').replace('\r', '\n')
     except UnicodeDecodeError as error:
@@ -67,40 +73,59 @@ def _text(path, content):
                         'text, and words would have zero bytes.')
 
 
-def read(path, mode=PORTED):
-    """The design of a file, as the beginning of a result in a mode."""
-    content = _bytes(path)
-    result = Result(path, mode=mode)
-    if len(content) > MOST_BYTES:
-        raise BadSource(path, f'The file has more than {MOST_BYTES:,} bytes, and a design has at most 16,384 words.')
-    result.text = _text(path, content)
-    if result.text is None:
-        if len(content) % 4:
-            raise BadSource(path, f'The list ends in the middle of a word: the file has {len(content):,} bytes, and a '
-                            'word has four.')
-        result.words = list(struct.unpack(f'<{len(content) // 4}I', content))
-        return result
+def content(path):
+    """What a file holds, and its text, None where it holds words; of a very long file the beginning of its words."""
+    found = _bytes(path)
+    return found, _text(path, found)
+
+
+def parsed(path, text):
+    """The words of a text, for each its line and column, and the names of slots."""
     try:
-        result.words, result.places, result.names = notation.parse_named(result.text)
+        return notation.parse_named(text)
     except notation.NotWord as error:
         sentence = printable(error.reason) + ('' if error.reason.endswith('?') else '.')
-        raise BadSource(path, sentence, error.line, error.column, caret(result.text, error.line, error.column))
+        raise BadSource(path, sentence, error.line, error.column, caret(text, error.line, error.column))
+
+
+def read(path, mode=PORTED):
+    """The design of a file, as the beginning of a result in a mode."""
+    result = Result(path, mode=mode)
+    found, result.text = content(path)
+    if result.text is not None:
+        result.words, result.places, result.names = parsed(path, result.text)
+    elif len(found) > MOST_BYTES:
+        raise BadSource(path, LONG)
+    elif len(found) % 4:
+        raise BadSource(path, f'The list ends in the middle of a word: the file has {len(found):,} bytes, and a word has '
+                        'four.')
+    else:
+        result.words = list(struct.unpack(f'<{len(found) // 4}I', found))
     return result
 
 
+def _designs(folder):
+    """The designs of a directory: the files in and below it that end in ENDINGS."""
+    found = []
+    for inside, folders, names in os.walk(folder):
+        folders[:] = sorted(name for name in folders if not name.startswith('.'))
+        found += [os.path.join(inside, name) for name in sorted(names)
+                  if name.endswith(ENDINGS) and name != EXPECTED and not name.startswith('.')]
+    return found
+
+
 def files(paths):
-    """The designs that are named: files as they are, and of directories the files in and below that end in ENDINGS."""
+    """The designs that are named: files as they are, and those of directories; one without any stays, and has none."""
     found = []
     for path in paths:
-        if path == '-' or not os.path.isdir(path):
-            found.append(path)
-            continue
-        inside = []
-        for folder, folders, names in os.walk(path):
-            folders[:] = sorted(name for name in folders if not name.startswith('.'))
-            inside += [os.path.join(folder, name) for name in sorted(names)
-                       if name.endswith(ENDINGS) and name != EXPECTED and not name.startswith('.')]
-        if not inside:
-            raise BadSource(path, f'No file of this directory ends in {" or ".join(ENDINGS)}.')
-        found += inside
+        found += _designs(path) or [path] if path != '-' and os.path.isdir(path) else [path]
     return found
+
+
+def same_file(path, design):
+    """Whether a path names the very file that a design was read from."""
+    try:
+        taken = os.fstat(sys.stdin.fileno()) if design == '-' else os.stat(design)
+        return stat.S_ISREG(taken.st_mode) and os.path.samestat(taken, os.stat(path))
+    except (OSError, ValueError):
+        return False

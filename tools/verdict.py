@@ -1,13 +1,14 @@
 """What `vm` finds out about a design: a Result, which the terminal's text, `--json` and the report are made from."""
 from dataclasses import dataclass, field
 
-REFUSED, NOTHING_ASKED, HOLDS, LOOP, BROKEN, UNKNOWN, SOLVER_WRONG = (
-    'REFUSED', 'NOTHING ASKED', 'HOLDS', 'LOOP', 'BROKEN', 'UNKNOWN', 'SOLVER WRONG')
+REFUSED, NOTHING_ASKED, HOLDS, ONE_STEP, LOOP, BROKEN, UNKNOWN, SOLVER_WRONG = (
+    'REFUSED', 'NOTHING ASKED', 'HOLDS', 'HOLDS FOR ONE STEP', 'LOOP', 'BROKEN', 'UNKNOWN', 'SOLVER WRONG')
 # No verdict: the design could not be read, or the verifier or a solver could not be asked.
 NOT_CHECKED = 'NOT CHECKED'
-STATUS = {HOLDS: 0, REFUSED: 1, NOT_CHECKED: 2, NOTHING_ASKED: 3, BROKEN: 4, UNKNOWN: 5, SOLVER_WRONG: 6, LOOP: 7}
+STATUS = {HOLDS: 0, REFUSED: 1, NOT_CHECKED: 2, NOTHING_ASKED: 3, BROKEN: 4, UNKNOWN: 5, SOLVER_WRONG: 6, LOOP: 7,
+          ONE_STEP: 8}
 # From the best to the worst.
-STATUS_ORDER = [0, 3, 7, 5, 2, 1, 4, 6]
+STATUS_ORDER = [0, 3, 7, 8, 5, 2, 1, 4, 6]
 # The modes by their numbers: how a flip-flop's net that is replaced by a flip-flop's is judged.
 PORTED, INDUCTIVE = 0, 1
 MODES = ('ported', 'inductive')
@@ -79,6 +80,26 @@ class Trit:
 
 
 @dataclass
+class Reason:
+    """Why edits that hold for one step may not stand when applied."""
+    condition: str        # 'circle', 'a', 'b', 'c' or 'd' as in docs/UNSAT.md, 'loop', or 'length' where it is not known
+    edits: list           # the indexes in Result.replacements of the edits that it is about
+    place: int            # the word of the list where the first of them begins, or the cell that no edit replaces
+    sentence: str         # with the edits' texts
+    instead: str          # what to do instead
+
+
+@dataclass
+class Asked:
+    """A solver that was asked, and what it answered."""
+    name: str
+    command: str
+    version: str = None   # the first line that it tells of itself, where it is known how to ask it
+    answer: str = None    # 'unsat', 'sat' or 'unknown'; None where there is no answer that can be read
+    seconds: float = 0.0  # how long it took, for all that it was asked
+
+
+@dataclass
 class Result:
     source: str                                   # the file, or '-'
     words: list = field(default_factory=list)
@@ -92,6 +113,9 @@ class Result:
     owners: dict = field(default_factory=dict)    # slot -> Cell; design.owners fills it
     verdict: str = None
     loop: list = None                             # the first slots of a current loop, [] if none; None if refused
+    applied: bool = None                          # after unsat: whether the applied edits end, and make no current loop
+    timely: bool = None                           # and whether each is read in time: conditions (a) to (d)
+    reasons: list = field(default_factory=list)   # Reasons, of HOLDS FOR ONE STEP
     sentences: list = field(default_factory=list)  # what the verdict says, whole sentences
     two_valued: bool = None                       # of BROKEN by an X, no loop: whether the edits hold with no source X
     hints: list = field(default_factory=list)     # (sentence, the course's page on it or None)
@@ -103,7 +127,8 @@ class Result:
     trits: dict = field(default_factory=dict)     # slot -> Trit, of BROKEN
     script: str = None
     counts: dict = field(default_factory=dict)    # 'slots', 'terms', 'temporaries', 'words', 'edits', 'obligations'
-    solver: str = None                            # the solver's name, where one was asked
+    solver: str = None                            # the name of the solver whose answer the verdict rests on
+    solvers: list = field(default_factory=list)   # every solver that was asked: Asked
     seconds: float = None                         # how long it took
     mode: int = PORTED                            # the mode in which it is verified
 

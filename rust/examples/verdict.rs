@@ -1,4 +1,5 @@
-//! From a design list to a verdict: little-endian words from a file, the script to a solver, its reply read back.
+//! From a design list to a verdict on one step: little-endian words from a file, the script to a solver, its reply read
+//! back. Whether edits that hold for one step stand when they are applied is told by `vm check` (docs/UNSAT.md).
 //!
 //!     cargo run --example verdict -- FILE [SOLVER [ARGUMENT ..]]      the solver is `z3 -in` if none is named
 
@@ -24,7 +25,15 @@ fn main() -> ExitCode {
         solver = ["z3", "-in"].map(String::from).to_vec();
     }
     let bytes = std::fs::read(&file).expect("a readable file");
-    let list = bytes.chunks_exact(4).map(|word| u32::from_le_bytes(word.try_into().unwrap())).collect::<Vec<_>>();
+    let mut list = bytes.chunks_exact(4).map(|word| u32::from_le_bytes(word.try_into().unwrap())).collect::<Vec<_>>();
+    if bytes.len() % 4 != 0 {
+        // A broken last word; past 16,384 words the list is refused as too long.
+        if list.len() < 16384 {
+            println!("{:?}", Read::Refused { number: 1, place: list.len() });
+            return ExitCode::from(1);
+        }
+        list.push(0);
+    }
 
     let Read::Accepted { slots } = read(&list) else {
         println!("{:?}", read(&list));
@@ -55,7 +64,9 @@ fn main() -> ExitCode {
 
     let mut trits = vec![3; slots];
     match answer(&reply, &recorded, &mut trits) {
-        Answer::Unsat if looped.is_empty() => println!("holds: the edits keep the behaviour"),
+        Answer::Unsat if looped.is_empty() => {
+            println!("holds for one step: every choice of the sources keeps every obligation")
+        }
         Answer::Unsat => {
             print!("loop");
             looped.iter().for_each(|slot| print!(" s{slot}"));
