@@ -2,9 +2,11 @@
 # Random accepted designs through z3 and cvc5: no error line, both agree, every reply reads back, the evaluator confirms
 # every example, working out from an example's sources gives the example, and where sources are few the verdict is that
 # of trying all of them; a current loop is found exactly where working out ends early, and the order of the nodes, or the
-# loop that is named, is that of document 02. All this in both modes where flip-flops are joined; elsewhere the calls of
-# the modes are the same. Before them, divisions of constants give what working out does; after them come as many designs
-# with merged flip-flops, and five times as many with many loops, of which the order alone is asked.
+# loop that is named, is that of document 02. Edits that keep every obligation HOLD exactly where they stand when applied by
+# a second rendering; then the design and its applied netlist are run side by side, and do not part. All this in both modes
+# where flip-flops are joined; elsewhere the calls of the modes are the same. Before them, divisions of constants give what
+# working out does; after them come as many designs with merged flip-flops, and five times as many with many loops, of
+# which the order alone is asked.
 #
 #   tests/vm_solvers.py [COUNT [SEED]]      1,000 designs from seed 1
 import itertools, os, random, sys, time
@@ -17,10 +19,12 @@ import core
 import design
 import notation
 import solver
-from verdict import BROKEN, HOLDS, INDUCTIVE, LOOP, NOTHING_ASKED, PORTED, Result
+import vm_applied
+from verdict import BROKEN, HOLDS, INDUCTIVE, LOOP, NOTHING_ASKED, ONE_STEP, PORTED, Result
 from vm_working_out import DIVISIONS, Design, divide
 
 FEW = 3 ** 6
+RUNS, STEPS = 20, 12   # of a design beside its applied netlist
 CONSTANT_RUNS = ('clear value', 'reset value')
 CONTROLS = ('clock', 'clear', 'reset', 'enable')
 
@@ -325,7 +329,7 @@ def main(count=1000, seed=1):
         results = [checker.check(Result(what, words=words)) for checker in checkers]
         judge(what, results, held)
         ordered(what, results[0], verifier, held)
-    print(f'solvers: {held["HOLDS"]} designs of divided constants hold')
+    print(f'solvers: {held[ONE_STEP]} designs of divided constants, replaced in a circle, hold for one step')
     for maker, what in ((Maker, 'designs'), (Twins, 'designs with merged flip-flops')):
         tallies, began = ({}, {}), time.time()
         for at in range(seed, seed + count):
@@ -358,7 +362,7 @@ def in_both_modes(what, words, checkers, tallies):
     inductive = [checker.check(Result(what, words=words, mode=INDUCTIVE)) for checker in checkers]
     judge(what, inductive, tallies[INDUCTIVE])
     told = ported[0].verdict, inductive[0].verdict
-    if told[0] in (HOLDS, LOOP) and told[1] == BROKEN:
+    if told[0] in (HOLDS, ONE_STEP, LOOP) and told[1] == BROKEN:
         raise SystemExit(f'{what}: {told[0]} in mode 0 but not in mode 1: {", ".join(notation.show(words))}')
     if told == (BROKEN, HOLDS):
         note(tallies[INDUCTIVE], 'BROKEN in mode 0, HOLDS here')
@@ -390,7 +394,7 @@ def judge(at, results, tally):
     first, second = results
     text = ', '.join(notation.show(first.words))
     told = first.verdict, second.verdict
-    if told[0] != told[1] or first.verdict not in (HOLDS, LOOP, BROKEN, NOTHING_ASKED):
+    if told[0] != told[1] or first.verdict not in (HOLDS, ONE_STEP, LOOP, BROKEN, NOTHING_ASKED):
         raise SystemExit(f'{at}: {told}, {first.sentences}, {second.sentences}: {text}')
     if len(design.obligations(first)) != len(first.obligations):
         raise SystemExit(f'{at}: the edits of the obligations are not told: {text}')
@@ -399,7 +403,7 @@ def judge(at, results, tally):
         note(tally, 'with a division')
     worked = Design(first)
     given = sources(first, worked)
-    if first.looped != (worked.worked_out(*filled(worked, [])) is None) or first.looped and first.verdict == HOLDS:
+    if first.looped != (worked.worked_out(*filled(worked, [])) is None) or first.looped and first.verdict in (HOLDS, ONE_STEP):
         raise SystemExit(f'{at}: {told[0]}, a current loop, found {first.looped}: {text}')
     for result in results:
         if result.verdict == BROKEN:
@@ -407,12 +411,29 @@ def judge(at, results, tally):
             if fits is False:
                 raise SystemExit(f'{at}: the example of {result.solver} is not what working out gives: {text}')
             note(tally, 'examples worked out' if fits else 'examples with a loop')
+    if first.verdict in (HOLDS, ONE_STEP):
+        standing(at, first, tally)
     if first.verdict == NOTHING_ASKED or 3 ** len(given) > FEW:
         return
     broken = tried(worked, given)
-    if broken is not None and first.verdict != (BROKEN if broken else HOLDS):
+    if broken is not None and (first.verdict == BROKEN) != broken:
         raise SystemExit(f'{at}: {told[0]}, but trying all sources says {"broken" if broken else "holds"}: {text}')
     note(tally, 'tried with all sources' if broken is not None else 'with few sources and a loop')
+
+
+def standing(at, result, tally):
+    """Holds HOLDS to edits that stand when applied, and runs the design beside its applied netlist."""
+    edits, text = vm_applied.Edits(result), ', '.join(notation.show(result.words))
+    if edits.stands() != (result.verdict == HOLDS):
+        raise SystemExit(f'{at}: {result.verdict}, but by a second rendering the edits stand: {edits.stands()}: {text}')
+    if edits.circular() or edits.looped():
+        return note(tally, 'with a circle or a loop once applied')
+    chance, beside = random.Random(at), vm_applied.Beside(result)
+    parted = next(filter(None, (beside.parted(chance, STEPS) for _ in range(RUNS))), None)
+    if parted and result.verdict == HOLDS:
+        raise SystemExit(f'{at}: HOLDS, but when applied it parts at step {parted[0]}, {parted[1]}: {text}')
+    if result.verdict == ONE_STEP:
+        note(tally, 'untimely, parted in a run' if parted else 'untimely, not parted')
 
 
 def counted(tally):

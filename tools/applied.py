@@ -284,4 +284,5 @@ def judge(verifier, result):
         return
     looped, loop = verifier.order(words, slots)
     result.applied = not looped
-    result.reasons += [edits.looped(loop)] * looped
+    if looped:
+        result.reasons.append(edits.looped(loop))
