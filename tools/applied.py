@@ -5,6 +5,7 @@ edits are timely: conditions (a) to (d) of docs/UNSAT.md.
 """
 import design
 import notation
+from shown import cut
 from verdict import PORTED, Net, Reason
 
 GIVEN = ('Input', 'IoBuf')
@@ -86,11 +87,12 @@ class Edits:
     # The applied list
 
     def words(self):
-        """The applied list: every slot in the base, new cells in place, every net the end of its chain, no edits. A Void
-        that is still named is an Input: nothing may read a Void of the base."""
+        """The applied list: every slot in the base, new cells in place, every net the end of its chain, no edits. A
+        Void that is still named is an Input: nothing may read a Void of the base."""
         resolve = self._along(lambda net: net, lambda net, to, end: end)
         named = {resolve(net)[0] for clock in (False, True) for net, _ in self.named(clock)}
-        made, given = notation.parse(f'#{self.result.base + self.result.added} #0 #0 #0')[0], notation.parse('Input #1')[0]
+        made = notation.parse(f'#{self.result.base + self.result.added} #0 #0 #0')[0]
+        given = notation.parse('Input #1')[0]
         for cell in self.result.cells:
             void = cell.operation == 'Void' and cell.slot in named
             made += given if void else self._record(self.final(cell), resolve)
@@ -130,7 +132,7 @@ class Edits:
     def _reason(self, condition, index, sentence, instead):
         edit = self.edits[index]
         return Reason(condition, [index], edit.place,
-                      f"Applied, the edit '{edit.text}' does not stand, since {sentence}.", instead)
+                      f"Applied, the edit '{cut(edit.text)}' does not stand, since {sentence}.", instead)
 
     def _in_a_circle(self):
         names, found = [self.text(net) for net in self.circle], sorted(self.links[net] for net in self.circle)
@@ -146,14 +148,14 @@ class Edits:
         for slot, index in self.new.items():
             old, new, name = self.owned[slot], self.edits[index].cell, self.result.cell_text(slot)
             if new.operation == 'IoBuf' and old.operation not in GIVEN:
-                yield self._reason('a', index, f'{name} becomes an IoBuf: nothing holds what comes from outside to what '
-                                   f'the {old.operation} gave', 'Let an IoBuf replace an Input or an IoBuf alone.')
+                yield self._reason('a', index, f'{name} becomes an IoBuf: nothing holds what comes from outside to '
+                                   f'what the {old.operation} gave', 'Let an IoBuf replace an Input or an IoBuf alone.')
             elif old.operation == 'Dff' and new.operation != 'Dff':
-                yield self._reason('a', index, f'flip-flop {name} becomes a cell that is read as it is now: its readers '
-                                   'get it a step earlier', 'Let a flip-flop replace it.')
+                yield self._reason('a', index, f'flip-flop {name} becomes a cell that is read as it is now: its '
+                                   'readers get it a step earlier', 'Let a flip-flop replace it.')
             elif old.operation != 'Dff' and new.operation == 'Dff':
-                yield self._reason('a', index, f'{name} becomes a flip-flop, which is read as it was: its readers get it '
-                                   'a step later', 'Let a cell that is no flip-flop replace it.')
+                yield self._reason('a', index, f'{name} becomes a flip-flop, which is read as it was: its readers get '
+                                   'it a step later', 'Let a cell that is no flip-flop replace it.')
 
     def _lasting(self):
         """(b) A base flip-flop's net resolves to a flip-flop's net or a constant."""
@@ -168,8 +170,8 @@ class Edits:
                                    'earlier', 'Let a flip-flop or a constant replace it.')
 
     def _in_time(self):
-        """(c) The chain of any other read net meets a base flip-flop's net, in mode 1 not as the replacement of an added
-        flip-flop's, or ends in no flip-flop's net."""
+        """(c) The chain of any other read net meets a base flip-flop's net, in mode 1 not as the replacement of an
+        added flip-flop's, or ends in no flip-flop's net."""
         def linked(net, to, said):
             if self.past(to):
                 return self.links[net] if self.flip_flop(net) and self.result.mode != PORTED else None
@@ -187,20 +189,21 @@ class Edits:
     def _reads_added(self, net, cell):
         """A final cell that reads an added flip-flop, which nothing replaces."""
         index, name = self.new.get(cell.slot), self.text(net)
-        sentence = (f'{self.result.cell_text(cell.slot)} reads {name}, an added flip-flop: it is judged as it is now, and '
-                    'applied it is read as it was, a step later')
+        sentence = (f'{self.result.cell_text(cell.slot)} reads {name}, an added flip-flop: it is judged as it is now, '
+                    'and applied it is read as it was, a step later')
         instead = f'Let it read a flip-flop of the base, or what {name} is given.'
         if index is not None:
             return self._reason('c', index, sentence, instead)
-        return Reason('c', [], cell.place, f"Applied, the cell '{cell.text}' does not stand, since {sentence}.", instead)
+        return Reason('c', [], cell.place, f"Applied, the cell '{cut(cell.text)}' does not stand, since {sentence}.",
+                      instead)
 
     def _later(self, net, index):
         """A chain that ends in an added flip-flop, or in mode 1 leads from one to a flip-flop of the base."""
         edit = self.edits[index]
         old, new = self.text(_key(edit.old)), self.text(_key(edit.new))
         if self.past(_key(edit.new)):
-            return self._reason('c', index, f'{old}, an added flip-flop, is read as it is now, and {new}, which replaces '
-                                'it, as it was; mode 1 does not ask whether that is the same',
+            return self._reason('c', index, f'{old}, an added flip-flop, is read as it is now, and {new}, which '
+                                'replaces it, as it was; mode 1 does not ask whether that is the same',
                                 'Ask in mode 0, or let what the flip-flop is given replace the net that is read.')
         by, to = self._by(net, index)
         return self._reason('c', index, f'{by} {to}, an added flip-flop: it is judged as it is now, and applied it is '
@@ -257,7 +260,7 @@ def _word(net, inverted):
 
 def _edits(result, found, most=4):
     """Edits by their texts, with the verb: "the edits 'a b' and 'b a' do not stand"."""
-    texts = [f"'{result.replacements[index].text}'" for index in found]
+    texts = [f"'{cut(result.replacements[index].text)}'" for index in found]
     if len(texts) > most:
         texts[most:] = [f'{len(texts) - most} more']
     if len(texts) == 1:

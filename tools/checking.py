@@ -156,8 +156,8 @@ class Checker:
     """Asks the verifier and one or more solvers."""
 
     def __init__(self, verifier, commands, seconds, solvers, say=None, any_of=False):
-        """`commands` gives the solvers' commands, and is called only where something is asked; `any_of` says whether one
-        of them is enough."""
+        """`commands` gives the solvers' commands, and is called only where something is asked; `any_of` says whether
+        one of them is enough."""
         self.verifier, self.commands, self.seconds, self.solvers = verifier, commands, seconds, solvers
         self.gravity = ANY if any_of else EVERY
         self.say = say or (lambda sentence, passing=False: None)
@@ -244,7 +244,8 @@ class Checker:
     def _holds(self, result, name):
         """The verdict of unsat without a current loop, by whether the edits stand when applied."""
         applied.judge(self.verifier, result)
-        result.verdict, edits = ONE_STEP if result.reasons else HOLDS, len({one.replacement for one in result.obligations})
+        result.verdict = ONE_STEP if result.reasons else HOLDS
+        edits = len({one.replacement for one in result.obligations})
         asked = f'Asked: {count(len(result.obligations), "obligation")}, of {count(edits, "edit")}.'
         kept = f'Every {design.choice(result)} keeps every obligation'
         if result.verdict == HOLDS:

@@ -125,7 +125,7 @@ def choice(result):
 
 
 def loop_text(result, loop=None):
-    """The current loop of a result, or another, in words; of a long one the first reads, and how many more there are."""
+    """The current loop of a result, or another, in words; of a long one the first reads, and how many more."""
     names = [result.cell_text(slot) for slot in loop or result.loop]
     if len(names) == 1:
         return f'{names[0]} reads itself'

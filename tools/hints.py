@@ -70,7 +70,8 @@ def of(result, root):
                       'does not ask it.', 'e'))
     found += [(_ages(result, index) + '.', 'e') for index in twins if index in later][:1]
     if result.verdict == ONE_STEP:
-        found.append(('A verdict judges one step, with the edits pending. The netlist is run with the edits applied.', 'i'))
+        found.append(('A verdict judges one step, with the edits pending. The netlist is run with the edits applied.',
+                      'i'))
     if result.verdict == LOOP:
         found.append(('With a loop a wrong edit may get unsat too.', '04'))
     elif result.looped:

@@ -28,7 +28,7 @@ def paint(verdict, colours):
 
 
 def columns(stream):
-    """The columns that lines are broken at: a terminal's, or what COLUMNS says; None elsewhere, where they are whole."""
+    """The columns that lines are broken at: a terminal's, or what COLUMNS says; None elsewhere."""
     said = os.environ.get('COLUMNS', '')
     if not stream.isatty() and not (said.isdecimal() and int(said)):
         return None
@@ -209,8 +209,8 @@ def many(results, colours, width=None):
 
 def as_json(result):
     """A result for scripts."""
-    keep = ('source', 'verdict', 'status', 'loop', 'looped', 'applied', 'timely', 'two_valued', 'sentences', 'hints', 'fault',
-            'place', 'line', 'column', 'counts', 'solver', 'seconds', 'mode')
+    keep = ('source', 'verdict', 'status', 'loop', 'looped', 'applied', 'timely', 'two_valued', 'sentences', 'hints',
+            'fault', 'place', 'line', 'column', 'counts', 'solver', 'seconds', 'mode')
     found = {key: getattr(result, key) for key in keep}
     for key in ('reasons', 'solvers', 'obligations'):
         found[key] = [dataclasses.asdict(one) for one in getattr(result, key)]

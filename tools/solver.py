@@ -12,6 +12,8 @@ import time
 from contextlib import contextmanager
 from dataclasses import dataclass
 
+from source import why
+
 # A solver's command; the name of a script comes after it.
 KNOWN = {'z3': ['z3', '-smt2'], 'cvc5': ['cvc5', '--lang=smt2']}
 # Solvers that tell their version when asked with --version; other commands may do anything then.
@@ -69,14 +71,14 @@ def _stored(script):
     try:
         file = tempfile.NamedTemporaryFile(prefix='vm-', suffix='.smt2', buffering=0)
     except OSError as error:
-        raise NoSolver(f'There is no temporary folder to put the script into: {(error.strerror or str(error)).lower()}.')
+        raise NoSolver(f'There is no temporary folder to put the script into: {why(error)}.')
     with file:
         left = memoryview(script)
         try:
             while left:
                 left = left[file.write(left):]
         except OSError as error:
-            raise NoSolver(f'The script cannot be put into {file.name}: {(error.strerror or str(error)).lower()}.')
+            raise NoSolver(f'The script cannot be put into {file.name}: {why(error)}.')
         yield file.name
 
 
@@ -106,7 +108,7 @@ class Solvers:
                 process = subprocess.Popen(parts, stdin=subprocess.DEVNULL, stdout=subprocess.PIPE,
                                            stderr=subprocess.PIPE, start_new_session=True)
             except OSError as error:
-                raise NoSolver(f"The command '{parts[0]}' cannot be started: {(error.strerror or str(error)).lower()}.")
+                raise NoSolver(f"The command '{parts[0]}' cannot be started: {why(error)}.")
             self.running.add(process)
             return process
 

@@ -24,6 +24,11 @@ class BadSource(Exception):
         super().__init__(f'{where}: {sentence}')
 
 
+def why(error):
+    """What an OSError says, for a sentence."""
+    return (error.strerror or str(error)).lower()
+
+
 def printable(text):
     """A text without the characters that move a terminal's cursor."""
     return ''.join(character if character.isprintable() or character == '\t' else '\ufffd' for character in text)
@@ -55,7 +60,7 @@ def _bytes(path):
     except PermissionError:
         raise BadSource(path, 'You are not allowed to read this file.')
     except OSError as error:
-        raise BadSource(path, f'The file cannot be read: {(error.strerror or str(error)).lower()}.')
+        raise BadSource(path, f'The file cannot be read: {why(error)}.')
 
 
 def _text(path, content):
@@ -97,8 +102,8 @@ def read(path, mode=PORTED):
     elif len(found) > MOST_BYTES:
         raise BadSource(path, LONG)
     elif len(found) % 4:
-        raise BadSource(path, f'The list ends in the middle of a word: the file has {len(found):,} bytes, and a word has '
-                        'four.')
+        raise BadSource(path, f'The list ends in the middle of a word: the file has {len(found):,} bytes, and a word '
+                        'has four.')
     else:
         result.words = list(struct.unpack(f'<{len(found) // 4}I', found))
     return result

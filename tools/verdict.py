@@ -82,7 +82,7 @@ class Trit:
 @dataclass
 class Reason:
     """Why edits that hold for one step may not stand when applied."""
-    condition: str        # 'circle', 'a', 'b', 'c' or 'd' as in docs/UNSAT.md, 'loop', or 'length' where it is not known
+    condition: str        # 'circle', 'a' to 'd' as in docs/UNSAT.md, 'loop', or 'length' where it is not known
     edits: list           # the indexes in Result.replacements of the edits that it is about
     place: int            # the word of the list where the first of them begins, or the cell that no edit replaces
     sentence: str         # with the edits' texts
