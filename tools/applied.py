@@ -234,7 +234,7 @@ class Edits:
             nets = [_key(net) for pin in cell.pins if pin.role not in VALUES for net in pin.nets]
             nets = [net for net in nets if self._first_slot(resolve(net)) == other]
             found += [self.new[slot]] if slot in self.new else []
-            found += self._chain(nets[0]) if all(net in self.links for net in nets) else []
+            found += self._chain(nets[0]) if nets and all(net in self.links for net in nets) else []
         found = sorted(set(found))
         sentence = f'the cells then have a current loop: {design.loop_text(self.result, loop)}'
         return Reason('loop', found, self.edits[found[0]].place if found else 0,

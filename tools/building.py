@@ -49,7 +49,9 @@ def _build(say):
                           f'({kit}), is not on the PATH. Install the kit, or name the folder of a built archive in '
                           'VIRGINALMIMAS_ARCHIVE.')
     began = time.time()
-    say('proving the verifier and building it; the first time this takes some ten minutes on two cores')
+    if os.path.exists(STAMP):   # what is cut off while it is written is then not taken for built
+        os.remove(STAMP)
+    say('proving the verifier and building it; the first time this takes ten to twenty minutes on two cores')
     for step in STEPS:
         _run(['rt', *step], say, began)
     with open(STAMP, 'w'):
