@@ -1,1 +1,2 @@
 // What is known of every design that an accepted list stands for.
+#![tactic(auto)]

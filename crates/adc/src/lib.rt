@@ -1,4 +1,6 @@
 // SmtBuilder of smt.rs: the arm Adc of `cell` from its operands' terms on.
+#![tactic(auto)]
+
 ghost use Rattle.std.specs.Prelude.{ℕ, ◌+◌, ◌<◌, ◌≤◌, length};
 ghost use Rattle.smt.specs.Prog.{bv};
 ghost use Rattle.smt.specs.Builder.{carry_x, tv_adc};

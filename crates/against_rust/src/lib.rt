@@ -1,1 +1,2 @@
 // The order of work held against the Rust's answers.
+#![tactic(auto)]

@@ -1,6 +1,8 @@
 // SmtBuilder of smt.rs, `cell` for a Match: the match of one pattern, the sum over its alternates of the products over
 // their positions. `fields` is the part of the list from the record's first field on: #n #k enable, n nets, and for
 // each of k patterns #alternates and its constants, n for each alternate.
+#![tactic(auto)]
+
 ghost use Rattle.std.specs.Prelude.{◌≡◌, ◌+◌, ◌*◌, ◌<◌, ◌^◌, min};
 ghost use Rattle.cell_reader.specs.Parse.{number_in, net_in, nets_in, trits_in};
 ghost use Rattle.smt.specs.Builder.{compared, product, match_of};

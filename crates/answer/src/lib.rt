@@ -1,4 +1,6 @@
 // The answer reader: a solver's reply, read against the recorded marks into a lent table of trits.
+#![tactic(auto)]
+
 ghost use Rattle.std.specs.Prelude.{◌≡◌};
 ghost use Rattle.engine.specs.Emit.{overwrite};
 ghost use Rattle.text.specs.Names.{asked_names};
@@ -14,7 +16,7 @@ use reply::{Entry, Step, Verdict};
 
 // What a solver said. After sat the table is written; a refusal has document 01's number and the place of the byte or
 // mark at fault.
-#[derive(Drop)]
+#[derive(Clone, Copy)]
 pub enum Answer {
     Unsat,
     Sat,
@@ -22,7 +24,7 @@ pub enum Answer {
 }
 
 // The first recorded mark that is none, if there is one.
-#[derive(Drop)]
+#[derive(Clone, Copy)]
 enum Mark {
     Fine,
     Bad(usize),

@@ -1,6 +1,8 @@
 // Reads answers from standard input and prints what `answer` makes of each. A case is a line of marks, one digit each,
 // and the solver's text, and ends at a percent sign. After sat the line has the table and the two entries after it,
 // which were 9 before; a case of more marks than the table has entries meets fault 15.
+#![tactic(auto)]
+
 ghost use Rattle.std.specs.Prelude.{◌≤◌, length};
 
 use answer::Answer;

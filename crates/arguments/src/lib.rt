@@ -1,4 +1,6 @@
 // The arguments of call records: how many an operation has, what each of them is, and which words may stand as them.
+#![tactic(auto)]
+
 ghost use Rattle.std.specs.Prelude.{◌≡◌, ◌&&◌, eqb, leb, ltb, ◌+◌, ◌-◌, ◌*◌, ◌^◌, min};
 ghost use Rattle.logic.specs.Word.{payload_of};
 ghost use Rattle.engine.specs.WellFormed.{is_number, is_vector, is_width, literal_count, count_fits, pick, declaration};

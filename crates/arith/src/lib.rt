@@ -1,4 +1,6 @@
 // SmtBuilder of smt.rs: the arms of `cell` on two vectors and the shifts, from their operands' terms on.
+#![tactic(auto)]
+
 ghost use Rattle.std.specs.Prelude.{◌≡◌, ℕ, suc, ◌-◌, ◌≤◌};
 ghost use Rattle.engine.specs.Emit.{binary_of};
 ghost use Rattle.smt.specs.Builder.{tv_shift, tv_binary};
@@ -12,7 +14,7 @@ use logic::Term;
 use operators::Binary;
 
 // What prepare_shift gives: the width, the extended value and amount, and the amount times the stride.
-#[derive(Drop)]
+#[derive(Clone, Copy)]
 pub struct Prepared {
     pub width: u32,
     pub value: TritVec,

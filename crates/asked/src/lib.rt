@@ -1,5 +1,7 @@
 // What the recorded marks ask of a solver: whether the calls declare the names, and the text that asks for their
 // values.
+#![tactic(auto)]
+
 ghost use Rattle.std.specs.Prelude.{◌≡◌, ◌++◌, map, ◌+◌, ◌<◌, length};
 ghost use Rattle.engine.specs.Encode.{call_at, decode};
 ghost use Rattle.engine.specs.Sorts as sorts;
@@ -14,7 +16,7 @@ ghost use Rattle.asked.specs.Marks.{any, low_number, declares_name, declared_by,
 use pieces::Line;
 
 // The first recorded mark that does not stand, if there is one.
-#[derive(Drop)]
+#[derive(Clone, Copy)]
 pub enum Mark {
     Fine,
     Bad(usize),

@@ -1,4 +1,6 @@
 // SmtBuilder of smt.rs: its functions on bit vectors (`bv_`), under their own names and in its order.
+#![tactic(auto)]
+
 ghost use Rattle.std.specs.Prelude.{◌≡◌, [], ◌∷◌, ℕ, ◌≤◌, min, length};
 ghost use Rattle.bitvec.specs.Bits.{Bits, nat2bv};
 ghost use Rattle.engine.specs.Call as k;

@@ -1,4 +1,6 @@
 // The bits that the declared names of a call list are given (fault 20).
+#![tactic(auto)]
+
 ghost use Rattle.std.specs.Prelude.{◌≡◌, ◌^◌, ltb};
 ghost use Rattle.engine.specs.Encode.{decode};
 ghost use Rattle.record_faults.specs.Faults.{wrong_as};

@@ -1,6 +1,8 @@
 // The operations of SMT-LIB's QF_BV on bit vectors of width 1 to 64, each vector held as its number in a u64.
 // Each function is defined for every argument: an operand counts modulo 2^width, and at a width outside 1 to 64 the
 // answer is 0, or false. Each takes constant time, bvmul a turn for each bit of the width.
+#![tactic(auto)]
+
 ghost use Rattle.std.specs.Prelude.{◌≡◌, ◌%◌, ◌^◌, ◌≤◌, if◌then◌else◌};
 ghost use Rattle.bitvec.specs.Bits.{nat2bv};
 ghost use Rattle.bitvec.specs.Ops as bv;

@@ -1,6 +1,7 @@
 // Prints what each operation of `bitvec` gives on a table of edge cases, a line for each: the operation, the widths in
 // decimal, the operands and the result in hexadecimal. The file stdout, to which the lines are compared, was written by
 // tests/bitvec_table.py, which computes each result with Python's integers.
+#![tactic(auto)]
 
 // The operands of case k. The first of 8123456789abcdef and 4123456789abcdee is negative at width 64, the second at 63.
 const LEFT: [u64; 25] = [

@@ -1,1 +1,2 @@
 // How many call words a design makes.
+#![tactic(auto)]

@@ -1,6 +1,8 @@
 // What every function of SmtBuilder (smt.rs) stands on: the running counts, a term or a trit vector with the counts
 // after it, and the calls of the trait `SmtEngine` with their counts. Calls go into a lent slice of words; past its end
 // nothing is written, and the counts go on.
+#![tactic(auto)]
+
 ghost use Rattle.std.specs.Prelude.{◌≡◌, [], ◌∷◌, ℕ, ◌+◌, ◌-◌, suc, min, length};
 ghost use Rattle.bitvec.specs.Bits.{Bits, nat2bv};
 ghost use Rattle.engine.specs.Emit.{binary_of, compare_of};
@@ -14,7 +16,7 @@ use logic::Term;
 
 // How many terms and temporaries are made and how many words the calls take: the next term and the next temporary have
 // these numbers.
-#[derive(Drop)]
+#[derive(Clone, Copy)]
 pub struct Counts {
     pub terms: u32,
     pub temporaries: u32,
@@ -22,21 +24,21 @@ pub struct Counts {
 }
 
 // `SmtTritVec`. x: is it undefined? y: if not, is it one?
-#[derive(Drop)]
+#[derive(Clone, Copy)]
 pub struct TritVec {
     pub x: Term,
     pub y: Term,
 }
 
 // A term, and the counts after the calls that made it.
-#[derive(Drop)]
+#[derive(Clone, Copy)]
 pub struct Built {
     pub term: Term,
     pub counts: Counts,
 }
 
 // The two terms of a trit vector, and the counts after the calls that made them.
-#[derive(Drop)]
+#[derive(Clone, Copy)]
 pub struct BuiltTrits {
     pub value: TritVec,
     pub counts: Counts,

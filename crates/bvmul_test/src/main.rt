@@ -1,6 +1,7 @@
 // Prints what `bitvec::bvmul` gives at every width from 1 to 64 on edge operands: a line for each width and first
 // operand, with the product by each of the second operands. The file stdout, to which the lines are compared, was
 // written by tests/bvmul_table.py, which multiplies with Python's integers.
+#![tactic(auto)]
 
 // Edge operand k, where the width's vector of ones is given; the last three have bits above most widths.
 fn operand(k: u32, ones: u64) -> u64 {

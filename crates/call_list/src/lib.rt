@@ -1,5 +1,7 @@
 // The reader of call records: the operation of the record at a place, its arguments, and where the next record begins.
 // Each function is total and reads the words as they stand.
+#![tactic(auto)]
+
 ghost use Rattle.std.specs.Prelude.{◌≡◌, ◌+◌, ◌<◌, ◌%◌, length, get_or};
 ghost use Rattle.logic.specs.Word.{payload_of};
 ghost use Rattle.engine.specs.Encode.{op_of, makes_term, offset, operation_at, count_at, bare, argument_at, next_at};
@@ -14,7 +16,7 @@ use engine::{BinaryOp, Compare};
 use logic::Term;
 
 // The operations of the terms, and those of the calls.
-#[derive(Drop)]
+#[derive(Clone, Copy)]
 pub enum TermOp {
     BoolLit,
     BoolIte,
@@ -30,7 +32,7 @@ pub enum TermOp {
     Compare(Compare),
 }
 
-#[derive(Drop)]
+#[derive(Clone, Copy)]
 pub enum Operation {
     Term(TermOp),
     Declare,
@@ -152,7 +154,7 @@ pub fn next_record(calls: &[u32], at: usize) -> usize
 }
 
 // How far a list is read: the place, and the terms made and names declared before it.
-#[derive(Drop)]
+#[derive(Clone, Copy)]
 pub struct Cursor {
     pub at: usize,
     pub terms: usize,

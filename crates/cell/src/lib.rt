@@ -1,5 +1,7 @@
 // Cells: their operations, and how the body of each is laid out in the words of a design list (cell.rs of the
 // original).
+#![tactic(auto)]
+
 ghost use Rattle.std.specs.Prelude.{◌≡◌};
 ghost use Rattle.cell.specs.Cell.{binary_width};
 ghost use Rattle.cell.specs.Operation.{operation_of, lead, body, layout_of, numbers_in, fields_in, numbers_of};
@@ -9,21 +11,21 @@ ghost use Rattle.cell.specs.Mode.{mode_of};
 use operators::{Binary, Shift, Unary};
 
 // How a Dff's net replaced by a Dff's is judged: as the original judges it, or by its induction step alone.
-#[derive(Drop)]
+#[derive(Clone, Copy)]
 pub enum Mode {
     Ported,
     Inductive,
 }
 
 // What a caller's number chooses.
-#[derive(Drop)]
+#[derive(Clone, Copy)]
 pub enum Chosen {
     Known(Mode),
     Unknown,
 }
 
 // The operations; those on one vector, those on two and the shifts are told apart by their operator.
-#[derive(Drop)]
+#[derive(Clone, Copy)]
 pub enum Operation {
     Void,
     Note,
@@ -41,7 +43,7 @@ pub enum Operation {
 }
 
 // What stands at a slot, as far as reading nets goes: a Void, a Dff or another cell.
-#[derive(Drop)]
+#[derive(Clone, Copy)]
 pub enum Standing {
     Void,
     Dff,
@@ -49,7 +51,7 @@ pub enum Standing {
 }
 
 // How a body is laid out; of two vectors and of a shift the least n or the output width goes by the operator.
-#[derive(Drop)]
+#[derive(Clone, Copy)]
 pub enum Layout {
     Empty,
     Port,
@@ -65,7 +67,7 @@ pub enum Layout {
 }
 
 // What an operation's number names.
-#[derive(Drop)]
+#[derive(Clone, Copy)]
 pub enum Decoded {
     Known(Operation),
     Unknown,
@@ -73,7 +75,7 @@ pub enum Decoded {
 
 // The numbers that lead a body: how many, the least that the first may be, the bound of the second, and whether the
 // third is an offset at which as many nets as the second says must fit within as many as the first says.
-#[derive(Drop)]
+#[derive(Clone, Copy)]
 pub struct Numbers {
     pub count: u32,
     pub least: u32,
@@ -82,7 +84,7 @@ pub struct Numbers {
 }
 
 // What follows the numbers, in this order, and the output width.
-#[derive(Drop)]
+#[derive(Clone, Copy)]
 pub struct Fields {
     pub controls: usize,
     pub nets: usize,

@@ -1,4 +1,6 @@
 // One record of the design list: a cell's head, numbers and fields, up to the first fault.
+#![tactic(auto)]
+
 ghost use Rattle.std.specs.Prelude.{◌≡◌};
 ghost use Rattle.cell_reader.specs.Record.{third_at, second_at, leading_at, tail_at, body_at, contents_at, record_at};
 
@@ -7,14 +9,14 @@ use fields::{Head, Number, Scan};
 use logic::Fault;
 
 // The first two numbers of a body (0 where it has none) and the place after the last; or the fault met.
-#[derive(Drop)]
+#[derive(Clone, Copy)]
 pub enum Leading {
     Read { n: u32, m: u32, next: usize },
     Refused(Fault),
 }
 
 // A record's operation, output width and end; or the fault met.
-#[derive(Drop)]
+#[derive(Clone, Copy)]
 pub enum Record {
     Read {
         op: Operation,

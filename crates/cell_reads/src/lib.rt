@@ -1,5 +1,7 @@
 // The current reads of one record of an accepted list, as words: 4,096 × the node that reads + the first slot of the
 // cell read. They are stored into a lent slice one after another; past its end nothing is stored.
+#![tactic(auto)]
+
 ghost use Rattle.std.specs.Prelude.{◌≡◌, [], ◌∷◌, ◌+◌, ◌*◌, ◌<◌, ◌≤◌, ◌^◌, min};
 ghost use Rattle.logic.specs.Net.{slot};
 ghost use Rattle.logic.specs.Table.{tab};
@@ -17,7 +19,7 @@ use logic::{Driver, Net, Slot, Trit};
 
 // How the nets that a record reads stand in its words: as a Match's, of which the compared ones are read, as a Dff's,
 // of which the first is the clock, or in one run.
-#[derive(Drop)]
+#[derive(Clone, Copy)]
 enum Reading {
     Compared,
     Clocked,

@@ -1,4 +1,6 @@
 // `SmtBuilder::cell` of smt.rs: the terms of a cell, by its operation, from the fields of its record.
+#![tactic(auto)]
+
 ghost use Rattle.std.specs.Prelude.{◌≡◌, ◌+◌, ◌≤◌, ◌<◌};
 ghost use Rattle.right.specs.Bounds.{Bounded};
 ghost use Rattle.right.specs.Shape.{Shaped};

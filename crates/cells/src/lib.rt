@@ -1,5 +1,7 @@
 // SmtBuilder of smt.rs: the arms of `cell` on one or two operands, and IoBuf, each from the fields of the cell's
 // record. A promise speaks of every slot and width that an arm does not look at.
+#![tactic(auto)]
+
 ghost use Rattle.std.specs.Prelude.{◌≡◌, ℕ, ◌+◌, ◌≤◌, ◌<◌};
 ghost use Rattle.cell.specs.Cell.{io_buf};
 ghost use Rattle.cell.specs.declared.Operation.TheVariants as O;

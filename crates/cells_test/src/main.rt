@@ -2,12 +2,16 @@
 // the calls of every cell, and writes a line for each: the number of call words and of marks, and FNV-1a (64 bits) of
 // both. The file stdout, to which the lines are compared, has the answers of the Rust, for a division those that
 // docs/DIVISIONS.md makes of its answers for a Mul (tests/cell_lists.py).
+#![tactic(auto)]
+
 use builder::Counts;
 use cell::Decoded;
 use design_list::{Extent, SlotTable};
-use libc::STDOUT_FILENO;
 use logic::Slot;
 use word_input::Next;
+
+// The file descriptor of standard output.
+const STDOUT_FILENO: i32 = 1;
 
 // ---- the digest
 

@@ -1,4 +1,6 @@
 // The checker of a call list (fault 19), total on every list of words.
+#![tactic(auto)]
+
 ghost use Rattle.std.specs.Prelude.{◌≡◌, ℕ, ◌≤◌, length, get_or};
 ghost use Rattle.engine.specs.WellFormed.{outcome};
 ghost use Rattle.call_list.specs.Operations.{op_from};
@@ -8,7 +10,7 @@ use call_list::{Cursor, Operation};
 use record_faults::Wrong;
 
 // What checking a call list answers: how many terms it makes and names it declares, or the first place at fault.
-#[derive(Drop)]
+#[derive(Clone, Copy)]
 pub enum CallList {
     WellFormed { terms: usize, declared: usize },
     Malformed(usize),

@@ -1,4 +1,6 @@
 // SmtBuilder of smt.rs: the arms Eq, ULt and SLt of `cell` from their operands' terms on.
+#![tactic(auto)]
+
 ghost use Rattle.std.specs.Prelude.{ℕ, ◌-◌, ◌≤◌};
 ghost use Rattle.engine.specs.Emit.{compare_of};
 ghost use Rattle.smt.specs.Builder.{bv_no_x, tv_equals, tv_less};

@@ -1,5 +1,7 @@
 // SmtBuilder of smt.rs: its functions that read a control, a net that may be inverted, under their own names and in its
 // order.
+#![tactic(auto)]
+
 ghost use Rattle.std.specs.Prelude.{◌≡◌, not, ◌<◌, ◌^◌};
 ghost use Rattle.logic.specs.Net.{net_of};
 ghost use Rattle.bitvec.specs.Bits.{bit};
@@ -13,7 +15,7 @@ use engine::BinaryOp;
 use logic::Net;
 
 // `ControlNet`: a net that may be inverted.
-#[derive(Drop)]
+#[derive(Clone, Copy)]
 pub struct ControlNet {
     pub net: Net,
     pub inverted: bool,

@@ -1,4 +1,6 @@
 // Counts of words and bytes that never wrap: a sum stops at the largest number, where no slice has a place.
+#![tactic(auto)]
+
 ghost use Rattle.std.specs.Prelude.{◌≡◌, ◌+◌};
 ghost use Rattle.engine.specs.Emit.{counted};
 

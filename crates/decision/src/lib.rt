@@ -1,5 +1,7 @@
 // SmtBuilder of smt.rs: the arm of `cell` for a Match. `fields` is the part of the list from the record's first field
 // on: #n #k enable, n nets, and for each of k patterns #alternates and its constants, n for each alternate.
+#![tactic(auto)]
+
 ghost use Rattle.std.specs.Prelude.{List, ℕ, ◌*◌, ◌≤◌, length};
 ghost use Rattle.logic.specs.declared.Trit.{Trit};
 ghost use Rattle.cell.specs.declared.Operation.TheVariants as O;

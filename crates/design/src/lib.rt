@@ -1,5 +1,7 @@
 // The answer of the order of work for a list of words (design.rs, `Design::verify`): what it says, and what it counts
 // in the calls, the terms that they make, the temporaries that they declare, and the words that they take.
+#![tactic(auto)]
+
 ghost use Rattle.std.specs.Prelude.{◌≡◌, ◌≤◌, length};
 ghost use Rattle.cell.specs.Mode.{number_of};
 ghost use Rattle.requirement.specs.declared.Verified.TheVariants.{Refused};

@@ -1,4 +1,6 @@
 // The design list, from its length to fault 10, up to the first fault; and what stands at each slot.
+#![tactic(auto)]
+
 ghost use Rattle.std.specs.Prelude.{◌≡◌, ◌+◌, ◌-◌, ◌<◌, ◌≤◌, length};
 ghost use Rattle.std.proofs.lemmas.List.Edits.{sets};
 ghost use Rattle.cell.specs.declared.Mode.{Mode};
@@ -16,7 +18,7 @@ use logic::Fault;
 use placing::Cells;
 
 // The numbers of an accepted list: its header, how many cells it has, and where its replacements start.
-#[derive(Drop)]
+#[derive(Clone, Copy)]
 pub struct Extent {
     pub base: usize,
     pub added: usize,
@@ -28,7 +30,7 @@ pub struct Extent {
 }
 
 // An accepted list, or the first fault of a refused one.
-#[derive(Drop)]
+#[derive(Clone, Copy)]
 pub enum DesignRead {
     Accepted(Extent),
     Refused(Fault),
@@ -36,7 +38,7 @@ pub enum DesignRead {
 
 // A slice filled with what stands at each slot of an accepted list; or the first fault, 14 last: a slice too short for
 // the slots.
-#[derive(Drop)]
+#[derive(Clone, Copy)]
 pub enum SlotTable {
     Filled(Extent),
     Refused(Fault),

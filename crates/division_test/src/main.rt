@@ -2,6 +2,7 @@
 // with the result by each of the second operands. At widths 1 to 4 the operands are all numbers; then they are edge
 // operands, at widths 1, 2, 17, 63 and 64, and at two that are no widths. The file stdout, to which the lines are
 // compared, was written by tests/division_table.py, which divides Python's integers.
+#![tactic(auto)]
 
 // Edge operand k, where the width's vector of ones is given: three small ones, the least signed number between its
 // neighbours, the last two, and an odd one, which has bits above most widths.

@@ -1,1 +1,2 @@
 // The words of a design's reads say its reads: theorems, no code.
+#![tactic(auto)]

@@ -1,6 +1,8 @@
 // The calls of an SMT engine (trait `SmtEngine` of smt.rs), as words: each function writes the record of a call into a
 // lent slice at a count of words and gives the count after it. Past the slice's end nothing is written, and the count
 // goes on.
+#![tactic(auto)]
+
 ghost use Rattle.std.specs.Prelude.{◌≡◌, [], ◌∷◌, map, min};
 ghost use Rattle.logic.specs.Word.{head_word, number_word, term_word};
 ghost use Rattle.bitvec.specs.Bits.{nat2bv};
@@ -11,7 +13,7 @@ ghost use Rattle.engine.specs.Emit.{Wrote, binary_of, compare_of, letter_of, suf
 use logic::Term;
 
 // What an argument word of a call record is.
-#[derive(Drop)]
+#[derive(Clone, Copy)]
 pub enum Argument {
     // 0 or 1
     Flag,
@@ -39,7 +41,7 @@ pub enum Argument {
 
 // What a record says of the sort of its term: a width (0 for a Bool), the sort of another term, or the widths of two
 // together.
-#[derive(Drop)]
+#[derive(Clone, Copy)]
 pub enum Origin {
     Given(u32),
     Same(Term),
@@ -47,7 +49,7 @@ pub enum Origin {
 }
 
 // The operations of two vectors that make a vector, and those that compare.
-#[derive(Drop)]
+#[derive(Clone, Copy)]
 pub enum BinaryOp {
     And,
     Or,
@@ -64,21 +66,21 @@ pub enum BinaryOp {
     Srem,
 }
 
-#[derive(Drop)]
+#[derive(Clone, Copy)]
 pub enum Compare {
     Ult,
     Slt,
 }
 
 // The letter and the suffix of a declared name.
-#[derive(Drop)]
+#[derive(Clone, Copy)]
 pub enum Letter {
     N,
     P,
     T,
 }
 
-#[derive(Drop)]
+#[derive(Clone, Copy)]
 pub enum Suffix {
     None,
     X,

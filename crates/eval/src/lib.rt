@@ -1,4 +1,6 @@
 // The evaluator of a call list (faults 19 and 20), total on every list of words.
+#![tactic(auto)]
+
 ghost use Rattle.std.specs.Prelude.{◌≡◌, map, length};
 ghost use Rattle.engine.specs.Encode.{decode};
 ghost use Rattle.engine.specs.Emit.{overwrite};
@@ -13,7 +15,7 @@ use logic::Fault;
 use record_faults::Wrong;
 
 // What evaluating a call list answers: how many assertions are false, or the fault.
-#[derive(Drop)]
+#[derive(Clone, Copy)]
 pub enum Evaluation {
     Evaluated(usize),
     Refused(Fault),

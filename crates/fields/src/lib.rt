@@ -1,4 +1,6 @@
 // The fields of a record of the design list: what stands at a place, or the first fault met there.
+#![tactic(auto)]
+
 ghost use Rattle.std.specs.Prelude.{◌≡◌, false};
 ghost use Rattle.fields.specs.Field.{number_at, is_constant, is_known, most_kind, net_at, bit_at, constant_at};
 ghost use Rattle.fields.specs.Field.{nets_at, constants_at, ends_at};
@@ -9,21 +11,21 @@ use cell::{Decoded, Operation};
 use logic::{Driver, Fault, Net};
 
 // A number with the next place, or the fault met.
-#[derive(Drop)]
+#[derive(Clone, Copy)]
 pub enum Number {
     Value { n: u32, next: usize },
     Refused(Fault),
 }
 
 // The place after what was scanned, or the fault met.
-#[derive(Drop)]
+#[derive(Clone, Copy)]
 pub enum Scan {
     Clean(usize),
     Refused(Fault),
 }
 
 // What stands where only a constant may stand: one, with the next place; another net; or the fault met.
-#[derive(Drop)]
+#[derive(Clone, Copy)]
 pub enum Bit {
     Constant(usize),
     Other,
@@ -31,7 +33,7 @@ pub enum Bit {
 }
 
 // The head of a record: its operation, its first field and where it ends; or the fault met.
-#[derive(Drop)]
+#[derive(Clone, Copy)]
 pub enum Head {
     Record {
         op: Operation,

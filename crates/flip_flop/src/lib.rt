@@ -1,4 +1,6 @@
 // SmtBuilder of smt.rs: the arm of `cell` for a Dff. `fields` is the part of the list from the record's first field on.
+#![tactic(auto)]
+
 ghost use Rattle.std.specs.Prelude.{Bool, ℕ, ◌+◌, ◌≤◌, ◌<◌};
 ghost use Rattle.cell.specs.declared.Operation.TheVariants as O;
 ghost use Rattle.cell_reader.specs.Parse.{number_in, cell_in};

@@ -1,5 +1,7 @@
 // SmtBuilder of smt.rs, `cell` for a Dff: the data that it takes at an edge, by its reset and its enable. `fields` is
 // the part of the list from the record's first field on.
+#![tactic(auto)]
+
 ghost use Rattle.std.specs.Prelude.{Bool, true, false, List, ℕ, ◌+◌, ◌≤◌, ◌<◌};
 ghost use Rattle.cell_reader.specs.Parse.{number_in};
 ghost use Rattle.smt.specs.Builder.{tv_lit, enabled, reset_to, loaded};

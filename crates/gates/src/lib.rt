@@ -1,4 +1,6 @@
 // SmtBuilder of smt.rs: tv_and, tv_or, tv_xor and tv_mux, under their own names and in its order.
+#![tactic(auto)]
+
 ghost use Rattle.std.specs.Prelude.{ℕ, ◌-◌};
 ghost use Rattle.smt.specs.Prog.{bv};
 ghost use Rattle.smt.specs.Builder.{tv_and, tv_or, tv_xor, tv_mux};

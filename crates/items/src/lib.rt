@@ -1,4 +1,6 @@
 // The header, the cell replacements and the net replacements of a design list, each up to its first fault.
+#![tactic(auto)]
+
 ghost use Rattle.std.specs.Prelude.{◌≡◌, ◌+◌, ◌-◌, ◌<◌};
 ghost use Rattle.items.specs.Step.{cell_step, net_step};
 ghost use Rattle.items.specs.Items.{counts_at, header_at, listed_number_at, listed_net_at, replaces, replacement_at};
@@ -11,7 +13,7 @@ use fields::{Number, Scan};
 use logic::{Fault, Net, Slot};
 
 // The four words of the header.
-#[derive(Drop)]
+#[derive(Clone, Copy)]
 pub struct Header {
     pub base: usize,
     pub added: usize,
@@ -20,21 +22,21 @@ pub struct Header {
 }
 
 // The header, or the fault met.
-#[derive(Drop)]
+#[derive(Clone, Copy)]
 pub enum Opening {
     Read(Header),
     Refused(Fault),
 }
 
 // The least slot that the next cell replacement may have and the place after this one; or the fault met.
-#[derive(Drop)]
+#[derive(Clone, Copy)]
 pub enum CellStep {
     Read { least: Slot, next: usize },
     Refused(Fault),
 }
 
 // The least from that the next net replacement may have and the place after this one; or the fault met.
-#[derive(Drop)]
+#[derive(Clone, Copy)]
 pub enum NetStep {
     Read { least: Net, next: usize },
     Refused(Fault),

@@ -1,5 +1,7 @@
 // The line of a record in the script: each function writes a part from a place on and gives the next place; past the
 // slice's end it only counts.
+#![tactic(auto)]
+
 ghost use Rattle.std.specs.Prelude.{◌≡◌, List};
 ghost use Rattle.bitvec.specs.Bits.{nat2bv};
 ghost use Rattle.engine.specs.Call.{Call};

@@ -1,4 +1,6 @@
 // The words of an input of bytes, each four bytes, the lowest first.
+#![tactic(auto)]
+
 ghost use Rattle.std.specs.Prelude.{◌≡◌, ◌/◌, ◌<◌, length};
 ghost use Rattle.std.proofs.lemmas.List.Edits.{sets};
 ghost use Rattle.little_endian.specs.Words.{word_at, words_of, input_of, words_after};
@@ -6,7 +8,7 @@ ghost use Rattle.little_endian.specs.Words.{word_at, words_of, input_of, words_a
 use logic::Fault;
 
 // How many words an input has, or why it has none.
-#[derive(Drop)]
+#[derive(Clone, Copy)]
 pub enum Input {
     Words(usize),
     Refused(Fault),

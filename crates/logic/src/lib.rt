@@ -1,4 +1,6 @@
 // Trits, net words and faults: logic.rs and value.rs of the original, over document 01's 32-bit words.
+#![tactic(auto)]
+
 ghost use Rattle.std.specs.Prelude.{◌≡◌, get_or, set};
 ghost use Rattle.logic.specs.Trit.{trit_number, readback_number, shows};
 ghost use Rattle.logic.specs.Word.{kind_of, payload_of, net_word, head_word, number_word, term_word};
@@ -11,7 +13,7 @@ const PAYLOADS: u32 = 536870912;
 pub const LAST_PAYLOAD: u32 = 536870911;
 
 // An extended binary value: 0, 1 or X.
-#[derive(Drop)]
+#[derive(Clone, Copy)]
 pub enum Trit {
     Zero,
     One,
@@ -19,26 +21,26 @@ pub enum Trit {
 }
 
 // What a readback has for a slot: the trit that it shows, or nothing recorded.
-#[derive(Drop)]
+#[derive(Clone, Copy)]
 pub enum Readback {
     Shown(Trit),
     Absent,
 }
 
 // A slot number: which output bit of the design's cells.
-#[derive(Drop)]
+#[derive(Clone, Copy)]
 pub struct Slot(pub u32);
 
 // A net number: the payload of a net word, for a slot two above the slot's number.
-#[derive(Drop)]
+#[derive(Clone, Copy)]
 pub struct Net(pub u32);
 
 // A term number: how many engine calls made a term before it.
-#[derive(Drop)]
+#[derive(Clone, Copy)]
 pub struct Term(pub u32);
 
 // What a net number names.
-#[derive(Drop)]
+#[derive(Clone, Copy)]
 pub enum Driver {
     Constant(Trit),
     Output(Slot),
@@ -46,7 +48,7 @@ pub enum Driver {
 }
 
 // A refusal: document 01's number, and the place of the first word or byte at fault.
-#[derive(Drop)]
+#[derive(Clone, Copy)]
 pub struct Fault {
     pub number: u32,
     pub place: usize,

@@ -1,4 +1,6 @@
 // The line that names a loop, `; loop s1 s4`, in a lent text.
+#![tactic(auto)]
+
 ghost use Rattle.std.specs.Prelude.{◌++◌};
 ghost use Rattle.engine.specs.Emit.{Wrote};
 ghost use Rattle.text.specs.Bytes.{ascii, decimal};

@@ -1,4 +1,6 @@
 // The loop that document 02's change 4 names: always to the lowest node read that never gets ready.
+#![tactic(auto)]
+
 ghost use Rattle.std.specs.Prelude.{◌≡◌, Bool, ℕ, ◌<◌, ◌≤◌, length, replicate};
 ghost use Rattle.std.proofs.lemmas.List.Edits.{sets};
 ghost use Rattle.logic.specs.Table.{tab};
@@ -9,7 +11,7 @@ ghost use Rattle.loop_walk.specs.Steps.{step, steps};
 ghost use Rattle.loop_walk.specs.Named.{Named};
 
 // A loop of a walk: a node of it, and how many it has.
-#[derive(Drop)]
+#[derive(Clone, Copy)]
 struct Loop {
     at: usize,
     length: usize,

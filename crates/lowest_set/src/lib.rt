@@ -1,4 +1,6 @@
 // A set of numbers below 4,096, of which the lowest is found in twelve steps: a tree of flags.
+#![tactic(auto)]
+
 ghost use Rattle.std.specs.Prelude.{◌≡◌, Bool, cond, ℕ, ◌<◌, max, eqb};
 ghost use Rattle.working_out.specs.Graph.{mark};
 ghost use Rattle.lowest_set.specs.Change.{Changes};

@@ -1,5 +1,7 @@
 // The names that a call list declares: a table with a byte for each name of a low index, past which the records
 // themselves are searched.
+#![tactic(auto)]
+
 ghost use Rattle.std.specs.Prelude.{◌≡◌, ◌&&◌, ℕ, min, length, get_or, set};
 ghost use Rattle.engine.specs.WellFormed.{is_number};
 ghost use Rattle.engine.specs.Structure.{declares_at, declared_before};

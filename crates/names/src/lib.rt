@@ -1,6 +1,8 @@
 // The names of nets: bv_const and tv_const of smt.rs. The table of names has four words for each slot, 0 or one more
 // than the term that the name was declared with, so that a known name gives its term again; the marks have one byte for
 // each slot, by its last read.
+#![tactic(auto)]
+
 ghost use Rattle.std.specs.Prelude.{◌≡◌, set};
 ghost use Rattle.engine.specs.Emit as engine;
 ghost use Rattle.smt.specs.Emit as model;
@@ -14,14 +16,14 @@ use engine::{Letter, Suffix};
 use logic::{Slot, Term};
 
 // The current or the past trit of a net: the prefixes n and p.
-#[derive(Drop)]
+#[derive(Clone, Copy)]
 pub enum Age {
     Curr,
     Past,
 }
 
 // Is the trit undefined? If not, is it one? The suffixes x and y.
-#[derive(Drop)]
+#[derive(Clone, Copy)]
 pub enum Half {
     IsUndef,
     IsOne,

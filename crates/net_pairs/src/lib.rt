@@ -1,5 +1,7 @@
 // What each kind of net replacement makes in the second loop of `Design::verify` of design.rs; and the terms of
 // obligations in a lent table.
+#![tactic(auto)]
+
 ghost use Rattle.std.specs.Prelude.{List, [], ◌∷◌, ℕ, ◌<◌, ◌^◌};
 ghost use Rattle.logic.specs.Net.{net_of};
 ghost use Rattle.order.specs.Verify.{asserted, obliged, replace_net, replace_void_net, replace_dff_net, dff_steps};
@@ -11,7 +13,7 @@ use cell::Mode;
 use logic::Net;
 
 // What a part of the walk has done: the counts, and how many obligations there are.
-#[derive(Drop)]
+#[derive(Clone, Copy)]
 pub struct Walked {
     pub counts: Counts,
     pub obligations: usize,

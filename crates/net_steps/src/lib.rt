@@ -1,4 +1,6 @@
 // SmtBuilder of smt.rs: what `Design::verify` makes of a net replacement, as steps of the order of work.
+#![tactic(auto)]
+
 ghost use Rattle.std.specs.Prelude.{[], ◌∷◌, ◌<◌, ◌^◌};
 ghost use Rattle.logic.specs.Net.{net_of};
 ghost use Rattle.order.specs.Verify.{asserted, obliged, replace_net, replace_void_net, replace_dff_net, join_pasts, currents};

@@ -1,4 +1,6 @@
 // SmtBuilder of smt.rs: its functions that read one net, under their own names and in its order.
+#![tactic(auto)]
+
 ghost use Rattle.std.specs.Prelude.{◌≡◌, [], ◌∷◌, ◌<◌, ◌^◌};
 ghost use Rattle.logic.specs.Net.{net_of};
 ghost use Rattle.smt.specs.Builder.{tv_lit, curr_net, past_net};
@@ -13,7 +15,7 @@ use names::Age;
 
 // How nets are read: by their current trits, by their past ones, or as `net` does: the past trit of a base Dff, else
 // the current one.
-#[derive(Drop)]
+#[derive(Clone, Copy)]
 pub enum Reading {
     Curr,
     Past,

@@ -1,4 +1,6 @@
 // SmtBuilder of smt.rs: the arm Match of `cell` from the matches on: the first pattern that matches is hot.
+#![tactic(auto)]
+
 ghost use Rattle.std.specs.Prelude.{◌≡◌, ℕ, ◌^◌, ◌<◌, ◌≤◌, replicate};
 ghost use Rattle.logic.specs.declared.Trit.TheVariants as t;
 ghost use Rattle.smt.specs.Builder.{tv_lit, one_hot, first_match};

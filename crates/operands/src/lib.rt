@@ -1,6 +1,8 @@
 // What the arms of `SmtBuilder::cell` of smt.rs do with their operands before any call of the engine. A value is a run
 // of net words: words of the list, read in place, or words stored into a table that the caller lends; past its end
 // nothing is stored.
+#![tactic(auto)]
+
 ghost use Rattle.std.specs.Prelude.{◌≡◌, cond, [], ◌∷◌, ◌++◌, map, ℕ, ◌+◌, ◌-◌, ◌^◌, ◌≤◌, ◌<◌, min, max, length, get_or};
 ghost use Rattle.std.proofs.lemmas.List.Edits.{sets};
 ghost use Rattle.logic.specs.Net.{constant, net_of, net_of_slot};
@@ -184,7 +186,7 @@ pub fn y_bit(trit: Trit) -> u64
 }
 
 // The numbers of the x and of the y of some constants, as `tv_lit` takes them.
-#[derive(Drop)]
+#[derive(Clone, Copy)]
 pub struct Const {
     pub x: u64,
     pub y: u64,

@@ -1,16 +1,18 @@
 // The operations that share the layout of their body with others: on one vector, on two, and shifts.
+#![tactic(auto)]
+
 ghost use Rattle.std.specs.Prelude.{◌≡◌};
 ghost use Rattle.operators.specs.Operators.{binary_least, compares, shift_least};
 
 // Operations on one vector.
-#[derive(Drop)]
+#[derive(Clone, Copy)]
 pub enum Unary {
     Buf,
     Not,
 }
 
 // Operations on two vectors of one width.
-#[derive(Drop)]
+#[derive(Clone, Copy)]
 pub enum Binary {
     And,
     Or,
@@ -26,7 +28,7 @@ pub enum Binary {
 }
 
 // Shifts.
-#[derive(Drop)]
+#[derive(Clone, Copy)]
 pub enum Shift {
     Shl,
     UShr,

@@ -1,9 +1,13 @@
 // Orders the lists of standard input (tests/order_lists.py): each is the length of the slice that is lent, its own
 // length and its words, little-endian. A line for each: `ordered N: SLOTS`, `looped N: SLOTS` or `refused N at P`, and
 // `rest kept` where the slice stays past the slots, or whole after a refusal; else `rest changed`.
-use libc::STDOUT_FILENO;
+#![tactic(auto)]
+
 use ordering::Ordering;
 use word_input::Next;
+
+// The file descriptor of standard output.
+const STDOUT_FILENO: i32 = 1;
 
 // Stands in a slice before `order` writes there.
 const UNTOUCHED: u32 = 2779096485;

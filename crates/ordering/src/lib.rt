@@ -1,5 +1,7 @@
 // Document 02's change 4: the order of a list's nodes, each after all that it reads currently, or the loop that is
 // named.
+#![tactic(auto)]
+
 ghost use Rattle.std.specs.Prelude.{◌≡◌, ◌≤◌, length};
 ghost use Rattle.cell.specs.Design.{total};
 ghost use Rattle.cell.specs.declared.Mode.{Mode};
@@ -11,7 +13,7 @@ use design_list::{Extent, SlotTable};
 use logic::Fault;
 
 // The order or a loop, with its length; or the first fault, 14 last: a slice too short for the slots.
-#[derive(Drop)]
+#[derive(Clone, Copy)]
 pub enum Ordering {
     Ordered(usize),
     Looped(usize),

@@ -1,4 +1,6 @@
 // Where the sort of a term comes from: what the record that makes it says.
+#![tactic(auto)]
+
 ghost use Rattle.std.specs.Prelude.{◌≡◌, suc, ◌-◌, ◌<◌, ◌^◌};
 ghost use Rattle.engine.specs.Encode.{call_at};
 ghost use Rattle.engine.specs.Structure.{binary_origin, origin_of};

@@ -1,4 +1,6 @@
 // What the order of work answers, packed into one word of 64 bits.
+#![tactic(auto)]
+
 ghost use Rattle.std.specs.Prelude.{◌≡◌, length, ◌≤◌};
 ghost use Rattle.packed.specs.Verified.{packed_verified, lent, counts_written, Told};
 

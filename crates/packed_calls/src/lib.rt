@@ -1,5 +1,7 @@
 // What checker, evaluator, writer and answer reader say, packed into one word of 64 bits. Where a caller lends tables,
 // what they hold afterwards is free.
+#![tactic(auto)]
+
 ghost use Rattle.std.specs.Prelude.{◌≡◌};
 ghost use Rattle.packed_calls.specs.Packed.{PackedCheck, checked_of, packed_evaluation, PackedEvaluation};
 ghost use Rattle.packed_calls.specs.Packed.{packed_written, PackedScript, PackedAnswer};

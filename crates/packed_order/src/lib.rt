@@ -1,4 +1,6 @@
 // The order of a list's nodes or its loop, packed into one word of 64 bits.
+#![tactic(auto)]
+
 ghost use Rattle.std.specs.Prelude.{◌≡◌};
 ghost use Rattle.packed_order.specs.Packed.{packed_order};
 

@@ -1,4 +1,6 @@
 // A refusal packed into one word of 64 bits.
+#![tactic(auto)]
+
 ghost use Rattle.std.specs.Prelude.{◌≡◌};
 ghost use Rattle.packing.specs.Packed.{packed_fault};
 

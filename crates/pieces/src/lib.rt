@@ -1,5 +1,7 @@
 // The pieces of a script's lines: names, terms and applications as SMT-LIB text in a lent slice of bytes. Each function
 // writes a piece from a place on and gives the next place; past the slice's end it only counts.
+#![tactic(auto)]
+
 ghost use Rattle.std.specs.Prelude.{◌≡◌, ◌∷◌, [], ◌++◌, get_or};
 ghost use Rattle.engine.specs.Call as c;
 ghost use Rattle.engine.specs.Emit.{Wrote};
@@ -17,7 +19,7 @@ use call_list::{Operation, TermOp};
 use logic::Term;
 
 // How a term is written: a letter, a number and a suffix, by its number.
-#[derive(Drop)]
+#[derive(Clone, Copy)]
 struct Spelling {
     letter: u8,
     index: usize,
@@ -25,7 +27,7 @@ struct Spelling {
 }
 
 // What the line of a record does.
-#[derive(Drop)]
+#[derive(Clone, Copy)]
 pub enum Line {
     Define,
     Declare,
@@ -34,7 +36,7 @@ pub enum Line {
 }
 
 // How the term that a record defines is written.
-#[derive(Drop)]
+#[derive(Clone, Copy)]
 pub enum Body {
     Bool,
     And,

@@ -1,4 +1,6 @@
 // The cells of a design list, each placed on its slots after the one before, with the word of every slot.
+#![tactic(auto)]
+
 ghost use Rattle.std.specs.Prelude.{◌≡◌, ◌+◌, ◌-◌, ◌<◌, ◌≤◌, ◌^◌, max};
 ghost use Rattle.std.proofs.lemmas.List.Edits.{sets};
 ghost use Rattle.placing.specs.Slots.{standing_number, mark_word, slot_words};
@@ -9,7 +11,7 @@ use cell_reader::Record;
 use logic::{Fault, Slot};
 
 // A cell's operation and output width, the slot and the place after it; or the fault met.
-#[derive(Drop)]
+#[derive(Clone, Copy)]
 pub enum Placing {
     Placed {
         op: Operation,
@@ -21,7 +23,7 @@ pub enum Placing {
 }
 
 // How many cells, and the place after them; or the fault met.
-#[derive(Drop)]
+#[derive(Clone, Copy)]
 pub enum Cells {
     Read { count: usize, next: usize },
     Refused(Fault),

@@ -1,5 +1,7 @@
 // The program below its input and output: the bytes of a design list to the bytes of its script, or of its refusal, and
 // of the line that names its loop.
+#![tactic(auto)]
+
 ghost use Rattle.std.specs.Prelude.{◌≡◌, ◌≤◌, length, take};
 ghost use Rattle.engine.specs.Emit.{Wrote};
 ghost use Rattle.requirement.specs.Verified.{read_in};
@@ -14,7 +16,7 @@ use requirement::Verified;
 use script::Written;
 
 // How many bytes are written: of the line that names a loop, and of the text.
-#[derive(Drop)]
+#[derive(Clone, Copy)]
 pub struct Lengths {
     pub line: usize,
     pub text: usize,

@@ -2,11 +2,15 @@
 // and each as two words, low first, and the room for values. Writes a line for each: `well formed TERMS NAMES` or
 // `malformed at PLACE`, then `evaluated FALSE` or `refused FAULT at PLACE`, then what the values are after, which were
 // all 7777; of more than 64 a digest.
+#![tactic(auto)]
+
 use checker::CallList;
 use eval::Evaluation;
-use libc::STDOUT_FILENO;
 use logic::Fault;
 use word_input::Next;
+
+// The file descriptor of standard output.
+const STDOUT_FILENO: i32 = 1;
 
 // Room for the longest list that is read.
 fn room() -> [u32; 16400] {

@@ -1,8 +1,12 @@
 // Reads design lists from standard input, each as its length and its words, little-endian, and writes a line for each:
 // `accepted SLOTS` or `refused N at P`.
+#![tactic(auto)]
+
 use design_list::DesignRead;
-use libc::STDOUT_FILENO;
 use word_input::Next;
+
+// The file descriptor of standard output.
+const STDOUT_FILENO: i32 = 1;
 
 // Room for the longest list that is read.
 fn room() -> [u32; 16400] {

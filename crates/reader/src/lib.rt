@@ -1,12 +1,14 @@
 // A reader over the caller's words with its place. A thin function takes it apart and calls the one on a list and a
 // place; the functions at the end have plain parameters and go through a reader.
+#![tactic(auto)]
+
 ghost use Rattle.std.specs.Prelude.{◌≡◌, false};
 ghost use Rattle.fields.specs.Field.{number_at, net_at, constant_at};
 ghost use Rattle.fields.specs.Head.{head_at};
 ghost use Rattle.cell_reader.specs.Record.{record_at};
 
 // The words of a list, and a place among them.
-#[derive(Drop)]
+#[derive(Clone, Copy)]
 pub struct Reader<'a> {
     list: &'a [u32],
     at: usize,

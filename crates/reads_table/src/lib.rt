@@ -1,4 +1,6 @@
 // The current reads of an accepted list as words, and its nodes as flags.
+#![tactic(auto)]
+
 ghost use Rattle.std.specs.Prelude.{◌≡◌, cond, [], ◌∷◌, ℕ, ◌<◌, ◌≤◌, ◌^◌, max, length, replicate};
 ghost use Rattle.cell.specs.Design.{Design, total};
 ghost use Rattle.cell.specs.declared.Mode as declared;

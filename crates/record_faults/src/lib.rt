@@ -1,4 +1,6 @@
 // The faults of one record of a call list (fault 19), after the records before it.
+#![tactic(auto)]
+
 ghost use Rattle.std.specs.Prelude.{◌≡◌, ◌+◌, ◌<◌, length};
 ghost use Rattle.engine.specs.Encode.{operation_at, count_at};
 ghost use Rattle.engine.specs.WellFormed.{first_failing};
@@ -9,7 +11,7 @@ ghost use Rattle.record_faults.specs.Faults.{word_sort, stands_by, wrong_as, aga
 use call_list::Operation;
 
 // The place of a fault of a record.
-#[derive(Drop)]
+#[derive(Clone, Copy)]
 pub enum Wrong {
     None,
     At(usize),

@@ -1,4 +1,6 @@
 // What a record of a call list adds to the numbers written and to the false assertions counted.
+#![tactic(auto)]
+
 ghost use Rattle.std.specs.Prelude.{◌≡◌, set};
 ghost use Rattle.bitvec.specs.Bits.{bit};
 ghost use Rattle.call_list.specs.Operations.{op_from};

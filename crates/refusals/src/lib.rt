@@ -1,1 +1,2 @@
 // What every refusal of the list reader has.
+#![tactic(auto)]

@@ -1,5 +1,7 @@
 // The records of cells in an accepted list, one after the other, and `changes.replaced_cells` of design.rs: the
 // replacements go along with the cells.
+#![tactic(auto)]
+
 ghost use Rattle.std.specs.Prelude.{◌≡◌, true, ◌+◌, ◌<◌, length};
 ghost use Rattle.cell_reader.specs.Parse.{op_at, end_at};
 ghost use Rattle.replaced_cells.specs.Cursor.{is_next, rep_after, Readable};

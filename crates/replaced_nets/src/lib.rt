@@ -1,4 +1,6 @@
 // The second loop of `Design::verify` of design.rs: the net replacements of an accepted list, from its words.
+#![tactic(auto)]
+
 ghost use Rattle.std.specs.Prelude.{◌≡◌, ℕ, ◌<◌, ◌^◌};
 ghost use Rattle.logic.specs.Net.{net_of};
 ghost use Rattle.cell.specs.Design.{Design};

@@ -1,4 +1,6 @@
 // Reading a solver's reply token by token: its first word, and the pairs of names and values after sat.
+#![tactic(auto)]
+
 ghost use Rattle.std.specs.Prelude.{◌≡◌, List, ◌≤◌, length};
 ghost use Rattle.std.proofs.Math.Seq.{slice};
 ghost use Rattle.engine.specs.Call.{Name};
@@ -12,28 +14,28 @@ use logic::{Fault, Readback};
 use tokens::Next;
 
 // The place after a token that was expected.
-#[derive(Drop)]
+#[derive(Clone, Copy)]
 pub enum Step {
     At(usize),
     Refused(Fault),
 }
 
 // The bit of a value, and the place after it.
-#[derive(Drop)]
+#[derive(Clone, Copy)]
 enum Bit {
     Read(bool, usize),
     Refused(Fault),
 }
 
 // The number of a slot's readback, and the place after its pairs.
-#[derive(Drop)]
+#[derive(Clone, Copy)]
 pub enum Entry {
     Read(u8, usize),
     Refused(Fault),
 }
 
 // The answer's first token: after sat, the place where the rest starts.
-#[derive(Drop)]
+#[derive(Clone, Copy)]
 pub enum Verdict {
     Unsat,
     Sat(usize),

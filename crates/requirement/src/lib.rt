@@ -1,5 +1,7 @@
 // What the order of work answers for a list of words (design.rs, `Design::verify`). The definitions and the claim of
 // requirement 3 stand in specs/, their proof in proofs/; no code but this answer and the tests that it rests on.
+#![tactic(auto)]
+
 ghost use Rattle.std.specs.Prelude.{◌≡◌};
 ghost use Rattle.requirement.specs.Verified.{room_for, told_by};
 
@@ -7,7 +9,7 @@ use builder::Counts;
 use logic::Fault;
 
 // A refusal, a list with no obligation, or one whose obligations are asked.
-#[derive(Drop)]
+#[derive(Clone, Copy)]
 pub enum Verified {
     Refused(Fault),
     NothingAsked(Counts),
@@ -15,7 +17,7 @@ pub enum Verified {
 }
 
 // Whether two lent slices have room, or the room that the first short one needs.
-#[derive(Drop)]
+#[derive(Clone, Copy)]
 pub enum Room {
     Enough,
     Short(usize),

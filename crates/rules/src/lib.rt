@@ -1,1 +1,2 @@
 // The rules of the cells over trits.
+#![tactic(auto)]

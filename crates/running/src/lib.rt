@@ -1,5 +1,7 @@
 // The builder's running counts change through the caller's own record: a pass over an accepted list, by value, and over
 // it two functions in which the counts are a record that the caller lends.
+#![tactic(auto)]
+
 ghost use Rattle.std.specs.Prelude.{◌≡◌, min};
 ghost use Rattle.running.specs.Passes.{nothing, Passes};
 
@@ -7,7 +9,7 @@ use builder::Counts;
 use cell::Mode;
 
 // What a pass counted, and how many obligations it asked.
-#[derive(Drop)]
+#[derive(Clone, Copy)]
 pub struct Tally {
     pub counts: Counts,
     pub obligations: usize,

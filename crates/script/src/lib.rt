@@ -1,5 +1,7 @@
 // The script writer: a call list and the names that its recorded marks ask for, as SMT-LIB text in a lent slice of
 // bytes. Each function writes a part from a place on and gives the next place; past the slice's end it only counts.
+#![tactic(auto)]
+
 ghost use Rattle.std.specs.Prelude.{◌≡◌, [], ◌+◌, length};
 ghost use Rattle.engine.specs.Encode.{decode};
 ghost use Rattle.text.specs.Names.{asked_names};
@@ -15,7 +17,7 @@ use checker::CallList;
 use logic::Fault;
 
 // What the writer answers: how many bytes it wrote, or a refusal with document 01's number and place.
-#[derive(Drop)]
+#[derive(Clone, Copy)]
 pub enum Written {
     Bytes(usize),
     Refused(Fault),

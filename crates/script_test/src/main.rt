@@ -1,6 +1,8 @@
 // Reads call lists from standard input and writes the script of each, or its refusal. A case is three little-endian
 // words, how many call words, marks and bytes of room follow or are lent, then the call words and the marks, one byte
 // each.
+#![tactic(auto)]
+
 ghost use Rattle.std.specs.Prelude.{◌≤◌, length};
 
 use script::Written;

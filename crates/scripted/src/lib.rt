@@ -1,1 +1,2 @@
 // The script of an accepted list.
+#![tactic(auto)]

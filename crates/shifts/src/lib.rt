@@ -1,4 +1,6 @@
 // SmtBuilder of smt.rs: prepare_shift and the shifts of `cell`, from the fields of the cell's record.
+#![tactic(auto)]
+
 ghost use Rattle.std.specs.Prelude.{◌≡◌, true, [], ◌∷◌, ◌++◌, ℕ, suc, ◌-◌, ◌≤◌};
 ghost use Rattle.logic.specs.Net.{constant};
 ghost use Rattle.logic.specs.declared.Trit.TheVariants as t;
@@ -18,7 +20,7 @@ use engine::BinaryOp;
 use operators::Shift;
 
 // What prepare_shift gives, and the counts after its calls.
-#[derive(Drop)]
+#[derive(Clone, Copy)]
 pub struct BuiltPrepared {
     pub prepared: Prepared,
     pub counts: Counts,

@@ -1,4 +1,6 @@
 // What the slot table tells the order of work: how wide a slot's cell is, and what a net replacement is.
+#![tactic(auto)]
+
 ghost use Rattle.std.specs.Prelude.{◌≡◌};
 ghost use Rattle.logic.specs.Net.{driver_of};
 ghost use Rattle.slots.specs.Tells.{width_in};
@@ -7,7 +9,7 @@ ghost use Rattle.slots.specs.Pairs.{standing_at, IsKind};
 use logic::{Driver, Net, Slot};
 
 // A net replacement: of equal nets, of a Void's net, of a Dff's net by a Dff's, or any other.
-#[derive(Drop)]
+#[derive(Clone, Copy)]
 pub enum Pair {
     Equal,
     OfVoid,

@@ -1,4 +1,6 @@
 // SmtBuilder of smt.rs: what `Design::verify` makes of a cell, and `check`: the steps of the order of work.
+#![tactic(auto)]
+
 ghost use Rattle.std.specs.Prelude.{◌≡◌, [], ◌∷◌, ◌+◌, ◌<◌, ◌≤◌};
 ghost use Rattle.right.specs.Bounds.{Bounded};
 ghost use Rattle.right.specs.Shape.{Shaped};

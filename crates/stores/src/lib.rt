@@ -1,4 +1,6 @@
 // One word, or 0, stored all along a lent slice, and the words of another slice copied to it.
+#![tactic(auto)]
+
 ghost use Rattle.std.specs.Prelude.{◌≡◌, ◌-◌, ◌≤◌, length, replicate, take};
 ghost use Rattle.std.proofs.lemmas.List.Edits.{sets};
 

@@ -1,4 +1,6 @@
 // SmtBuilder of smt.rs: what Mul and the divisions have in common, one operation on y and all X unless a term holds.
+#![tactic(auto)]
+
 ghost use Rattle.std.specs.Prelude.{◌≤◌};
 ghost use Rattle.engine.specs.Emit.{binary_of};
 ghost use Rattle.smt.specs.Builder.{tv_strict, may_divide, tv_divide};

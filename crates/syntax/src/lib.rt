@@ -1,5 +1,7 @@
 // SMT-LIB's texts of operations, sorts and literals, in a lent slice of bytes. Each function writes a text from a place
 // on and gives the next place; past the slice's end it only counts.
+#![tactic(auto)]
+
 ghost use Rattle.std.specs.Prelude.{◌-◌, eqb};
 ghost use Rattle.bitvec.specs.Bits.{nat2bv};
 ghost use Rattle.engine.specs.Emit.{Wrote, binary_of, compare_of};

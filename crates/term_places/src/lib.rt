@@ -1,5 +1,7 @@
 // The places of a call list's terms: a table has that of the record of every `gap + 1`th term, from which the record of
 // a term after it is counted on.
+#![tactic(auto)]
+
 ghost use Rattle.std.specs.Prelude.{◌≡◌, length};
 ghost use Rattle.term_places.specs.Places.{place_near, gap_of, note_place};
 

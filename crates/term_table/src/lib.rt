@@ -1,5 +1,7 @@
 // The sorts of a call list's terms: a table has those of the first, past which a ring has those of the latest, and the
 // records of the others are searched.
+#![tactic(auto)]
+
 ghost use Rattle.std.specs.Prelude.{◌≡◌, cond, ◌+◌, ◌%◌, ◌<◌, length, get_or, set, leb};
 ghost use Rattle.engine.specs.Structure.{capped, guarded};
 ghost use Rattle.term_table.specs.Near.{is_recent, origin_near, sort_near, record_by, note_sort, note_recent};

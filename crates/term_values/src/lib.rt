@@ -1,4 +1,6 @@
 // The numbers of terms: what a record's operation makes of the numbers and sorts of the terms before it.
+#![tactic(auto)]
+
 ghost use Rattle.std.specs.Prelude.{◌≡◌, cond, get_or, eqb};
 ghost use Rattle.bitvec.specs.Bits.{bit, nat2bv};
 ghost use Rattle.bitvec.specs.Words.{at_width, holds_at};

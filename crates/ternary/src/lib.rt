@@ -1,5 +1,7 @@
 // SmtBuilder of smt.rs: the arms of `cell` on two vectors and a net, each from the fields of the cell's record. A
 // promise speaks of every slot and width that an arm does not look at.
+#![tactic(auto)]
+
 ghost use Rattle.std.specs.Prelude.{ℕ, ◌+◌, ◌≤◌};
 ghost use Rattle.cell.specs.declared.Operation.TheVariants as O;
 ghost use Rattle.cell_reader.specs.Parse.{number_in, cell_in};

@@ -1,5 +1,7 @@
 // Bytes of a lent text: reading one, and writing bytes, texts and decimal numbers with the next place counted past the
 // end.
+#![tactic(auto)]
+
 ghost use Rattle.std.specs.Prelude.{◌≡◌, ◌∷◌, [], ◌+◌, ◌-◌, ◌≤◌, ◌<◌, ◌^◌, length, take, get_or, set};
 ghost use Rattle.engine.specs.Emit.{Wrote, overwrite};
 ghost use Rattle.text.specs.Bytes.{decimal};

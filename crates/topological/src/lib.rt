@@ -1,5 +1,7 @@
 // The order of nodes that read nodes, the lowest ready one always next (Kahn's). The reads are words, 4,096 × the node
 // that reads + the node read, and a flag that is not 0 says that a number is a node that is not done.
+#![tactic(auto)]
+
 ghost use Rattle.std.specs.Prelude.{◌≡◌, Bool, false, ℕ, ◌+◌, ◌<◌, ◌≤◌, length, get_or, set};
 ghost use Rattle.loops.specs.Edges.{reader_of, read_of, done_in};
 ghost use Rattle.lowest_set.specs.Tree.{Holds};

@@ -1,5 +1,7 @@
 // SmtBuilder of smt.rs: its functions on trit vectors (`tv_`) that touch no net, but for the
 // truth tables, under their own names and in its order.
+#![tactic(auto)]
+
 ghost use Rattle.std.specs.Prelude.{◌≡◌, List, map, ℕ, ◌-◌, suc, min, length};
 ghost use Rattle.logic.specs.Trit.{x_of, y_of};
 ghost use Rattle.logic.specs.declared.Trit.{Trit};

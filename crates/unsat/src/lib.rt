@@ -1,1 +1,2 @@
 // What unsat says of a design.
+#![tactic(auto)]

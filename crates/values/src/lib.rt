@@ -1,5 +1,7 @@
 // SmtBuilder of smt.rs: its functions that read the nets of a value (`curr_value`, `past_value`, `value`). A value is a
 // run of net words, of the list or of a table, or the output of a cell, by its first slot and its width.
+#![tactic(auto)]
+
 ghost use Rattle.std.specs.Prelude.{◌+◌, ◌*◌, ◌≤◌, ◌<◌, length};
 ghost use Rattle.cell_reader.specs.Parse.{nets_in};
 ghost use Rattle.smt.specs.Builder.{collect, value_of, curr_value, past_value, output_nets};

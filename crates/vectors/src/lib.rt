@@ -1,4 +1,6 @@
 // SmtBuilder of smt.rs: vectors made of elements, bv_concat and tv_concat.
+#![tactic(auto)]
+
 ghost use Rattle.std.specs.Prelude.{◌≡◌, ℕ, ◌+◌, ◌*◌, ◌<◌, set};
 ghost use Rattle.smt.specs.Builder.{bv_concat, tv_concat};
 ghost use Rattle.builder.specs.Ran.{trits, MakesVector, MakesTrits};

@@ -1,6 +1,11 @@
 // The program of document 01: the words of a design list on standard input, its script or its refusal on standard
 // output, before a script the line that names a loop.
-use libc::{STDIN_FILENO, STDOUT_FILENO};
+#![tactic(auto)]
+
+// The file descriptors of standard input and standard output.
+const STDIN_FILENO: i32 = 0;
+
+const STDOUT_FILENO: i32 = 1;
 
 fn main() {
     // A byte more than 16,384 words, by which a longer input shows itself.

@@ -2,10 +2,14 @@
 // accepted list is a word 0, the mode, its lengths D, C and M, then D words of the list, and of the oracle or that page
 // C call words and M marks; a refused one is a word 1, the mode, D, the fault's number and place, then D words. Each
 // lent slice is filled first, and compared whole. The last line counts the lists that are answered as stored.
+#![tactic(auto)]
+
 use builder::Counts;
-use libc::STDOUT_FILENO;
 use requirement::Verified;
 use word_input::Next;
+
+// The file descriptor of standard output.
+const STDOUT_FILENO: i32 = 1;
 
 // Stands in a slice before `verify` writes there.
 const UNTOUCHED_WORD: u32 = 2779096485;

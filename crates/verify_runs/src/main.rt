@@ -1,7 +1,13 @@
 // Runs the program's function on stored inputs, and writes for each a line with its name and what the program writes. A
 // case is its name and its input, each after its length in a little-endian word.
-use libc::{STDIN_FILENO, STDOUT_FILENO};
+#![tactic(auto)]
+
 use word_input::Next;
+
+// The file descriptors of standard input and standard output.
+const STDIN_FILENO: i32 = 0;
+
+const STDOUT_FILENO: i32 = 1;
 
 // Reads n bytes into a buffer, if it has room for them; how many there were.
 fn read_part(buffer: &mut [u8], n: usize) -> usize {

@@ -1,4 +1,6 @@
 // The C interface: each entry over slices of words, its answer packed into a number.
+#![tactic(auto)]
+
 ghost use Rattle.std.specs.Prelude.{◌≡◌};
 ghost use Rattle.cell.specs.declared.Mode.TheVariants.{Ported};
 ghost use Rattle.design_list.specs.Read.{read, answer};

@@ -1,4 +1,6 @@
 // Fault 10: a second pass over the list, for words that name a Void of the base.
+#![tactic(auto)]
+
 ghost use Rattle.std.specs.Prelude.{◌≡◌, ◌+◌, ◌-◌, ◌<◌, ◌^◌};
 ghost use Rattle.voids.specs.Marks.{is_void_in};
 ghost use Rattle.voids.specs.Voids.{names_void, offends, void_at, clock_at, record_voids_at, replacement_voids_at};
@@ -10,7 +12,7 @@ use fields::Scan;
 use logic::{Driver, Fault, Net, Slot};
 
 // The three kinds of items after the header.
-#[derive(Drop)]
+#[derive(Clone, Copy)]
 pub enum Item {
     Cell,
     Replacement,

@@ -1,5 +1,7 @@
 // `Design::verify` of design.rs: the order of work of an accepted list, as one walk over its words, cells first and
 // then net replacements.
+#![tactic(auto)]
+
 ghost use Rattle.std.specs.Prelude.{◌≡◌, ◌<◌, max, length};
 ghost use Rattle.cell.specs.Design.{Design, total};
 ghost use Rattle.cell.specs.declared.Mode as declared;

@@ -1,5 +1,7 @@
 // `Design::verify` of design.rs: what is made of one cell of an accepted list, by the words of its record and of its
 // replacement.
+#![tactic(auto)]
+
 ghost use Rattle.std.specs.Prelude.{◌≡◌, true, List, [], ◌∷◌, ℕ, ◌+◌, ◌≤◌, ◌<◌};
 ghost use Rattle.cell_reader.specs.Parse.{cell_at};
 ghost use Rattle.order.specs.Verify.{obliged, add_cell, new_cell};

@@ -1,8 +1,11 @@
 // Words from standard input, little-endian, for the test programs.
-use libc::STDIN_FILENO;
+#![tactic(auto)]
+
+// The file descriptor of standard input.
+const STDIN_FILENO: i32 = 0;
 
 // The next word of the input, if there is one.
-#[derive(Drop)]
+#[derive(Clone, Copy)]
 pub enum Next {
     Word(u32),
     End,

@@ -1,1 +1,2 @@
 // Reading nets, current loops, working out and obligations.
+#![tactic(auto)]
