@@ -18,7 +18,7 @@ use Rattle.engine.specs.Meaning.{Value, bool, bits, as_bool, as_bits, Assignment
 use Rattle.engine.specs.Meaning.{Fits, arguments_of, All, Earlier}
 use Rattle.engine.proofs.Laws.{All-map, length_snoc}
 use Rattle.engine.specs.Sorts.{Sort, IsVector, sort_at, binary_sort, sort_of, WellSorted, Context}
-use Rattle.engine.specs.Sorts.{Formed, leaves}
+use Rattle.engine.specs.Sorts.{after, Formed, leaves}
 use Rattle.engine.proofs.SortsLaws.{OfSort}
 
 -- ---- never forward
@@ -50,11 +50,11 @@ formed-earlier x [] f = tt
 formed-earlier x (c.term t ∷ cs) f = (
   args_earlier x.sorts t f.1.0,
   rw (length_snoc x.sorts (sort_of x.sorts t))
-      at (formed-earlier _ cs f.2),
+      at (formed-earlier (after x (c.term t)) cs f.2),
 )
-formed-earlier x (c.declare name w ∷ cs) f = rw (length_snoc x.sorts w) at (formed-earlier _ cs f.2)
+formed-earlier x (c.declare name w ∷ cs) f = rw (length_snoc x.sorts w) at (formed-earlier (after x (c.declare name w)) cs f.2)
 formed-earlier x (c.assert k ∷ cs) f = (there x.sorts k (let h = f.1.0 in omega arith), formed-earlier x cs f.2)
-formed-earlier x (c.check ∷ cs) f = formed-earlier _ cs f.2
+formed-earlier x (c.check ∷ cs) f = formed-earlier (after x c.check) cs f.2
 
 -- ---- each value of its sort
 
@@ -141,8 +141,8 @@ pub run_sorted : (ρ : Assignment) (x : Context) (l : List Value) (cs : List Cal
     → Sorted x.sorts l → Sorted (leaves x cs).sorts (run ρ l cs)
 unfolding run leaves
 run_sorted ρ x l [] f w g = g
-run_sorted ρ x l (c.term t ∷ cs) f w g = run_sorted ρ _ _ cs f.2 w (sorted_snoc g _ _ (denote-sort g t f.1.0))
+run_sorted ρ x l (c.term t ∷ cs) f w g = run_sorted ρ (after x (c.term t)) _ cs f.2 w (sorted_snoc g _ _ (denote-sort g t f.1.0))
 run_sorted ρ x l (c.declare name n ∷ cs) f w g =
-    run_sorted ρ _ _ cs f.2 w.1 (sorted_snoc g n (bits (ρ name)) (f.1.1, w.0))
+    run_sorted ρ (after x (c.declare name n)) _ cs f.2 w.1 (sorted_snoc g n (bits (ρ name)) (f.1.1, w.0))
 run_sorted ρ x l (c.assert k ∷ cs) f w g = run_sorted ρ x l cs f.2 w g
-run_sorted ρ x l (c.check ∷ cs) f w g = run_sorted ρ _ l cs f.2 w g
+run_sorted ρ x l (c.check ∷ cs) f w g = run_sorted ρ (after x c.check) l cs f.2 w g

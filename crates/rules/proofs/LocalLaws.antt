@@ -58,6 +58,7 @@ module _ (reads_past : ℕ → Bool) (θ θ' : Trits) where
   nets-monotone : (nets : List Net) → On (current_nets reads_past nets) → (n : Net) → Memᴰ n nets
       → Refines (read n) (read' n)
   unfolding current_nets
+  nets-monotone [] h n x'' = elim x'' [ ]
   nets-monotone (a ∷ nets) h n (Memᴰ.head e) = rw e (net-monotone a (first _ _ h))
   nets-monotone (a ∷ nets) h n (Memᴰ.tail m) = nets-monotone nets (second (current_net reads_past a) _ h) n m
 

@@ -11,7 +11,7 @@ use Rattle.working_out.specs.Graph.{mark}
 use Rattle.working_out.proofs.GraphLaws.{mark-other, mark_keeps, Ready, Ordered}
 use Rattle.working_out.specs.System.{any, owns, is_node, start, reads, fill, work_out}
 
-pub any_mem : (p : ℕ → Bool) {l : List ℕ} {j : ℕ} → Memᴰ j l → p j ≡ true → any p l ≡ true
+pub any_mem : (p : ℕ → Bool) {j : ℕ} {l : List ℕ} → Memᴰ j l → p j ≡ true → any p l ≡ true
 unfolding any
 any_mem p {j = j} (Memᴰ.head {x = x} q) e = rw (← q, e)
 any_mem p (Memᴰ.tail {x = x} m) e = go (p x) (any_mem p m e)

@@ -1,0 +1,14 @@
+-- `fields::constants_at` meets its contract. The invariant: the scan from here answers what the scan from the start
+-- does. The measure is what is left. Assumes nothing.
+use borrow.Author.Rules.{rules}
+use mathlib.Core.Path.{◌≡◌, refl, sym, ◌∙◌}
+use native.Mathlib.Omega.{arith}
+use Rattle.fields.specs.Field.{constants_at}
+use Rattle.fields.proofs.Laws.{many-none, many_turn, many-fault}
+use Rattle.fields.proofs.constants_at.Given as goal
+
+abbrev pub invariant-loop-left : goal.invariant-loop-left
+invariant-loop-left l = constants_at l.list l.end l.n l.start ≡ constants_at l.list l.end l.left l.at
+
+abbrev pub decreases-loop-left : goal.decreases-loop-left
+decreases-loop-left l = l.left

@@ -1,0 +1,8 @@
+-- `stores::clear_words` meets its contract. Assumes nothing.
+use borrow.Author.Rules.{rules}
+use Rattle.stores.proofs.Laws.{all-zeros}
+use Rattle.stores.proofs.clear_words.Goals as goal
+
+pub returns : goal.returns
+returns c =
+    rw c.fill.ensures (all-zeros c.args.words.now)

@@ -1,0 +1,16 @@
+-- `stores::copy` meets its contract. The invariant: storing the rest from here gives what storing all from the start
+-- does. The measure is what is left to store. Assumes nothing.
+use borrow.Author.Rules.{rules}
+use Prim.Native.Nat.{◌-◌, ◌≤◌}
+use mathlib.Core.Path.{◌≡◌, refl, sym, ◌∙◌}
+use lib.ListN.{length, take, drop, length-set}
+use lib.Seq.{sets}
+use Rattle.stores.proofs.Laws.{copy_turn, copy_done}
+use Rattle.stores.proofs.copy.Given as goal
+
+abbrev pub invariant-loop-i : goal.invariant-loop-i
+invariant-loop-i l =
+    (l.n ≤ length l.words → sets l.initial.out 0 (take l.n l.words) ≡ sets l.out l.i (drop l.i (take l.n l.words))) × (length l.out ≡ length l.initial.out)
+
+abbrev pub decreases-loop-i : goal.decreases-loop-i
+decreases-loop-i l = l.n - l.i
