@@ -54,10 +54,10 @@ sorts-many : (x : Context) (calls : List Call) → length (leaves x calls).sorts
     ≡ length x.sorts + length (made calls)
 unfolding leaves made
 sorts-many x [] = omega arith
-sorts-many x (c.term t ∷ calls) = sorts-many _ calls ∙ rw length-append (omega arith)
-sorts-many x (c.declare name w ∷ calls) = sorts-many _ calls ∙ rw length-append (omega arith)
+sorts-many x (c.term t ∷ calls) = sorts-many (after x (c.term t)) calls ∙ rw length-append (omega arith)
+sorts-many x (c.declare name w ∷ calls) = sorts-many (after x (c.declare name w)) calls ∙ rw length-append (omega arith)
 sorts-many x (c.assert k ∷ calls) = sorts-many x calls
-sorts-many x (c.check ∷ calls) = sorts-many _ calls
+sorts-many x (c.check ∷ calls) = sorts-many (after x c.check) calls
 
 pub length-sorts : (calls : List Call) → length (sorts_of calls) ≡ length (made calls)
 length-sorts calls = sorts-many start calls ∙ omega arith
@@ -68,11 +68,11 @@ sorts-kept : (x : Context) (calls : List Call) (k : ℕ) → k < length x.sorts 
 unfolding leaves
 sorts-kept x [] k h = refl
 sorts-kept x (c.term t ∷ calls) k h =
-    sorts-kept _ calls k (rw length-append (omega arith)) ∙ get_or-append x.sorts _ no_sort k h
+    sorts-kept (after x (c.term t)) calls k (rw length-append (omega arith)) ∙ get_or-append x.sorts _ no_sort k h
 sorts-kept x (c.declare name w ∷ calls) k h =
-    sorts-kept _ calls k (rw length-append (omega arith)) ∙ get_or-append x.sorts _ no_sort k h
+    sorts-kept (after x (c.declare name w)) calls k (rw length-append (omega arith)) ∙ get_or-append x.sorts _ no_sort k h
 sorts-kept x (c.assert a ∷ calls) k h = sorts-kept x calls k h
-sorts-kept x (c.check ∷ calls) k h = sorts-kept _ calls k h
+sorts-kept x (c.check ∷ calls) k h = sorts-kept (after x c.check) calls k h
 
 -- The call that makes the next term: its place among the terms, and its sort.
 module _ (before : List Call) (call : Call) (after' : List Call) where

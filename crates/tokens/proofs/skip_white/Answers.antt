@@ -12,5 +12,5 @@ use Rattle.tokens.proofs.skip_white.Goals as goal
 
 pub loop-at-preserved : goal.loop-at-preserved
 loop-at-preserved c =
-    let white = sym c.is_white.ensures ∙ not-false _ c.if-not-is_white.false in
+    let white = sym c.is_white.ensures ∙ c.if-not-is_white.false in
     c.loop-at.invariant ∙ tokens-white _ _ c.loop-at-test.true white

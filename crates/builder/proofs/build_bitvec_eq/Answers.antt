@@ -1,0 +1,7 @@
+-- `builder::build_bitvec_eq` meets its contract: it is one call of the engine. Assumes nothing.
+use borrow.Author.Rules.{rules}
+use Rattle.builder.proofs.Laws.{ran_op}
+use Rattle.builder.proofs.build_bitvec_eq.Goals as goal
+
+pub returns : goal.returns
+returns c = λ i j. ran_op _ _ c.build_eq.ensures c.made.ensures

@@ -1,0 +1,7 @@
+-- `builder::build_bool_ite` meets its contract: it is one call of the engine. Assumes nothing.
+use borrow.Author.Rules.{rules}
+use Rattle.builder.proofs.Laws.{ran_op}
+use Rattle.builder.proofs.build_bool_ite.Goals as goal
+
+pub returns : goal.returns
+returns c = ran_op _ _ c.build_bool_ite.ensures c.made.ensures

@@ -1,0 +1,63 @@
+-- `call_list::place_from` meets its contract: from each record on, the scan finds the place that it finds from the
+-- first. The measure is how many words are left. Assumes nothing.
+use Prim.Native.Nat.{ℕ, ◌+◌, ◌-◌, ◌≤◌}
+use mathlib.Core.Path.{◌≡◌, refl, sym, ap, ◌∙◌}
+use borrow.Author.Rules.{rules}
+use native.Mathlib.Omega.{arith}
+use lib.ListN.{length}
+use Rattle.engine.specs.Encode.{makes_term, bare, next_at}
+use Rattle.engine.specs.Structure.{term_place}
+use Rattle.engine.proofs.StructureLaws.{place_end, place_here, place-next, place_skip}
+use Rattle.call_list.proofs.place_from.Goals as goal
+
+pub loop-at-init : goal.loop-at-init
+loop-at-init c = (length c.args.calls.now, omega arith, refl)
+
+pub returns-then-more-eq0 : goal.returns-then-more-eq0
+returns-then-more-eq0 c =
+    let state = c.loop-at in
+    let w = c.args.calls.now in
+    let inv = state.invariant in
+    let makes = sym (c.makes_term.ensures ∙ ap makes_term c.operation_at.ensures)
+    ∙ c.if-makes_term.true in
+    sym (inv.2
+    ∙ place_here w state.at state.more c.loop-at-test.true inv.0 (omega arith) makes c.if-more-eq0.true)
+
+pub loop-at-preserved-then-makes_term : goal.loop-at-preserved-then-makes_term
+loop-at-preserved-then-makes_term c =
+    let state = c.loop-at in
+    let w = c.args.calls.now in
+    let inv = state.invariant in
+    let makes = sym (c.makes_term.ensures ∙ ap makes_term c.operation_at.ensures)
+    ∙ c.if-makes_term.true in
+    let next : c.next_record-at.result ≡ next_at bare w state.at =
+    omega (arith, c.next_record-at.ensures, c.loop-at-test.true) in (
+      inv.0 - 1,
+      omega arith,
+      inv.2 ∙ place-next w state.at state.more c.loop-at-test.true inv.0 (omega arith) makes
+          c.if-more-eq0.false
+          ∙ ap (λ (k : ℕ). term_place (inv.0 - 1) w k (state.more - 1)) (sym next),
+    )
+
+pub loop-at-preserved : goal.loop-at-preserved
+loop-at-preserved c =
+    let state = c.loop-at in
+    let w = c.args.calls.now in
+    let inv = state.invariant in
+    let makes = sym (c.makes_term.ensures ∙ ap makes_term c.operation_at.ensures)
+    ∙ c.if-makes_term.false in
+    let next : c.next_record-at-else-makes_term.result ≡ next_at bare w state.at =
+    omega (arith, c.next_record-at-else-makes_term.ensures, c.loop-at-test.true) in (
+      inv.0 - 1,
+      omega arith,
+      inv.2 ∙ place_skip w state.at state.more c.loop-at-test.true inv.0 (omega arith) makes
+          ∙ ap (λ (k : ℕ). term_place (inv.0 - 1) w k state.more) (sym next),
+    )
+
+pub returns : goal.returns
+returns c =
+    let state = c.loop-at in
+    let inv = state.invariant in
+    sym (inv.2
+    ∙ place_end inv.0 c.args.calls.now state.at state.more
+    c.loop-at-test.false)

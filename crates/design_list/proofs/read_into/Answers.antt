@@ -1,0 +1,46 @@
+-- `design_list::read_into` meets its contract: it follows the definition; a header that was read has at most 4,096
+-- slots. Assumes nothing.
+use borrow.Author.Tests.{lt-ltb, le-ltb}
+use mathlib.Core.Path.{refl, sym, ◌∙◌}
+use native.Mathlib.Omega.{arith}
+use Rattle.design_list.specs.Read.{read}
+use Rattle.design_list.specs.Table.{Stored}
+use Rattle.design_list.proofs.TableLaws.{stored-cells}
+use Rattle.items.proofs.Laws.{header_read}
+use borrow.Author.Rules.{rules}
+use Rattle.design_list.proofs.read_into.Goals as goal
+
+pub returns-then-list-gt16384 : goal.returns-then-list-gt16384
+unfolding read Stored
+returns-then-list-gt16384 c mode = rw (lt-ltb _ _ c.if-list-gt16384.true) (refl, tt)
+
+pub returns-then-list-lt4 : goal.returns-then-list-lt4
+unfolding read Stored
+returns-then-list-lt4 c mode = rw (le-ltb _ _ c.if-list-gt16384.false, lt-ltb _ 4 c.if-list-lt4.true) (refl, tt)
+
+pub read_cells-requires : goal.read_cells-requires
+read_cells-requires c =
+    let small = header_read _ (sym c.header_at.ensures ∙ c.in-Read.is) in
+    (small, omega (arith, small))
+
+pub returns-in-Refused : goal.returns-in-Refused
+unfolding read Stored
+returns-in-Refused c mode =
+    rw (
+      le-ltb _ _ c.if-list-gt16384.false,
+      le-ltb _ _ c.if-list-lt4.false,
+      ← c.header_at.ensures,
+      c.in-Refused.is,
+    )
+    (refl, tt)
+
+pub returns-in-Read : goal.returns-in-Read
+unfolding read
+returns-in-Read c mode =
+    rw (
+      le-ltb _ _ c.if-list-gt16384.false,
+      le-ltb _ _ c.if-list-lt4.false,
+      ← c.header_at.ensures,
+      c.in-Read.is,
+    )
+    (c.read_cells.ensures.0 mode, stored-cells mode _ _ _ _ c.read_cells.ensures.1)

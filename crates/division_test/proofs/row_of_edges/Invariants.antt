@@ -1,0 +1,10 @@
+-- `division_test::row_of_edges` ends: the loop's measure is the operands left; it asks nothing else. Assumes nothing.
+use borrow.Author.Rules.{rules}
+use Prim.Native.Nat.{◌-◌}
+use Rattle.division_test.proofs.row_of_edges.Given as goal
+
+abbrev pub invariant-loop-k : goal.invariant-loop-k
+invariant-loop-k l = Unit
+
+abbrev pub decreases-loop-k : goal.decreases-loop-k
+decreases-loop-k l = 9 - k

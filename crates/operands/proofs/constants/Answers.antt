@@ -1,0 +1,56 @@
+-- `operands::constants` meets its contract. The invariant: the numbers are those of the constants from i on, which
+-- leave room for one more. The measure is i. Assumes nothing.
+use mathlib.Core.Path.{◌≡◌, refl, sym, ap, ◌∙◌}
+use Prim.Native.Nat.{◌+◌, ◌-◌, ◌≤◌, min}
+use native.Mathlib.Omega.{arith}
+use borrow.Author.Rules.{rules}
+use Rattle.logic.specs.Trit.{x_of, y_of}
+use Rattle.operands.specs.Words.{packed}
+use Rattle.operands.proofs.Numbers.{packed_turn, packed_none, packed_all, packed-room, bit-low, packed_literal}
+use Rattle.operands.proofs.constants.Goals as goal
+
+pub loop-i-init : goal.loop-i-init
+loop-i-init c =
+    let args = c.args in
+    let few = c.at_most_64-i.ensures in
+    let i = c.at_most_64-i.result in (
+      omega arith,
+      sym (packed_none x_of args.words.now (min args.n 64) (args.at + i) i (omega arith)),
+      sym (packed_none y_of args.words.now (min args.n 64) (args.at + i) i (omega arith)),
+    )
+
+pub overflow_mul-x : goal.overflow_mul-x
+overflow_mul-x c =
+    let args = c.args in
+    omega (arith, packed-room x_of args.words.now args.n args.at c.loop-i.i c.loop-i-test.true)
+
+pub overflow_add-x : goal.overflow_add-x
+overflow_add-x c =
+    let args = c.args in
+    let room = packed-room x_of args.words.now args.n args.at c.loop-i.i c.loop-i-test.true in
+    omega (arith, bit-low (x_of c.trit_at-trit.result))
+
+pub overflow_mul-y : goal.overflow_mul-y
+overflow_mul-y c =
+    let args = c.args in
+    omega (arith, packed-room y_of args.words.now args.n args.at c.loop-i.i c.loop-i-test.true)
+
+pub overflow_add-y : goal.overflow_add-y
+overflow_add-y c =
+    let args = c.args in
+    let room = packed-room y_of args.words.now args.n args.at c.loop-i.i c.loop-i-test.true in
+    omega (arith, bit-low (y_of c.trit_at-trit.result))
+
+pub loop-i-preserved : goal.loop-i-preserved
+loop-i-preserved c =
+    let args = c.args in
+    let more = c.loop-i-test.true in (
+      omega arith,
+      rw (c.loop-i.invariant.1, c.x_bit.ensures, c.trit_at-trit.ensures)
+          (sym (packed_turn x_of args.words.now (min args.n 64) args.at c.loop-i.i more c.loop-i.invariant.0)),
+      rw (c.loop-i.invariant.2, c.y_bit.ensures, c.trit_at-trit.ensures)
+          (sym (packed_turn y_of args.words.now (min args.n 64) args.at c.loop-i.i more c.loop-i.invariant.0)),
+    )
+
+pub returns-clause-literal : goal.returns-clause-literal
+returns-clause-literal c = ?

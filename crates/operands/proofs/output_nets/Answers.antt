@@ -1,0 +1,28 @@
+-- `operands::output_nets` meets its contract. The invariant: storing the rest from here gives what storing all from the
+-- start does. The measure is what is left to store; the nets of the stored words are the output's. Assumes nothing.
+use borrow.Author.Rules.{rules}
+use Prim.Native.Nat.{ℕ, ◌+◌, ◌-◌}
+use mathlib.Core.Path.{◌≡◌, refl, sym, ap, ◌∙◌}
+use lib.ListN.{length, length-set}
+use lib.Seq.{sets}
+use Rattle.logic.specs.Net.{net_of_slot}
+use Rattle.logic.specs.Word.{net_word}
+use Rattle.operands.specs.Words.{output_words}
+use Rattle.operands.proofs.Stores.{rest, rest_all, rest_turn, rest_none}
+use Rattle.operands.proofs.Nets.{nets-output}
+use Rattle.operands.proofs.output_nets.Goals as goal
+use Rattle.operands.proofs.output_nets.Invariants.{output}
+
+pub loop-i-preserved : goal.loop-i-preserved
+loop-i-preserved c =
+    let args = c.args in (
+      c.loop-i.invariant.0 ∙ rest_turn (output args.slot.0) c.loop-i.out c.loop-i.i _ c.loop-i.i c.loop-i-test.true ∙
+          rw (c.put.ensures, c.output_word.ensures),
+      rw c.put.ensures (simp length-set c.loop-i.invariant.1),
+    )
+
+pub returns-clause-stored : goal.returns-clause-stored
+returns-clause-stored c = ?
+
+pub returns-clause-nets : goal.returns-clause-nets
+returns-clause-nets c = ?

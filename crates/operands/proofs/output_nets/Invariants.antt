@@ -1,0 +1,25 @@
+-- `operands::output_nets` meets its contract. The invariant: storing the rest from here gives what storing all from the
+-- start does. The measure is what is left to store; the nets of the stored words are the output's. Assumes nothing.
+use borrow.Author.Rules.{rules}
+use Prim.Native.Nat.{ℕ, ◌+◌, ◌-◌}
+use mathlib.Core.Path.{◌≡◌, refl, sym, ap, ◌∙◌}
+use lib.ListN.{length, length-set}
+use lib.Seq.{sets}
+use Rattle.logic.specs.Net.{net_of_slot}
+use Rattle.logic.specs.Word.{net_word}
+use Rattle.operands.specs.Words.{output_words}
+use Rattle.operands.proofs.Stores.{rest, rest_all, rest_turn, rest_none}
+use Rattle.operands.proofs.Nets.{nets-output}
+use Rattle.operands.proofs.output_nets.Given as goal
+
+-- The word of an output.
+abbrev pub output : ℕ → ℕ → ℕ
+output s j = net_word (net_of_slot (s + j))
+
+abbrev pub invariant-loop-i : goal.invariant-loop-i
+invariant-loop-i l =
+    (sets l.initial.out 0 (output_words l.slot.0 l.width) ≡ sets l.out l.i (rest (output l.slot.0) l.width l.i))
+    × (length l.out ≡ length l.initial.out)
+
+abbrev pub decreases-loop-i : goal.decreases-loop-i
+decreases-loop-i l = l.width - l.i

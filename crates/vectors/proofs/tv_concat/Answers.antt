@@ -1,0 +1,57 @@
+-- `vectors::tv_concat` meets its contract. Invariant: the elements from i on are joined, as the model joins them, to a
+-- vector of n - i trits. It holds of the last element alone, and each turn is one step of the model (`tv-from_turn`).
+-- The measure is i. Assumes nothing.
+use borrow.Author.Rules.{rules}
+use mathlib.Core.Path.{◌≡◌, refl, sym, ◌∙◌}
+use mathlib.Core.List.{List}
+use Prim.Native.Nat.{ℕ, ◌+◌, ◌-◌, ◌<◌}
+use native.Mathlib.Omega.{arith}
+use lib.ListN.{length}
+use Rattle.smt.specs.Builder.{tv_concat_on}
+use Rattle.builder.specs.Ran.{trits, MakesTrits}
+use Rattle.builder.proofs.Laws.{ran_as}
+use Rattle.vectors.specs.Elements.{element_at}
+use Rattle.vectors.proofs.Concat.{from, tv-from_top, tv-from_turn, tv-from-all, tv-concat-none}
+use Rattle.vectors.proofs.tv_concat.Goals as goal
+
+pub returns-then-n-eq0 : goal.returns-then-n-eq0
+returns-then-n-eq0 c =
+    let args = c.args in
+    λ names marks. tv-concat-none args.terms.now args.n c.if-n-eq0.true _ names marks _
+
+pub loop-i-init : goal.loop-i-init
+loop-i-init c =
+    let n = c.args.n in
+    let above : 0 < n = omega (arith, c.if-n-eq0.false) in
+    let one : n - (n - 1) ≡ 1 = omega arith in (
+      omega arith,
+      refl,
+      λ names marks.
+          ran_as (tv-from_top c.args.terms.now n above c.args.calls.now names marks c.args.c)
+          (rw one (sym c.element_at-top.ensures)),
+    )
+
+pub loop-i-preserved : goal.loop-i-preserved
+loop-i-preserved c =
+    let inv = c.loop-i.invariant in
+    let i = c.loop-i.i in
+    let args = c.args in
+    let n = args.n in
+    let above = c.loop-i-test.true in
+    let width : n - i + 1 ≡ n - (i - 1) = omega (arith, inv.0, above) in (
+      omega arith,
+      c.tv_join-result.auto.calls ∙ inv.1,
+      λ names marks. ran_as (tv-from_turn args.terms.now n i above inv.0 (inv.2 names marks)
+          (rw c.element_at-elem.ensures at (c.tv_join-result.ensures (n - i) 1 names marks))) (rw width),
+    )
+
+pub returns : goal.returns
+returns c =
+    let inv = c.loop-i.invariant in
+    let args = c.args in
+    let n = args.n in
+    let none : c.loop-i.i ≡ 0 = omega (arith, c.loop-i-test.false) in
+    let width : n - 0 ≡ n = omega arith in
+    λ names marks.
+    rw (tv-from-all args.terms.now n (omega (arith, inv.0)))
+    (ran_as (rw none at (inv.2 names marks)) (rw width))

@@ -1,0 +1,24 @@
+-- `voids::items_voids_at` meets its contract. The invariant: the scan from here answers what the scan from the start
+-- does. The measure is what is left. Assumes nothing.
+use borrow.Author.Rules.{rules}
+use mathlib.Core.Path.{◌≡◌, refl, sym, ◌∙◌}
+use native.Mathlib.Omega.{arith}
+use Rattle.fields.specs.Field.{scan_many}
+use Rattle.fields.proofs.Laws.{many-none, many_turn, many-fault}
+use Rattle.voids.specs.Marks.{is_void_in}
+use Rattle.voids.specs.Voids.{item_voids_at}
+use Rattle.voids.proofs.items_voids_at.Goals as goal
+
+pub returns-in-Refused : goal.returns-in-Refused
+returns-in-Refused c =
+    sym
+    (c.loop-left.invariant ∙
+    many-fault _ _ _ c.loop-left-test.true (sym c.item_voids_at.ensures ∙ c.in-Refused.is))
+
+pub loop-left-preserved : goal.loop-left-preserved
+loop-left-preserved c =
+    c.loop-left.invariant ∙
+    many_turn _ _ _ c.loop-left-test.true (sym c.item_voids_at.ensures ∙ c.in-Clean.is)
+
+pub returns : goal.returns
+returns c = sym (c.loop-left.invariant ∙ many-none _ _ _ c.loop-left-test.false)

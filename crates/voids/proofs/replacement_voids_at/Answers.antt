@@ -1,0 +1,18 @@
+-- `voids::replacement_voids_at` meets its contract: each answer rewrites the definition by the tests and calls that
+-- lead to it. Assumes nothing.
+use borrow.Author.Tests.{lt-ltb, le-ltb}
+use Rattle.voids.specs.Voids.{replacement_voids_at}
+use borrow.Author.Rules.{rules}
+use Rattle.voids.proofs.replacement_voids_at.Goals as goal
+
+pub returns-then-at-list : goal.returns-then-at-list
+unfolding replacement_voids_at
+returns-then-at-list c =
+    rw (
+      lt-ltb _ _ c.if-at-list.true,
+      ← c.record_voids_at.ensures,
+    )
+
+pub returns : goal.returns
+unfolding replacement_voids_at
+returns c = rw (le-ltb _ _ c.if-at-list.false)
