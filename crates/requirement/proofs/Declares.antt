@@ -58,6 +58,7 @@ reading_collect : (r : NetRead) (f : Net → Prog TritVec) (n : Net) → Reading
     Memᴰ n nets
     → Reading r (collect f nets)
 unfolding collect
+reading_collect r f n h [] x' = elim x' [ ]
 reading_collect r f n h (m ∷ nets) (Memᴰ.head e) =
     reading_first r (f m) _ (subst (λ (x : Net). Reading r (f x)) e h)
 reading_collect r f n h (m ∷ nets) (Memᴰ.tail q) =

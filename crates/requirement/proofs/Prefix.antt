@@ -8,7 +8,7 @@ use native.Mathlib.Omega.{arith}
 use lib.ListN.{length}
 use Rattle.engine.specs.Call.{Name, Call}
 use Rattle.engine.specs.Call as c
-use Rattle.engine.specs.Meaning.{Value, bits, Assignment, value_at, run, Fits, Asserted, Earlier, terms}
+use Rattle.engine.specs.Meaning.{Value, bits, Assignment, value_at, denote, run, Fits, Asserted, Earlier, terms}
 use Rattle.engine.proofs.Laws.{run_keeps, run_append, length_run}
 use Rattle.requirement.specs.Requirement3.{declared_names, IsDeclared}
 
@@ -60,10 +60,10 @@ AgreeOn ρ ρ' cs = (name : Name) → IsDeclared cs name → ρ name ≡ ρ' nam
 pub run_agrees : (ρ ρ' : Assignment) (l : List Value) (cs : List Call) → AgreeOn ρ ρ' cs → run ρ l cs ≡ run ρ' l cs
 unfolding run declared_names
 run_agrees ρ ρ' l [] e = refl
-run_agrees ρ ρ' l (c.term t ∷ cs) e = run_agrees ρ ρ' _ cs e
+run_agrees ρ ρ' l (c.term t ∷ cs) e = run_agrees ρ ρ' (l ++ (denote (value_at l) t ∷ [])) cs e
 run_agrees ρ ρ' l (c.declare name w ∷ cs) e =
     ap (λ (s : _). run ρ (l ++ (bits s ∷ [])) cs) (e name (Memᴰ.head refl))
-    ∙ run_agrees ρ ρ' _ cs (λ n m. e n (Memᴰ.tail m))
+    ∙ run_agrees ρ ρ' (l ++ (bits (ρ' name) ∷ [])) cs (λ n m. e n (Memᴰ.tail m))
 run_agrees ρ ρ' l (c.assert k ∷ cs) e = run_agrees ρ ρ' l cs e
 run_agrees ρ ρ' l (c.check ∷ cs) e = run_agrees ρ ρ' l cs e
 

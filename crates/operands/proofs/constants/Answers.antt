@@ -52,5 +52,13 @@ loop-i-preserved c =
           (sym (packed_turn y_of args.words.now (min args.n 64) args.at c.loop-i.i more c.loop-i.invariant.0)),
     )
 
-pub returns-clause-literal : goal.returns-clause-literal
-returns-clause-literal c = ?
+pub returns : goal.returns
+returns c =
+    let args = c.args in
+    let words = args.words.now in
+    let k = min args.n 64 in
+    let x : c.loop-i.x ≡ packed x_of words k args.at =
+    packed_all x_of words k args.at c.loop-i.i _ c.loop-i-test.false c.loop-i.invariant.1 in
+    let y : c.loop-i.y ≡ packed y_of words k args.at =
+    packed_all y_of words k args.at c.loop-i.i _ c.loop-i-test.false c.loop-i.invariant.2 in
+    record { numbers = (x, y); literal = packed_literal words args.n args.at c.loop-i.x c.loop-i.y x y }

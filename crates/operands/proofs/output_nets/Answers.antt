@@ -21,8 +21,9 @@ loop-i-preserved c =
       rw c.put.ensures (simp length-set c.loop-i.invariant.1),
     )
 
-pub returns-clause-stored : goal.returns-clause-stored
-returns-clause-stored c = ?
-
-pub returns-clause-nets : goal.returns-clause-nets
-returns-clause-nets c = ?
+pub returns : goal.returns
+returns c =
+    let args = c.args in
+    let stored : c.loop-i.out ≡ sets args.out.now 0 (output_words args.slot.0 args.width) =
+    sym (c.loop-i.invariant.0 ∙ rest_none (output args.slot.0) c.loop-i.out _ _ c.loop-i.i c.loop-i-test.false) in
+    record { stored = stored; nets = λ room low. rw stored (nets-output args.out.now args.slot.0 args.width room low) }

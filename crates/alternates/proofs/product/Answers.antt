@@ -1,0 +1,33 @@
+-- `alternates::product` meets its contract. Invariant: the positions below `index` are compared, and what the model
+-- does from `index` on completes its whole run (`ProductLeft`); each turn is one position. What is left of n positions
+-- falls. Assumes nothing.
+use borrow.Author.Rules.{rules}
+use mathlib.Core.Path.{◌≡◌, refl, ◌∙◌}
+use Prim.Native.Nat.{◌≤◌, ◌+◌, ◌-◌}
+use native.Mathlib.Omega.{arith}
+use lib.ListN.{length}
+use Rattle.cell_reader.specs.Parse.{nets_in, trits_in}
+use Rattle.builder.specs.Ran.{trits}
+use Rattle.nets.specs.Reads.{past_in}
+use Rattle.vectors.proofs.Tables.{drop-tab, drop_all}
+use Rattle.alternates.proofs.Loops.{ProductLeft, product-start, product_turn, product-end}
+use Rattle.alternates.proofs.product.Goals as goal
+
+pub loop-index-preserved : goal.loop-index-preserved
+loop-index-preserved c =
+    let inv = c.loop-index.invariant in
+    let index = c.loop-index.index in
+    let n = c.args.n in
+    let kept = c.position-result.auto.1.1.1.1 in
+    let low = c.loop-index-test.true in (
+      omega arith,
+      kept.0 ∙ inv.1,
+      kept.1.0 ∙ inv.2,
+      kept.1.1.0 ∙ inv.3,
+      product_turn index _ _ (drop-tab n index _ low) (drop-tab n index _ low) inv.4
+          (rw c.trit_at-mask.ensures at c.position-result.ensures),
+    )
+
+pub returns : goal.returns
+returns c =
+    product-end c.loop-index.index (drop_all c.args.n _ _ c.loop-index-test.false) c.loop-index.invariant.4

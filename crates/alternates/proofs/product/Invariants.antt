@@ -1,0 +1,24 @@
+-- `alternates::product` meets its contract. Invariant: the positions below `index` are compared, and what the model
+-- does from `index` on completes its whole run (`ProductLeft`); each turn is one position. What is left of n positions
+-- falls. Assumes nothing.
+use borrow.Author.Rules.{rules}
+use mathlib.Core.Path.{◌≡◌, refl, ◌∙◌}
+use Prim.Native.Nat.{◌≤◌, ◌+◌, ◌-◌}
+use native.Mathlib.Omega.{arith}
+use lib.ListN.{length}
+use Rattle.cell_reader.specs.Parse.{nets_in, trits_in}
+use Rattle.builder.specs.Ran.{trits}
+use Rattle.nets.specs.Reads.{past_in}
+use Rattle.vectors.proofs.Tables.{drop-tab, drop_all}
+use Rattle.alternates.proofs.Loops.{ProductLeft, product-start, product_turn, product-end}
+use Rattle.alternates.proofs.product.Given as goal
+
+abbrev pub invariant-loop-index : goal.invariant-loop-index
+invariant-loop-index l =
+    (l.index ≤ l.n) × (length l.calls ≡ length l.initial.calls) × (length l.names ≡ length l.initial.names) × (length l.marks ≡ length l.initial.marks)
+    × ProductLeft (past_in l.table) (nets_in l.fields l.n 3) (trits_in l.fields l.n l.at) (trits 1 l.initial.result.value)
+    l.initial.calls l.initial.names l.initial.marks l.initial.result.counts
+    l.index (trits 1 l.result.value) l.calls l.names l.marks l.result.counts
+
+abbrev pub decreases-loop-index : goal.decreases-loop-index
+decreases-loop-index l = l.n - l.index

@@ -1,0 +1,30 @@
+-- `alternates::sum` meets its contract. Invariant: the alternates below i are summed, and what the model does from i on
+-- completes its whole run (`SumLeft`); each turn is one alternate, whose place is exact within the premise. What is
+-- left of the alternates falls. Assumes nothing.
+use borrow.Author.Rules.{rules}
+use mathlib.Core.Path.{◌≡◌, refl, ap, ◌∙◌}
+use Prim.Native.Nat.{◌≤◌, ◌<◌, ◌+◌, ◌*◌, ◌-◌, ◌^◌}
+use native.Mathlib.Omega.{arith}
+use lib.ListN.{length}
+use Rattle.logic.specs.Table.{tab}
+use Rattle.logic.specs.Word.{payload_of}
+use Rattle.cell_reader.specs.Parse.{nets_in, trits_in}
+use Rattle.smt.specs.Builder.{match_of}
+use Rattle.builder.specs.Ran.{trits}
+use Rattle.builder.proofs.Laws.{ran_bind}
+use Rattle.nets.specs.Reads.{past_in}
+use Rattle.vectors.proofs.Tables.{drop-tab, drop_all}
+use Rattle.alternates.proofs.Loops.{SumLeft, sum-start, sum_turn, sum-end}
+use Rattle.alternates.proofs.Places.{alternate-low}
+use Rattle.alternates.proofs.sum.Given as goal
+
+abbrev pub invariant-loop-i : goal.invariant-loop-i
+invariant-loop-i l =
+    (l.i ≤ l.alternates) × (length l.calls ≡ length l.initial.calls) × (length l.names ≡ length l.initial.names) × (length l.marks ≡ length l.initial.marks)
+    × (l.at + 1 + l.alternates * l.n < 2 ^ 32
+    → SumLeft (past_in l.table) (nets_in l.fields l.n 3) (tab l.alternates (λ j. trits_in l.fields l.n (l.at + 1 + j * l.n)))
+    (trits 1 l.initial.sum.value)
+    l.initial.calls l.initial.names l.initial.marks l.initial.sum.counts l.i (trits 1 l.sum.value) l.calls l.names l.marks l.sum.counts)
+
+abbrev pub decreases-loop-i : goal.decreases-loop-i
+decreases-loop-i l = l.alternates - l.i
