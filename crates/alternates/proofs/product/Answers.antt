@@ -18,12 +18,11 @@ loop-index-preserved c =
     let inv = c.loop-index.invariant in
     let index = c.loop-index.index in
     let n = c.args.n in
-    let kept = c.position-result.auto.1.1.1.1 in
     let low = c.loop-index-test.true in (
       omega arith,
-      kept.0 ∙ inv.1,
-      kept.1.0 ∙ inv.2,
-      kept.1.1.0 ∙ inv.3,
+      c.position-result.auto.calls ∙ inv.1,
+      c.position-result.auto.names ∙ inv.2,
+      c.position-result.auto.marks ∙ inv.3,
       product_turn index _ _ (drop-tab n index _ low) (drop-tab n index _ low) inv.4
           (rw c.trit_at-mask.ensures at c.position-result.ensures),
     )

@@ -25,11 +25,11 @@ loop-i-preserved c =
     let i = c.loop-i.i in
     let m = c.payload-alternates.result in
     let low = c.loop-i-test.true in
-    let kept = c.product-prd.auto.1.1.1.1 in (
+    (
       omega arith,
-      c.tv_or-sum.auto.calls ∙ kept.0 ∙ c.trit_lit-one.auto.calls ∙ inv.1,
-      kept.1.0 ∙ inv.2,
-      kept.1.1.0 ∙ inv.3,
+      c.tv_or-sum.auto.calls ∙ c.product-prd.auto.calls ∙ c.trit_lit-one.auto.calls ∙ inv.1,
+      c.product-prd.auto.names ∙ inv.2,
+      c.product-prd.auto.marks ∙ inv.3,
       λ room.
           let place_is = c.alternate_at-place.ensures ∙ alternate-low args.at i m args.n low room in
           sum_turn i _ (drop-tab m i _ low) (inv.4 room)

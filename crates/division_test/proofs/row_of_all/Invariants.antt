@@ -7,4 +7,4 @@ abbrev pub invariant-loop-t : goal.invariant-loop-t
 invariant-loop-t l = Unit
 
 abbrev pub decreases-loop-t : goal.decreases-loop-t
-decreases-loop-t l = numbers - t
+decreases-loop-t l = l.numbers - l.t

@@ -7,4 +7,4 @@ abbrev pub invariant-loop-k : goal.invariant-loop-k
 invariant-loop-k l = Unit
 
 abbrev pub decreases-loop-k : goal.decreases-loop-k
-decreases-loop-k l = 9 - k
+decreases-loop-k l = 9 - l.k

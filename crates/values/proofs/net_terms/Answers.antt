@@ -21,13 +21,12 @@ loop-i-preserved c =
     let inv = c.loop-i.invariant in
     let args = c.args in
     let i = c.loop-i.i in
-    let kept = c.read_net-made.auto.1.1 in
     let low : c.payload.result < 2 ^ 29 = omega (arith, c.payload.ensures) in
     let read = c.read_net-made.ensures low in (
       omega arith,
-      kept.0 ∙ inv.1,
-      kept.1.0 ∙ inv.2,
-      kept.1.1.0 ∙ inv.3,
+      c.read_net-made.auto.calls ∙ inv.1,
+      c.read_net-made.auto.names ∙ inv.2,
+      c.read_net-made.auto.marks ∙ inv.3,
       c.put_element.auto.terms ∙ inv.4,
       λ room.
           let more = c.loop-i-test.true in

@@ -1,0 +1,24 @@
+-- `asked::bad_mark` meets its contract. The loop's invariant: the first mark that does not stand is the first from
+-- `slot` on. The measure is the number of marks left. Assumes nothing.
+use borrow.Author.Rules.{rules}
+use Prim.Native.Nat.{◌-◌}
+use mathlib.Core.Path.{◌≡◌, refl, sym, ◌∙◌}
+use lib.ListN.{length, drop}
+use borrow.Author.Tests.{not-true, not-false}
+use Rattle.engine.specs.Encode.{decode}
+use Rattle.asked.specs.Marks.{declared_by, stands_by, bad_by}
+use Rattle.asked.proofs.Marks.{by_bad, by_fine, by_done}
+use Rattle.asked.proofs.bad_mark.Goals as goal
+
+pub returns-then-not-mark_stands : goal.returns-then-not-mark_stands
+returns-then-not-mark_stands c =
+    sym (c.loop-slot.invariant
+    ∙ by_bad _ _ _ c.loop-slot-test.true (sym c.mark_stands.ensures ∙ c.if-not-mark_stands.true))
+
+pub loop-slot-preserved : goal.loop-slot-preserved
+loop-slot-preserved c =
+    c.loop-slot.invariant
+    ∙ by_fine _ _ _ c.loop-slot-test.true (sym c.mark_stands.ensures ∙ c.if-not-mark_stands.false)
+
+pub returns : goal.returns
+returns c = sym (c.loop-slot.invariant ∙ by_done _ _ _ c.loop-slot-test.false)

@@ -1,0 +1,11 @@
+-- `lines::put_assert` meets its contract: the pieces in their order. Assumes nothing.
+use borrow.Author.Rules.{rules}
+use Rattle.engine.proofs.EmitLaws.{wrote_then}
+use Rattle.lines.proofs.put_assert.Goals as goal
+
+pub returns : goal.returns
+returns c =
+    let short = c.well_formed.0.0 in
+    wrote_then (wrote_then c.put_bytes-place.ensures
+    (rw c.argument_at.ensures at c.put_reference-closing.ensures) short)
+    c.put_bytes.ensures short

@@ -1,0 +1,12 @@
+-- `net_pairs::replace_net` meets its contract: one obligation, its term pushed. Assumes nothing.
+use borrow.Author.Rules.{rules}
+use mathlib.Core.Path.{refl}
+use Rattle.net_pairs.specs.Does.{obliged_in}
+use Rattle.net_pairs.proofs.Does.{does_pushed}
+use Rattle.net_pairs.proofs.replace_net.Goals as goal
+
+pub returns : goal.returns
+unfolding obliged_in
+returns c =
+    λ low high.
+    does_pushed refl (c.replace_net-eq.ensures low high) c.push.ensures

@@ -1,0 +1,14 @@
+-- `net_steps::currents` meets its contract: its calls are those of the model, one after the other. Assumes nothing.
+use borrow.Author.Rules.{rules}
+use Rattle.builder.proofs.Laws.{ran_bind}
+use Rattle.order.specs.Verify.{currents}
+use Rattle.net_steps.proofs.Laws.{did-obliged}
+use Rattle.net_steps.proofs.currents.Goals as goal
+
+pub returns : goal.returns
+unfolding currents
+returns c =
+    λ low high.
+    did-obliged (ran_bind _ (c.curr_net-from.ensures low)
+    (ran_bind _ (c.curr_net-to.ensures high)
+    (c.tv_refines.ensures 1 1 _ _)))

@@ -1,0 +1,14 @@
+-- `net_steps::replace_net` meets its contract: its calls are those of the model, one after the other. Assumes nothing.
+use borrow.Author.Rules.{rules}
+use Rattle.builder.proofs.Laws.{ran_bind}
+use Rattle.order.specs.Verify.{replace_net}
+use Rattle.net_steps.proofs.Laws.{did-obliged}
+use Rattle.net_steps.proofs.replace_net.Goals as goal
+
+pub returns : goal.returns
+unfolding replace_net
+returns c =
+    λ low high.
+    did-obliged (ran_bind _ (c.curr_net-from.ensures low)
+    (ran_bind _ (c.net-to.ensures high)
+    (c.tv_refines.ensures 1 1 _ _)))

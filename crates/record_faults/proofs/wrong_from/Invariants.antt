@@ -1,0 +1,26 @@
+-- `record_faults::wrong_from` meets its contract: from each argument on, the scan finds what it finds from the first;
+-- the word before and its sort are kept from turn to turn. The measure is how many arguments are left. Assumes nothing.
+use borrow.Author.Rules.{rules}
+use Prim.Native.Nat.{ℕ, ◌+◌, ◌-◌, ◌≤◌}
+use mathlib.Core.Path.{◌≡◌, sym, ap, ◌∙◌}
+use native.Mathlib.Omega.{arith}
+use lib.ListN.{get_or}
+use Rattle.engine.specs.Encode.{Op}
+use Rattle.engine.specs.WellFormed.{first_failing, argument_of}
+use Rattle.engine.proofs.Steps.{failing_none, failing_turn, failing_here}
+use Rattle.record_faults.specs.Faults.{word_sort, stands_by, wrong_as, on_wrong}
+use mathlib.Core.Option.{Option}
+use Rattle.record_faults.specs.declared.Wrong.TheVariants.{At}
+use Rattle.term_table.specs.Near.{sort_near}
+use Rattle.record_faults.proofs.FaultsLaws.{stands_is}
+use Rattle.record_faults.proofs.wrong_from.Given as goal
+
+abbrev pub invariant-loop-i : goal.invariant-loop-i
+invariant-loop-i l =
+    (l.i ≤ l.n) × (l.before ≡ get_or l.calls (l.at + l.i) 0)
+    × (sort-before ≡ word_sort (sort_near l.sorts l.recent l.places l.gap l.calls l.terms) l.terms l.before)
+    × (first_failing (stands_by (sort_near l.sorts l.recent l.places l.gap l.calls l.terms) l.calls l.terms l.at) 0 l.n
+    ≡ first_failing (stands_by (sort_near l.sorts l.recent l.places l.gap l.calls l.terms) l.calls l.terms l.at) l.i (l.n - l.i))
+
+abbrev pub decreases-loop-i : goal.decreases-loop-i
+decreases-loop-i l = l.n - l.i
