@@ -1,8 +1,8 @@
 /* From a design list to a verdict on one step: little-endian words from a file, the script to a solver, its reply read
    back. Whether edits that hold for one step stand when they are applied is told by vm check (docs/UNSAT.md).
 
-       rt staticlib virginalmimas
-       cc -O2 -o verdict examples/verdict.c target/staticlib/libvirginalmimas.a
+       (cd crates/virginalmimas && rt lib)
+       cc -O2 -o verdict examples/verdict.c crates/virginalmimas/out/libvirginalmimas.a
        ./verdict FILE [SOLVER]        the solver is a command that takes a script's name: z3 if none is named */
 #define _POSIX_C_SOURCE 200809L
 #include <stdio.h>

@@ -1,4 +1,5 @@
-/* The C interface of Virginalmimas, a verified netlist checker. Link libvirginalmimas.a, which `rt staticlib virginalmimas` writes.
+/* The C interface of Virginalmimas, a verified netlist checker. Link libvirginalmimas.a, which `rt lib` in
+   crates/virginalmimas proves and writes into its out/.
 
    Every entry takes any words, bytes and lengths and returns; none trusts its caller's checks. Its answer is one number: bits 63 to 48 are the
    number of the first fault (VM_NUMBER; 0: none), bits 47 to 0 its place, or what the entry says (VM_VALUE). A fault leaves every lent slice as it

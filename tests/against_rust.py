@@ -10,8 +10,7 @@ import textwrap
 
 HEAD = """-- Design lists with the call words and the marks that the Rust has for them. Written by tests/against_rust.py from the sample in
 -- oracle/sample/calls.txt.
-use mathlib.Core.List.{List, [], _∷_}
-use Prim.Native.Nat.{ℕ}
+use Rattle.std.specs.Prelude.{List, [], ◌∷◌, ℕ}
 
 pub record Row : Type 0 where
   pub list : List ℕ
@@ -33,8 +32,8 @@ def main():
         n, calls, marks = (int(w, 16) for w in words[:3])
         assert len(words) == 3 + n + calls + marks
         body = words[3:]
-        names.append(f"row-{number}")
-        print(f"abbrev pub row-{number} : Row\nrow-{number} = record {{")
+        names.append(f"row_{number}")
+        print(f"abbrev pub row_{number} : Row\nrow_{number} = record {{")
         print(field("list", body[:n]))
         print(field("calls", body[n : n + calls]))
         print(field("marks", body[n + calls :]))

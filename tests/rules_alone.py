@@ -19,8 +19,9 @@ def text_of(path):
         return file.read()
 
 
-uses = {name: more.split() for name, more in re.findall(r'^(\w+):(.*)', text_of('crates.txt'), re.M)}
-found = re.findall(r'^use Rattle·(\w+)', text_of(RIGHT_SIDE), re.M)
+uses = {name: more.split() for name, more in re.findall(r'^(\w+)(?: \w+)?:(.*)', text_of('crates.txt'), re.M)}
+# std is the kit's own library
+found = [crate for crate in re.findall(r'^(?:pub )?use Rattle\.(\w+)', text_of(RIGHT_SIDE), re.M) if crate != 'std']
 for crate in found:
     found += [other for other in uses[crate] if other not in found]
 others = sorted(set(found) - RULES)

@@ -8,11 +8,12 @@ import time
 
 ROOT = os.path.dirname(os.path.dirname(os.path.abspath(__file__)))
 FOLDER = os.path.join(ROOT, 'target', 'vm')
-ARCHIVE = os.path.join(ROOT, 'target', 'staticlib', 'libvirginalmimas.a')
-PROGRAM = os.path.join(ROOT, 'target', 'bin', 'verify')
+CRATES = os.path.join(ROOT, 'crates')
+ARCHIVE = os.path.join(CRATES, 'virginalmimas', 'out', 'libvirginalmimas.a')
+PROGRAM = os.path.join(CRATES, 'verify', 'out', 'verify')
 STAMP, LOG = os.path.join(FOLDER, 'stamp'), os.path.join(FOLDER, 'build.log')
-# rt proves what a staticlib needs one crate at a time, and what a check needs several at a time.
-STEPS = (('check', 'verify', 'virginalmimas'), ('staticlib', 'virginalmimas'))
+# What rt does in which crate's folder. It builds a program only to run it, here on no input.
+STEPS = (('lib', 'virginalmimas'), ('run', 'verify'))
 
 
 class Unavailable(Exception):
@@ -20,9 +21,11 @@ class Unavailable(Exception):
 
 
 def _newest():
-    """When a source was last changed."""
+    """When a source was last changed. In a crate's folder `out` rt keeps what it makes."""
     times = [os.path.getmtime(os.path.join(ROOT, 'crates.txt'))]
-    for folder, _, names in os.walk(os.path.join(ROOT, 'crates')):
+    for folder, folders, names in os.walk(CRATES):
+        if 'out' in folders and os.path.dirname(folder) == CRATES:
+            folders.remove('out')
         times += [os.path.getmtime(os.path.join(folder, name)) for name in names]
     return max(times)
 
@@ -51,21 +54,20 @@ def _build(say):
     began = time.time()
     if os.path.exists(STAMP):   # what is cut off while it is written is then not taken for built
         os.remove(STAMP)
-    say('proving the verifier and building it; the first time this takes ten to twenty minutes on two cores')
-    for step in STEPS:
-        _run(['rt', *step], say, began)
+    say('proving the verifier and building it; the first time this takes many minutes')
+    for verb, crate in STEPS:
+        _run(['rt', verb], os.path.join(CRATES, crate), say, began)
     with open(STAMP, 'w'):
         pass
     os.utime(STAMP, (began, began))
     say(f'proved and built in {time.time() - began:.0f} s')
 
 
-def _run(command, say, began):
+def _run(command, folder, say, began):
     """Runs a step of the build; what it started ends with it."""
-    jobs = os.environ.get('RT_JOBS') or str(min(8, 3 * (os.cpu_count() or 1)))
     with open(LOG, 'wb') as out:
-        running = subprocess.Popen(command, cwd=ROOT, stdout=out, stderr=subprocess.STDOUT, stdin=subprocess.DEVNULL,
-                                   env=dict(os.environ, RT_JOBS=jobs), start_new_session=True)
+        running = subprocess.Popen(command, cwd=folder, stdout=out, stderr=subprocess.STDOUT, stdin=subprocess.DEVNULL,
+                                   start_new_session=True)
         try:
             while running.poll() is None:
                 time.sleep(0.2)
@@ -75,8 +77,8 @@ def _run(command, say, began):
                 os.killpg(running.pid, signal.SIGKILL)
                 running.wait()
     if running.returncode != 0:
-        raise Unavailable(f'The verifier was not built: {" ".join(command)} ended with status {running.returncode}. '
-                          f'What it wrote is in {os.path.relpath(LOG)}.')
+        raise Unavailable(f'The verifier was not built: {" ".join(command)} in {os.path.relpath(folder)} ended with '
+                          f'status {running.returncode}. What it wrote is in {os.path.relpath(LOG)}.')
 
 
 def _last_line(path):

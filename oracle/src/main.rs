@@ -169,7 +169,7 @@ fn compared(seed: u64, count: u64, size: Size, scope: Scope) -> Result<bool, Str
 
 #[cfg(not(port))]
 fn compared(_seed: u64, _count: u64, _size: Size, _scope: Scope) -> Result<bool, String> {
-    Err("built without the archive: `rt staticlib virginalmimas`, then oracle/build".to_string())
+    Err("built without the archive: `rt lib` in crates/virginalmimas, then oracle/build".to_string())
 }
 
 fn generated(seed: u64, count: u64, size: Size, scope: Scope) -> Result<bool, String> {

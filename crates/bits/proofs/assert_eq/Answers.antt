@@ -1,5 +1,4 @@
 -- `bits::assert_eq` meets its contract: two calls, of which the first makes a term. Assumes nothing.
-use borrow.Author.Rules.{rules}
 use Rattle.bits.proofs.Temporaries.{called_two}
 use Rattle.bits.proofs.assert_eq.Goals as goal
 

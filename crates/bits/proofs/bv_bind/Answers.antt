@@ -1,5 +1,4 @@
 -- `bits::bv_bind` meets its contract: a name declared, the temporaries counted, the equation asserted. Assumes nothing.
-use borrow.Author.Rules.{rules}
 use Rattle.bits.proofs.Temporaries.{ran_bv-bind}
 use Rattle.bits.proofs.bv_bind.Goals as goal
 

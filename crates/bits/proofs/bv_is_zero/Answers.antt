@@ -1,5 +1,4 @@
 -- `bits::bv_is_zero` meets its contract: its calls are those of the model, one after the other. Assumes nothing.
-use borrow.Author.Rules.{rules}
 use Rattle.builder.proofs.Laws.{ran_bind}
 use Rattle.smt.specs.Builder.{bv_is_zero}
 use mathlib.Core.Path.{ap, ◌∙◌}

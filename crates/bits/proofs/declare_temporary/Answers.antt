@@ -1,5 +1,4 @@
 -- `bits::declare_temporary` meets its contract: it is one call of the engine. Assumes nothing.
-use borrow.Author.Rules.{rules}
 use Rattle.bits.proofs.Temporaries.{called-one}
 use Rattle.bits.proofs.declare_temporary.Goals as goal
 

@@ -1,5 +1,4 @@
 -- `lowest_set::insert` meets its contract: the set with one more differs from the set in that number. Assumes nothing.
-use borrow.Author.Rules.{rules}
 use Rattle.lowest_set.proofs.Changing.{mark_changes}
 use Rattle.lowest_set.proofs.insert.Goals as goal
 

@@ -1,13 +1,10 @@
 -- `lowest_set::lowest` meets its contract. The invariant: p is not 0 and every leaf left of those under it is. A leaf
 -- that is reached so is that of the lowest number. The measure is what is left up to 8,192. Assumes nothing.
-use borrow.Author.Rules.{rules}
 use mathlib.Core.Path.{sym, ◌∙◌}
-use mathlib.Core.Bool.{Bool}
-use Prim.Native.Nat.{ℕ, ◌-◌, ◌<◌}
+use Prim.Native.Nat.{◌-◌}
 use lib.Dec.{eqb}
 use native.Mathlib.Omega.{arith}
-use Rattle.lowest_set.specs.Tree.{Holds}
-use Rattle.lowest_set.proofs.Finding.{Reached, none-there, reached_root, reached_down, child_within}
+use Rattle.lowest_set.proofs.Finding.{none-there, reached_root, reached_down, child_within}
 use Rattle.lowest_set.proofs.Finding.{reached_leaf}
 use Rattle.lowest_set.proofs.lowest.Goals as goal
 

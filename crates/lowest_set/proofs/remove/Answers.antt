@@ -1,5 +1,4 @@
 -- `lowest_set::remove` meets its contract: the set without one differs from the set in that number. Assumes nothing.
-use borrow.Author.Rules.{rules}
 use Rattle.lowest_set.proofs.Changing.{without_changes}
 use Rattle.lowest_set.proofs.remove.Goals as goal
 

@@ -1,12 +1,8 @@
 -- `lowest_set::renew` meets its contract. The invariant: the word at p alone may be wrong. Computing it again can make
 -- only the word above it wrong, and above the root there is none. The measure is p. Assumes nothing.
-use borrow.Author.Rules.{rules}
-use mathlib.Core.Path.{◌≡◌, refl, ◌∙◌}
-use mathlib.Core.Bool.{Bool}
-use Prim.Native.Nat.{ℕ, ◌≤◌}
 use native.Mathlib.Omega.{arith}
-use lib.ListN.{length, length-set}
-use Rattle.lowest_set.proofs.Changing.{Except, leaf-stored, word_computed, all_right}
+use lib.ListN.{length-set}
+use Rattle.lowest_set.proofs.Changing.{leaf-stored, word_computed, all_right}
 use Rattle.lowest_set.proofs.renew.Goals as goal
 
 pub loop-p-preserved : goal.loop-p-preserved

@@ -18,7 +18,7 @@ use Rattle.record_faults.proofs.wrong_from.Given as goal
 abbrev pub invariant-loop-i : goal.invariant-loop-i
 invariant-loop-i l =
     (l.i ≤ l.n) × (l.before ≡ get_or l.calls (l.at + l.i) 0)
-    × (sort-before ≡ word_sort (sort_near l.sorts l.recent l.places l.gap l.calls l.terms) l.terms l.before)
+    × (l.sort_before ≡ word_sort (sort_near l.sorts l.recent l.places l.gap l.calls l.terms) l.terms l.before)
     × (first_failing (stands_by (sort_near l.sorts l.recent l.places l.gap l.calls l.terms) l.calls l.terms l.at) 0 l.n
     ≡ first_failing (stands_by (sort_near l.sorts l.recent l.places l.gap l.calls l.terms) l.calls l.terms l.at) l.i (l.n - l.i))
 

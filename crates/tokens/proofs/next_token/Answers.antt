@@ -1,6 +1,5 @@
 -- `tokens::next_token` meets its contract: past the white space stands the end, a parenthesis or a run. Assumes
 -- nothing.
-use borrow.Author.Rules.{rules}
 use mathlib.Core.Path.{sym, ◌∙◌}
 use native.Mathlib.Omega.{arith}
 use Rattle.tokens.proofs.Laws.{tokens_none, tokens-parenthesis, tokens-run, run_inside, run-after}

@@ -1,10 +1,7 @@
 -- `tokens::run_end` meets its contract. The loop's invariant: the run that starts at `at` ends where the one from
 -- `start` does. The measure is what is left of the text. Assumes nothing.
-use borrow.Author.Rules.{rules}
 use Prim.Native.Nat.{◌-◌}
-use mathlib.Core.Path.{◌≡◌, refl, sym, ◌∙◌}
-use lib.ListN.{length}
-use Rattle.tokens.specs.Place.{run_end}
+use mathlib.Core.Path.{sym, ◌∙◌}
 use Rattle.tokens.proofs.Laws.{run_none, run-stops, run_goes}
 use Rattle.tokens.proofs.run_end.Goals as goal
 

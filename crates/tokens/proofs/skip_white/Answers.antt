@@ -1,13 +1,8 @@
 -- `tokens::skip_white` meets its contract. The loop's invariant: the tokens from `at` are those from `start`.
 -- The measure is what is left of the text. Assumes nothing.
-use borrow.Author.Rules.{rules}
 use Prim.Native.Nat.{◌-◌}
-use mathlib.Core.Path.{◌≡◌, refl, sym, ◌∙◌}
-use native.Mathlib.Omega.{arith}
-use lib.ListN.{length}
-use Rattle.tokens.specs.Place.{tokens_from}
+use mathlib.Core.Path.{sym, ◌∙◌}
 use Rattle.tokens.proofs.Laws.{tokens-white}
-use borrow.Author.Tests.{not-true, not-false}
 use Rattle.tokens.proofs.skip_white.Goals as goal
 
 pub loop-at-preserved : goal.loop-at-preserved

@@ -1,0 +1,23 @@
+-- `cell_reads::flip_flop_edges` meets its contract: the clock, then the three other controls and the data, which stand
+-- in one run. Assumes nothing.
+use borrow.Author.Rules.{rules}
+use mathlib.Core.Path.{ap, ◌∙◌}
+use mathlib.Core.Bool.{true}
+use Prim.Native.Nat.{◌+◌}
+use native.Mathlib.Omega.{arith}
+use Rattle.logic.specs.Word.{payload_of}
+use Rattle.cell_reader.specs.Parse.{net_in}
+use Rattle.nets.specs.Reads.{past_in}
+use Rattle.cell_reads.specs.Reads.{past_by}
+use Rattle.cell_reads.proofs.Adding.{adds_append}
+use Rattle.cell_reads.proofs.Runs.{few_of_net}
+use Rattle.cell_reads.proofs.Records.{flip_flop_reads_lem}
+use Rattle.cell_reads.proofs.flip_flop_edges.Goals as goal
+
+pub returns : goal.returns
+returns c =
+    let pre = c.requires in
+    let number = c.payload-n.ensures ∙ ap payload_of c.word_at.ensures in
+    let clock = c.net_edge-clocked.ensures pre.0 (omega (arith, pre.1)) in
+    rw (← flip_flop_reads_lem (past_in c.args.table.now) c.args.list.now c.args.at, ← number)
+    (adds_append clock c.nets_edges.ensures)

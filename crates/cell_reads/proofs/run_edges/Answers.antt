@@ -1,0 +1,23 @@
+-- `cell_reads::run_edges` meets its contract: the nets of the record stand in one run after its numbers, and that run
+-- is read. Assumes nothing.
+use borrow.Author.Rules.{rules}
+use mathlib.Core.Path.{ap, ◌∙◌}
+use Prim.Native.Nat.{◌+◌}
+use native.Mathlib.Omega.{arith}
+use Rattle.logic.specs.Word.{payload_of}
+use Rattle.cell.specs.declared.Fields.{Fields}
+use Rattle.cell.specs.declared.Numbers.{Numbers}
+use Rattle.nets.specs.Reads.{past_in}
+use Rattle.cell_reads.proofs.Records.{run_fits, numbers-low, run-reads}
+use Rattle.cell_reads.proofs.run_edges.Goals as goal
+
+pub returns : goal.returns
+returns c =
+    let args = c.args in
+    let size = ap (λ (f : Fields). f.controls + f.nets) c.fields_of-fields.ensures in
+    let count = ap (λ (l : Numbers). l.count) c.numbers_of-numbers.ensures in
+    let n-is = c.payload-n.ensures ∙ ap payload_of c.word_at.ensures in
+    let m-is = c.payload-m.ensures ∙ ap payload_of c.word_at-2.ensures in
+    λ is.
+    rw (← run-reads (past_in args.table.now) args.list.now args.at args.op is)
+    (rw (size, count, n-is, m-is) at c.nets_edges.ensures)

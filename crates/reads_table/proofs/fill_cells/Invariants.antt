@@ -1,0 +1,23 @@
+-- `reads_table::fill_cells` meets its contract: along the cells (`ReadsLeft`), each turn stores the reads of one cell
+-- if it is asserted, and after the last slot none is left. Assumes nothing.
+use borrow.Author.Rules.{rules}
+use mathlib.Core.Path.{◌≡◌, refl, ◌∙◌}
+use Prim.Native.Nat.{ℕ, ◌-◌, ◌%◌, ◌<◌, max}
+use native.Mathlib.Omega.{arith}
+use lib.ListN.{length}
+use Rattle.cell.specs.declared.Mode.{Mode}
+use Rattle.cell.specs.Design.{Design}
+use Rattle.design_list.specs.Read.{read, accepted}
+use Rattle.slots.specs.Tells.{width_in}
+use Rattle.reads_table.specs.Table.{IsTable}
+use Rattle.reads_table.proofs.Filling.{ReadsLeft, reads-start, reads-step, reads_end}
+use Rattle.reads_table.proofs.fill_cells.Given as goal
+
+abbrev pub invariant-loop-index : goal.invariant-loop-index
+invariant-loop-index l =
+    (length l.edges ≡ length l.initial.edges)
+    × ((mode : Mode) (d : Design) (replacements pairs : ℕ) → read mode l.list ≡ accepted d replacements pairs
+    → IsTable d l.table → ReadsLeft d l.list l.table replacements l.index l.at l.initial.edges l.edges l.count)
+
+abbrev pub decreases-loop-index : goal.decreases-loop-index
+decreases-loop-index l = length l.table - l.index

@@ -1,0 +1,31 @@
+-- `reads_table::fill_pairs` meets its contract: along the net replacements (`VoidReadsLeft`), each turn stores the read
+-- of the Void that one replaces, if it is one's, and at the last word none is left. Assumes nothing.
+use borrow.Author.Rules.{rules}
+use mathlib.Core.Path.{◌≡◌, refl, ◌∙◌}
+use Prim.Native.Nat.{ℕ, ◌-◌, ◌≤◌}
+use native.Mathlib.Omega.{arith}
+use lib.ListN.{length}
+use Rattle.cell.specs.declared.Mode.{Mode}
+use Rattle.cell.specs.Design.{Design}
+use Rattle.design_list.specs.Read.{read, accepted}
+use Rattle.reads_table.specs.Table.{IsTable}
+use Rattle.reads_table.proofs.Filling.{VoidReadsLeft, void-reads-start, void-reads-step, void-reads-end}
+use Rattle.reads_table.proofs.fill_pairs.Goals as goal
+
+pub loop-at-init : goal.loop-at-init
+loop-at-init c = (refl, λ mode d replacements accepts is low. void-reads-start mode _ accepts _ _ low)
+
+pub loop-at-preserved : goal.loop-at-preserved
+loop-at-preserved c =
+    let inv = c.loop-at.invariant in (
+      c.void_edge-count.auto.edges ∙ inv.0,
+      λ mode d replacements accepts is low.
+          void-reads-step mode _ accepts is (inv.1 mode d replacements accepts is low) c.loop-at-test.true
+          c.net_at-from_net.ensures c.net_at-to_net.ensures c.void_of-replaced.ensures
+          c.void_edge-count.ensures,
+    )
+
+pub returns : goal.returns
+returns c =
+    λ mode d replacements accepts is low. void-reads-end (c.loop-at.invariant.1 mode d replacements accepts is low)
+    c.loop-at-test.false
