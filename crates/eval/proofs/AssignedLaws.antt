@@ -12,7 +12,7 @@ use Rattle.bitvec.proofs.Laws.{length-nat2bv}
 use Rattle.engine.specs.Call.{Letter, Suffix, Name, Call}
 use Rattle.engine.specs.Call as c
 use Rattle.engine.specs.Meaning.{Assignment, Fits}
-use Rattle.engine.specs.Sorts.{Context, Formed}
+use Rattle.engine.specs.Sorts.{after, Context, Formed}
 use Rattle.engine.specs.Encode.{letter_number, suffix_number}
 use Rattle.engine.proofs.Written.{letter_back, suffix_back}
 use Rattle.engine.proofs.Tests.{both, left_of, right_of, refuted}
@@ -74,11 +74,11 @@ gives_ext : (x : Context) (cs : List Call) → Formed x cs → (ρ σ : Assignme
     → ((m : Name) → (Memᴰ m x.names → ⊥) → ρ m ≡ σ m) → Gives σ cs given → Gives ρ cs given
 unfolding Gives
 gives_ext x [] f ρ σ given e g = tt
-gives_ext x (c.term t ∷ cs) f ρ σ given e g = gives_ext _ cs f.2 ρ σ given e g
+gives_ext x (c.term t ∷ cs) f ρ σ given e g = gives_ext (after x (c.term t)) cs f.2 ρ σ given e g
 gives_ext x (c.declare n w ∷ cs) f ρ σ given e g =
-    (e n f.1.0 ∙ g.0, gives_ext _ cs f.2 ρ σ (rest given) (λ m h. e m (λ i. h (Memᴰ.tail i))) g.1)
-gives_ext x (c.assert k ∷ cs) f ρ σ given e g = gives_ext _ cs f.2 ρ σ given e g
-gives_ext x (c.check ∷ cs) f ρ σ given e g = gives_ext _ cs f.2 ρ σ given e g
+    (e n f.1.0 ∙ g.0, gives_ext (after x (c.declare n w)) cs f.2 ρ σ (rest given) (λ m h. e m (λ i. h (Memᴰ.tail i))) g.1)
+gives_ext x (c.assert k ∷ cs) f ρ σ given e g = gives_ext x cs f.2 ρ σ given e g
+gives_ext x (c.check ∷ cs) f ρ σ given e g = gives_ext (after x c.check) cs f.2 ρ σ given e g
 
 -- In a formed list, the evaluator's assignment gives each declaration the bits at its place.
 pub assigned_gives : (x : Context) (cs : List Call) → Formed x cs → (given : List ℕ) →
@@ -86,19 +86,19 @@ pub assigned_gives : (x : Context) (cs : List Call) → Formed x cs → (given :
 unfolding Gives assigned
 assigned_gives x [] f given = tt
 assigned_gives x (c.term t ∷ cs) f given =
-    gives_ext _ cs f.2 (assigned (c.term t ∷ cs) given) (assigned cs given) given (λ m h. refl)
-    (assigned_gives _ cs f.2 given)
+    gives_ext (after x (c.term t)) cs f.2 (assigned (c.term t ∷ cs) given) (assigned cs given) given (λ m h. refl)
+    (assigned_gives (after x (c.term t)) cs f.2 given)
 assigned_gives x (c.declare n w ∷ cs) f given = (
   assigned-here n w cs given,
-  gives_ext _ cs f.2 (assigned (c.declare n w ∷ cs) given) (assigned cs (rest given)) (rest given)
-      (λ m h. assigned_later n w cs given m (λ e. h (Memᴰ.head e))) (assigned_gives _ cs f.2 (rest given)),
+  gives_ext (after x (c.declare n w)) cs f.2 (assigned (c.declare n w ∷ cs) given) (assigned cs (rest given)) (rest given)
+      (λ m h. assigned_later n w cs given m (λ e. h (Memᴰ.head e))) (assigned_gives (after x (c.declare n w)) cs f.2 (rest given)),
 )
 assigned_gives x (c.assert k ∷ cs) f given =
-    gives_ext _ cs f.2 (assigned (c.assert k ∷ cs) given) (assigned cs given) given (λ m h. refl)
-    (assigned_gives _ cs f.2 given)
+    gives_ext x cs f.2 (assigned (c.assert k ∷ cs) given) (assigned cs given) given (λ m h. refl)
+    (assigned_gives x cs f.2 given)
 assigned_gives x (c.check ∷ cs) f given =
-    gives_ext _ cs f.2 (assigned (c.check ∷ cs) given) (assigned cs given) given (λ m h. refl)
-    (assigned_gives _ cs f.2 given)
+    gives_ext (after x c.check) cs f.2 (assigned (c.check ∷ cs) given) (assigned cs given) given (λ m h. refl)
+    (assigned_gives (after x c.check) cs f.2 given)
 
 -- So it fits the declared widths.
 gives_fits : (ρ : Assignment) (cs : List Call) (given : List ℕ) → Gives ρ cs given → Fits ρ cs

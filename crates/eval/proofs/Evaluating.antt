@@ -2,7 +2,7 @@
 use Rattle.bitvec.proofs.Laws.{bv2nat-nat2bv, length-nat2bv}
 use Rattle.bitvec.specs.Bits.{Bits, bv2nat}
 use Rattle.eval.proofs.AssignedLaws.{Gives, first, rest}
-use mathlib.Core.Path.{◌≡◌, refl, sym, ap, ◌∙◌}
+use mathlib.Core.Path.{◌≡◌, refl, sym, ap, subst, ◌∙◌}
 use mathlib.Core.Bool.{cond}
 use mathlib.Core.List.{List, [], ◌∷◌, ◌++◌, map, append_assoc, append-nil}
 use Prim.Native.Nat.{ℕ, zero, suc, ◌+◌, ◌≤◌, ◌<◌, ◌^◌}
@@ -176,7 +176,8 @@ module _ {cs : List Call} {ρ : Assignment} {slice₀ slice given : List ℕ} {t
   evaluating_term t s literal g e room agrees told =
       let l = run ρ [] e.done in
       let number : value_by s (λ k. get_or slice k 0) literal g (c.term t) ≡ value_number (denote (value_at l) t) =
-      rw e.written
+      subst (λ (w : List ℕ). value_by s (λ k. get_or w k 0) literal g (c.term t) ≡ value_number (denote (value_at l) t))
+      (sym e.written)
       (term-number slice₀ context.sorts l s literal g t e.sorted
       (fits ρ cs e.done (c.term t ∷ todo) (length slice₀) e.split room) agrees e.formed.1.0 told) in
       rw number

@@ -1,6 +1,4 @@
 -- `adc::adc_carry` meets its contract: its calls are those of the model, one after the other. Assumes nothing.
-use borrow.Author.Rules.{rules}
-use mathlib.Core.Path.{◌∙◌}
 use Prim.Native.Nat.{◌≤◌}
 use Rattle.builder.proofs.Laws.{ran_bind, ran_ret}
 use Rattle.bits.proofs.Literals.{narrow, zeros-lit}

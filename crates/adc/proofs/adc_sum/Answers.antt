@@ -1,6 +1,4 @@
 -- `adc::adc_sum` meets its contract: its calls are those of the model, one after the other. Assumes nothing.
-use borrow.Author.Rules.{rules}
-use mathlib.Core.Path.{◌∙◌}
 use Rattle.builder.proofs.Laws.{ran_bind}
 use mathlib.Core.Path.{refl}
 use Rattle.bitvec.specs.Bits.{nat2bv}

@@ -1,6 +1,4 @@
 -- `adc::carry_one` meets its contract: its calls are those of the model, one after the other. Assumes nothing.
-use borrow.Author.Rules.{rules}
-use mathlib.Core.Path.{◌∙◌}
 use Rattle.builder.proofs.Laws.{ran_bind}
 use Rattle.adc.specs.Parts.{carry_one}
 use Rattle.adc.proofs.carry_one.Goals as goal

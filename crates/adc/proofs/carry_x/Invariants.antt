@@ -1,17 +1,14 @@
 -- `adc::carry_x` meets its contract. Invariant: the carries of the positions below `index` are stored, and what the
 -- model does from `index` on completes its whole run (`CarryLeft`); each turn is one position. After the loop the last
 -- carry is stored once more. Assumes nothing.
-use borrow.Author.Rules.{rules}
-use mathlib.Core.Path.{◌≡◌, refl, ◌∙◌}
+use mathlib.Core.Path.{◌≡◌}
 use mathlib.Core.List.{List}
 use Prim.Native.Nat.{ℕ, ◌-◌, ◌<◌, ◌≤◌}
-use native.Mathlib.Omega.{arith}
 use lib.ListN.{length}
 use Rattle.smt.specs.Prog.{bv}
 use Rattle.builder.specs.Ran.{trits}
 use Rattle.vectors.specs.Elements.{bit_elements}
-use Rattle.vectors.proofs.Tables.{no_bits, bits_turn}
-use Rattle.adc.proofs.Loops.{CarryLeft, carry_start, carry_turn, carry_end}
+use Rattle.adc.proofs.Loops.{CarryLeft}
 use Rattle.adc.proofs.carry_x.Given as goal
 
 abbrev pub invariant-loop-index : goal.invariant-loop-index

@@ -1,6 +1,5 @@
 -- `adc::tv_adc` meets its contract: two binds, the carries' x stored and joined, then the sum. Assumes nothing.
-use borrow.Author.Rules.{rules}
-use mathlib.Core.Path.{◌≡◌, ◌∙◌}
+use mathlib.Core.Path.{◌≡◌}
 use Prim.Native.Nat.{◌+◌}
 use native.Mathlib.Omega.{arith}
 use Rattle.builder.specs.Ran.{following}

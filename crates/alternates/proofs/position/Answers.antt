@@ -1,5 +1,4 @@
 -- `alternates::position` meets its contract: an X is no part of the product, a 0 or a 1 is compared. Assumes nothing.
-use borrow.Author.Rules.{rules}
 use Rattle.builder.proofs.Laws.{ran_none}
 use Rattle.alternates.specs.Parts.{position}
 use Rattle.alternates.proofs.position.Goals as goal

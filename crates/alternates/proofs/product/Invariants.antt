@@ -1,16 +1,13 @@
 -- `alternates::product` meets its contract. Invariant: the positions below `index` are compared, and what the model
 -- does from `index` on completes its whole run (`ProductLeft`); each turn is one position. What is left of n positions
 -- falls. Assumes nothing.
-use borrow.Author.Rules.{rules}
-use mathlib.Core.Path.{◌≡◌, refl, ◌∙◌}
-use Prim.Native.Nat.{◌≤◌, ◌+◌, ◌-◌}
-use native.Mathlib.Omega.{arith}
+use mathlib.Core.Path.{◌≡◌}
+use Prim.Native.Nat.{◌≤◌, ◌-◌}
 use lib.ListN.{length}
 use Rattle.cell_reader.specs.Parse.{nets_in, trits_in}
 use Rattle.builder.specs.Ran.{trits}
 use Rattle.nets.specs.Reads.{past_in}
-use Rattle.vectors.proofs.Tables.{drop-tab, drop_all}
-use Rattle.alternates.proofs.Loops.{ProductLeft, product-start, product_turn, product-end}
+use Rattle.alternates.proofs.Loops.{ProductLeft}
 use Rattle.alternates.proofs.product.Given as goal
 
 abbrev pub invariant-loop-index : goal.invariant-loop-index

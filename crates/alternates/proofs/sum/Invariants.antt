@@ -1,21 +1,14 @@
 -- `alternates::sum` meets its contract. Invariant: the alternates below i are summed, and what the model does from i on
 -- completes its whole run (`SumLeft`); each turn is one alternate, whose place is exact within the premise. What is
 -- left of the alternates falls. Assumes nothing.
-use borrow.Author.Rules.{rules}
-use mathlib.Core.Path.{◌≡◌, refl, ap, ◌∙◌}
+use mathlib.Core.Path.{◌≡◌}
 use Prim.Native.Nat.{◌≤◌, ◌<◌, ◌+◌, ◌*◌, ◌-◌, ◌^◌}
-use native.Mathlib.Omega.{arith}
 use lib.ListN.{length}
 use Rattle.logic.specs.Table.{tab}
-use Rattle.logic.specs.Word.{payload_of}
 use Rattle.cell_reader.specs.Parse.{nets_in, trits_in}
-use Rattle.smt.specs.Builder.{match_of}
 use Rattle.builder.specs.Ran.{trits}
-use Rattle.builder.proofs.Laws.{ran_bind}
 use Rattle.nets.specs.Reads.{past_in}
-use Rattle.vectors.proofs.Tables.{drop-tab, drop_all}
-use Rattle.alternates.proofs.Loops.{SumLeft, sum-start, sum_turn, sum-end}
-use Rattle.alternates.proofs.Places.{alternate-low}
+use Rattle.alternates.proofs.Loops.{SumLeft}
 use Rattle.alternates.proofs.sum.Given as goal
 
 abbrev pub invariant-loop-i : goal.invariant-loop-i

@@ -1,10 +1,7 @@
 -- `answer::bad_mark` meets its contract. The loop's invariant: the first bad mark is the first from `slot` on.
 -- The measure is the number of marks left. Assumes nothing.
-use borrow.Author.Rules.{rules}
 use Prim.Native.Nat.{◌-◌}
-use mathlib.Core.Path.{◌≡◌, refl, sym, ◌∙◌}
-use lib.ListN.{length, drop}
-use Rattle.answer.specs.Reply.{bad_mark}
+use mathlib.Core.Path.{sym, ◌∙◌}
 use Rattle.answer.proofs.ModelLaws.{mark-bad, mark_fine, marks-done}
 use Rattle.answer.proofs.bad_mark.Goals as goal
 

@@ -1,11 +1,9 @@
 -- `answer::bad_mark` meets its contract. The loop's invariant: the first bad mark is the first from `slot` on.
 -- The measure is the number of marks left. Assumes nothing.
-use borrow.Author.Rules.{rules}
 use Prim.Native.Nat.{◌-◌}
-use mathlib.Core.Path.{◌≡◌, refl, sym, ◌∙◌}
+use mathlib.Core.Path.{◌≡◌}
 use lib.ListN.{length, drop}
 use Rattle.answer.specs.Reply.{bad_mark}
-use Rattle.answer.proofs.ModelLaws.{mark-bad, mark_fine, marks-done}
 use Rattle.answer.proofs.bad_mark.Given as goal
 
 abbrev pub invariant-loop-slot : goal.invariant-loop-slot

@@ -1,8 +1,7 @@
 -- `answer::model_at` meets its contract: with nothing asked the text ends, otherwise a list is read. Assumes nothing.
-use borrow.Author.Rules.{rules}
 use mathlib.Core.List.{[]}
 use mathlib.Core.Path.{sym, ◌∙◌}
-use Rattle.answer.proofs.ModelLaws.{model-none, model-some, nothing-table}
+use Rattle.answer.proofs.ModelLaws.{model-none, nothing-table}
 use Rattle.answer.proofs.model_at.Goals as goal
 
 pub returns-in-At : goal.returns-in-At

@@ -1,10 +1,7 @@
 -- `answer::nothing_asked` meets its contract. The loop's invariant: the names asked are those from `slot` on.
 -- The measure is the number of marks left. Assumes nothing.
-use borrow.Author.Rules.{rules}
 use Prim.Native.Nat.{◌-◌}
-use mathlib.Core.Path.{◌≡◌, refl, sym, ap, ◌∙◌}
-use lib.ListN.{length, drop}
-use Rattle.text.specs.Names.{asked_from}
+use mathlib.Core.Path.{sym, ap, ◌∙◌}
 use Rattle.answer.specs.Entries.{nothing}
 use Rattle.answer.proofs.ModelLaws.{asked-one, asked_two, asked-none, asked-done}
 use Rattle.answer.proofs.nothing_asked.Goals as goal

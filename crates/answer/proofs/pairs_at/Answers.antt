@@ -1,6 +1,5 @@
 -- `answer::pairs_at` meets its contract: the entries, the closing parenthesis and the end of the text, in this order.
 -- Assumes nothing.
-use borrow.Author.Rules.{rules}
 use mathlib.Core.List.{[]}
 use Rattle.answer.proofs.ModelLaws.{scanned, scanned_fault}
 use Rattle.answer.proofs.pairs_at.Goals as goal

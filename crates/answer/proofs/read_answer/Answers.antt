@@ -1,6 +1,5 @@
 -- `answer::read_answer` meets its contract: the marks, the room and the text are tested in this order, and the table is
 -- written only after all of the text was found good. Assumes nothing.
-use borrow.Author.Rules.{rules}
 use mathlib.Core.Path.{refl, sym, ap, ◌∙◌}
 use Rattle.answer.proofs.ModelLaws.{reply-marks, reply-room, reply-text, read_as, table-written}
 use Rattle.reply.specs.Reply.{satisfied}

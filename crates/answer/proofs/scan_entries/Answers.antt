@@ -1,11 +1,8 @@
 -- `answer::scan_entries` meets its contract. The loop's invariant: reading goes on from `slot` and `at` as it does from
 -- the start. The measure is the number of marks left. Assumes nothing.
-use borrow.Author.Rules.{rules}
 use Prim.Native.Nat.{◌-◌}
-use mathlib.Core.Path.{◌≡◌, refl, ap, ◌∙◌}
-use lib.ListN.{length, drop}
-use Rattle.tokens.specs.Place.{tokens_from}
-use Rattle.answer.specs.Entries.{entries, forget}
+use mathlib.Core.Path.{ap, ◌∙◌}
+use Rattle.answer.specs.Entries.{forget}
 use Rattle.answer.proofs.EntriesLaws.{entries_turn, entries-fault, entries-done}
 use Rattle.answer.proofs.scan_entries.Goals as goal
 

@@ -1,12 +1,10 @@
 -- `answer::scan_entries` meets its contract. The loop's invariant: reading goes on from `slot` and `at` as it does from
 -- the start. The measure is the number of marks left. Assumes nothing.
-use borrow.Author.Rules.{rules}
 use Prim.Native.Nat.{◌-◌}
-use mathlib.Core.Path.{◌≡◌, refl, ap, ◌∙◌}
+use mathlib.Core.Path.{◌≡◌}
 use lib.ListN.{length, drop}
 use Rattle.tokens.specs.Place.{tokens_from}
 use Rattle.answer.specs.Entries.{entries, forget}
-use Rattle.answer.proofs.EntriesLaws.{entries_turn, entries-fault, entries-done}
 use Rattle.answer.proofs.scan_entries.Given as goal
 
 abbrev pub invariant-loop-slot : goal.invariant-loop-slot

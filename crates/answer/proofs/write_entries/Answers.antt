@@ -1,12 +1,7 @@
 -- `answer::write_entries` meets its contract. The loop's invariant: what is left to write from `slot` on completes the
 -- table. The measure is the number of marks left. Assumes nothing.
-use borrow.Author.Rules.{rules}
 use Prim.Native.Nat.{◌-◌}
-use mathlib.Core.Path.{◌≡◌, refl, sym, ◌∙◌}
-use lib.ListN.{length, drop}
-use Rattle.engine.specs.Emit.{overwrite}
-use Rattle.tokens.specs.Place.{tokens_from}
-use Rattle.answer.specs.Entries.{entries_written}
+use mathlib.Core.Path.{sym, ◌∙◌}
 use Rattle.answer.proofs.EntriesLaws.{put_turn, put_fault, put_done}
 use Rattle.answer.proofs.write_entries.Goals as goal
 

@@ -1,11 +1,7 @@
 -- `answer_test::case` is safe. The loop's invariant: `n` marks of the line were read. Assumes nothing.
-use borrow.Author.Rules.{rules}
-use native.Mathlib.Omega.{arith}
 use Prim.Native.Nat.{◌-◌, ◌≤◌}
 use lib.ListN.{length}
 use mathlib.Core.Path.{◌≡◌}
-use mathlib.Core.Path.{sym}
-use lib.Seq.{length-take-le}
 use Rattle.answer_test.proofs.case.Given as goal
 
 abbrev pub invariant-loop-n : goal.invariant-loop-n

@@ -1,5 +1,4 @@
 -- `answer_test::cases` is safe and ends: the start of the next case rises. Assumes nothing.
-use borrow.Author.Rules.{rules}
 use Prim.Native.Nat.{◌-◌}
 use lib.ListN.{length}
 use Rattle.answer_test.proofs.cases.Given as goal

@@ -1,6 +1,5 @@
 -- `answer_test::find` meets its contract. The loop's invariant: the place lies between the start and the end. Assumes
 -- nothing.
-use borrow.Author.Rules.{rules}
 use Prim.Native.Nat.{◌-◌, ◌≤◌}
 use lib.ListN.{length}
 use Rattle.answer_test.proofs.find.Given as goal

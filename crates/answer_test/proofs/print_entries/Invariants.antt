@@ -1,5 +1,4 @@
 -- `answer_test::print_entries` ends: the number of entries left falls. Assumes nothing.
-use borrow.Author.Rules.{rules}
 use Prim.Native.Nat.{◌-◌, ◌≤◌}
 use Rattle.answer_test.proofs.print_entries.Given as goal
 

@@ -1,5 +1,4 @@
 -- `arith::amount_times` meets its contract: its calls are those of the model, one after the other. Assumes nothing.
-use borrow.Author.Rules.{rules}
 use Rattle.builder.proofs.Laws.{ran_bind}
 use mathlib.Core.Path.{ap}
 use Rattle.bitvec.specs.Bits.{nat2bv}

@@ -1,6 +1,5 @@
 -- `arith::tv_binary` meets its contract: each arm is its function of the model, at the width of its result. Assumes
 -- nothing.
-use borrow.Author.Rules.{rules}
 use Rattle.builder.proofs.Laws.{ran_bind}
 use Rattle.arith.proofs.tv_binary.Goals as goal
 

@@ -1,12 +1,7 @@
 -- `asked::bad_mark` meets its contract. The loop's invariant: the first mark that does not stand is the first from
 -- `slot` on. The measure is the number of marks left. Assumes nothing.
-use borrow.Author.Rules.{rules}
 use Prim.Native.Nat.{◌-◌}
-use mathlib.Core.Path.{◌≡◌, refl, sym, ◌∙◌}
-use lib.ListN.{length, drop}
-use borrow.Author.Tests.{not-true, not-false}
-use Rattle.engine.specs.Encode.{decode}
-use Rattle.asked.specs.Marks.{declared_by, stands_by, bad_by}
+use mathlib.Core.Path.{sym, ◌∙◌}
 use Rattle.asked.proofs.Marks.{by_bad, by_fine, by_done}
 use Rattle.asked.proofs.bad_mark.Goals as goal
 

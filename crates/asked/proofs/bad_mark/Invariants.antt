@@ -1,13 +1,10 @@
 -- `asked::bad_mark` meets its contract. The loop's invariant: the first mark that does not stand is the first from
 -- `slot` on. The measure is the number of marks left. Assumes nothing.
-use borrow.Author.Rules.{rules}
 use Prim.Native.Nat.{◌-◌}
-use mathlib.Core.Path.{◌≡◌, refl, sym, ◌∙◌}
+use mathlib.Core.Path.{◌≡◌}
 use lib.ListN.{length, drop}
-use borrow.Author.Tests.{not-true, not-false}
 use Rattle.engine.specs.Encode.{decode}
 use Rattle.asked.specs.Marks.{declared_by, stands_by, bad_by}
-use Rattle.asked.proofs.Marks.{by_bad, by_fine, by_done}
 use Rattle.asked.proofs.bad_mark.Given as goal
 
 abbrev pub invariant-loop-slot : goal.invariant-loop-slot

@@ -1,11 +1,7 @@
 -- `asked::first_asked` meets its contract. The loop's invariant: the marks before `slot` ask for nothing.
 -- The measure is the number of marks left. Assumes nothing.
-use borrow.Author.Rules.{rules}
 use Prim.Native.Nat.{◌-◌}
-use mathlib.Core.Path.{◌≡◌, refl, ◌∙◌}
-use native.Mathlib.Omega.{arith}
-use lib.ListN.{length, drop}
-use Rattle.text.specs.Names.{asked_from}
+use mathlib.Core.Path.{◌∙◌}
 use Rattle.asked.proofs.Ending.{asked-next}
 use Rattle.asked.proofs.first_asked.Goals as goal
 

@@ -1,12 +1,9 @@
 -- `asked::first_asked` meets its contract. The loop's invariant: the marks before `slot` ask for nothing.
 -- The measure is the number of marks left. Assumes nothing.
-use borrow.Author.Rules.{rules}
 use Prim.Native.Nat.{◌-◌}
-use mathlib.Core.Path.{◌≡◌, refl, ◌∙◌}
-use native.Mathlib.Omega.{arith}
+use mathlib.Core.Path.{◌≡◌}
 use lib.ListN.{length, drop}
 use Rattle.text.specs.Names.{asked_from}
-use Rattle.asked.proofs.Ending.{asked-next}
 use Rattle.asked.proofs.first_asked.Given as goal
 
 abbrev pub invariant-loop-slot : goal.invariant-loop-slot

@@ -1,14 +1,10 @@
 -- `asked::has_check` meets its contract. The loop's invariant: the records before `head` have no check.
 -- The measure is what is left of the list. Assumes nothing.
-use borrow.Author.Rules.{rules}
 use Prim.Native.Nat.{◌-◌}
-use Prim.Native.Nat.{ℕ}
 use mathlib.Core.Path.{◌≡◌, sym, ◌∙◌}
 use native.Mathlib.Omega.{arith}
-use lib.ListN.{length}
 use Rattle.engine.specs.Encode.{bare, next_at}
-use Rattle.asked.specs.Ending.{checks}
-use Rattle.asked.proofs.Ending.{checked-any, NoneOf, none-start, none-next, none_end, some-here}
+use Rattle.asked.proofs.Ending.{checked-any, none-start, none-next, none_end, some-here}
 use Rattle.asked.proofs.has_check.Goals as goal
 
 pub loop-head-init : goal.loop-head-init

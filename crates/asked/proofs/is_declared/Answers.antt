@@ -1,13 +1,10 @@
 -- `asked::is_declared` meets its contract. The loop's invariant: no record before `head` declares the name.
 -- The measure is what is left of the list. Assumes nothing.
-use borrow.Author.Rules.{rules}
-use Prim.Native.Nat.{ℕ, ◌-◌}
+use Prim.Native.Nat.{◌-◌}
 use mathlib.Core.Path.{◌≡◌, sym, ◌∙◌}
 use native.Mathlib.Omega.{arith}
-use lib.ListN.{length}
 use Rattle.engine.specs.Encode.{bare, next_at}
-use Rattle.asked.specs.Marks.{declares_name}
-use Rattle.asked.proofs.Ending.{NoneOf, none-start, none-next, none_end, some-here}
+use Rattle.asked.proofs.Ending.{none-start, none-next, none_end, some-here}
 use Rattle.asked.proofs.is_declared.Goals as goal
 
 pub loop-head-init : goal.loop-head-init

@@ -1,13 +1,9 @@
 -- `asked::is_declared` meets its contract. The loop's invariant: no record before `head` declares the name.
 -- The measure is what is left of the list. Assumes nothing.
-use borrow.Author.Rules.{rules}
 use Prim.Native.Nat.{ℕ, ◌-◌}
-use mathlib.Core.Path.{◌≡◌, sym, ◌∙◌}
-use native.Mathlib.Omega.{arith}
 use lib.ListN.{length}
-use Rattle.engine.specs.Encode.{bare, next_at}
 use Rattle.asked.specs.Marks.{declares_name}
-use Rattle.asked.proofs.Ending.{NoneOf, none-start, none-next, none_end, some-here}
+use Rattle.asked.proofs.Ending.{NoneOf}
 use Rattle.asked.proofs.is_declared.Given as goal
 
 abbrev pub invariant-loop-head : goal.invariant-loop-head

@@ -1,5 +1,4 @@
 -- `asked::put_get_value` meets its contract: the first slot asked for names the letter. Assumes nothing.
-use borrow.Author.Rules.{rules}
 use borrow.Author.Tests.{eq-eqb, ne_eqb}
 use native.Mathlib.Omega.{arith}
 use Rattle.engine.specs.Call as call

@@ -1,5 +1,4 @@
 -- `asked::put_mark_names` meets its contract: its tests are those of `names_of_mark`, in the same order. Assumes nothing.
-use borrow.Author.Rules.{rules}
 use borrow.Author.Tests.{eq-eqb, ne_eqb}
 use native.Mathlib.Omega.{arith}
 use Rattle.engine.specs.Call as call

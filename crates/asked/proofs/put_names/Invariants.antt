@@ -1,15 +1,12 @@
 -- `asked::put_names` meets its contract. The loop's invariant: what is written and what the marks from `slot` on ask
 -- for are all names. The measure is the number of marks left. Assumes nothing.
-use borrow.Author.Rules.{rules}
 use Prim.Native.Nat.{◌-◌}
-use mathlib.Core.Path.{◌≡◌, refl, ◌∙◌}
-use mathlib.Core.List.{List, []}
+use mathlib.Core.Path.{◌≡◌}
+use mathlib.Core.List.{List}
 use Prim.Native.Nat.{ℕ}
-use native.Mathlib.Omega.{arith}
 use lib.ListN.{length}
 use Rattle.engine.specs.Emit.{Wrote}
-use Rattle.engine.proofs.EmitLaws.{wrote_none, wrote_then}
-use Rattle.asked.proofs.Ending.{NamesLeft, names-start, names-next, names-end}
+use Rattle.asked.proofs.Ending.{NamesLeft}
 use Rattle.asked.proofs.put_names.Given as goal
 
 abbrev pub invariant-loop-slot : goal.invariant-loop-slot

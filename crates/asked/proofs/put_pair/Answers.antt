@@ -1,5 +1,4 @@
 -- `asked::put_pair` meets its contract: the x name, then the y name. Assumes nothing.
-use borrow.Author.Rules.{rules}
 use Rattle.engine.proofs.EmitLaws.{wrote_then}
 use Rattle.asked.proofs.put_pair.Goals as goal
 

@@ -1,5 +1,4 @@
 -- `asked::put_second` meets its contract: a space, then the name. Assumes nothing.
-use borrow.Author.Rules.{rules}
 use Rattle.engine.proofs.EmitLaws.{wrote_then}
 use Rattle.asked.proofs.put_second.Goals as goal
 

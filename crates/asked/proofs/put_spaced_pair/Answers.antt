@@ -1,5 +1,4 @@
 -- `asked::put_spaced_pair` meets its contract: a space, then the names. Assumes nothing.
-use borrow.Author.Rules.{rules}
 use Rattle.engine.proofs.EmitLaws.{wrote_then}
 use Rattle.asked.proofs.put_spaced_pair.Goals as goal
 

@@ -1,5 +1,4 @@
 -- `asked::put_values` meets its contract: the pieces in their order. Assumes nothing.
-use borrow.Author.Rules.{rules}
 use Rattle.engine.proofs.EmitLaws.{wrote_then}
 use Rattle.asked.proofs.put_values.Goals as goal
 

@@ -1,11 +1,10 @@
 -- `bits_given::fits_width` meets its contract: from width 64 on every word fits. Assumes nothing.
 use mathlib.Core.Path.{sym}
 use Prim.Native.Nat.{◌^◌, ◌<◌}
-use native.Mathlib.Nat.{lt_of_lt_of_le, one-mul}
+use native.Mathlib.Nat.{lt_of_lt_of_le}
 use native.Mathlib.Omega.{arith}
-use lib.Pow.{pow_mono, shl_exact}
+use lib.Pow.{pow_mono}
 use borrow.Author.Tests.{lt-ltb}
-use borrow.Author.Rules.{rules}
 use Rattle.bits_given.proofs.fits_width.Goals as goal
 
 pub returns-else-width-lt64 : goal.returns-else-width-lt64

@@ -1,5 +1,5 @@
 -- `bitvec::bvadd` meets its contract: what passes 2 ^ 64 does not count at any width. Assumes nothing.
-use Rattle.std.proofs.Common.{◌∙◌, rules}
+use Rattle.std.proofs.Common.{◌∙◌}
 use Rattle.bitvec.proofs.Lemmas.{wrapped, word_bvadd}
 use Rattle.bitvec.proofs.bvadd.Goals as goal
 

@@ -1,5 +1,5 @@
 -- `bitvec::bvand` meets its contract: the and of the words, reduced, is that of the vectors. Assumes nothing.
-use Rattle.std.proofs.Common.{◌∙◌, rules}
+use Rattle.std.proofs.Common.{◌∙◌}
 use Rattle.bitvec.proofs.Lemmas.{exact, word_bvand}
 use Rattle.bitvec.proofs.bvand.Goals as goal
 

@@ -1,6 +1,6 @@
 -- `bitvec::bvashr` meets its contract: the sign chooses as in SMT-LIB's own expansion, and each word stands for its
 -- vector. Assumes nothing.
-use Rattle.std.proofs.Common.{true, false, sym, ◌∙◌, rules}
+use Rattle.std.proofs.Common.{true, false, sym, ◌∙◌}
 use Rattle.bitvec.proofs.Lemmas.{shifted_complement, word_bvashr}
 use Rattle.bitvec.proofs.bvashr.Goals as goal
 

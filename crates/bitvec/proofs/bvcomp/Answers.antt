@@ -1,5 +1,5 @@
 -- `bitvec::bvcomp` meets its contract: its one bit is the answer of `equal`. Assumes nothing.
-use Rattle.std.proofs.Common.{sym, ap, ◌∙◌, rules}
+use Rattle.std.proofs.Common.{sym, ap, ◌∙◌}
 use Rattle.bitvec.specs.Bits.{bit}
 use Rattle.bitvec.proofs.Lemmas.{word_bvcomp}
 use Rattle.bitvec.proofs.bvcomp.Goals as goal

@@ -1,6 +1,5 @@
 -- `bitvec::bvlshr` meets its contract: below 64 a quotient by a power of two, from 64 on nothing is left. Assumes
 -- nothing.
-use Rattle.std.proofs.Common.{rules}
 use Rattle.bitvec.proofs.Lemmas.{word_bvlshr, word_bvlshr_out}
 use Rattle.bitvec.proofs.bvlshr.Goals as goal
 

@@ -1,5 +1,5 @@
 -- `bitvec::bvmul` meets its contract: all bits of the second operand give the product. Assumes nothing.
-use Rattle.std.proofs.Common.{sym, ◌∙◌, arith, rules}
+use Rattle.std.proofs.Common.{sym, ◌∙◌, arith}
 use Rattle.bitvec.proofs.Lemmas.{exact, word_bvmul}
 use Rattle.bitvec.proofs.Products.{partial-all}
 use Rattle.bitvec.proofs.WordLaws.{at_none, too_wide}

@@ -1,6 +1,6 @@
 -- `bitvec::bvneg` meets its contract: the complement of a word and one more, reduced, is the vector negated. Assumes
 -- nothing.
-use Rattle.std.proofs.Common.{◌∙◌, arith, rules}
+use Rattle.std.proofs.Common.{◌∙◌, arith}
 use Rattle.bitvec.proofs.Lemmas.{wrapped}
 use Rattle.bitvec.proofs.WordDivisions.{word_bvneg}
 use Rattle.bitvec.proofs.bvneg.Goals as goal

@@ -1,5 +1,5 @@
 -- `bitvec::bvnot` meets its contract: the complement of a word, reduced, is that of the vector. Assumes nothing.
-use Rattle.std.proofs.Common.{◌∙◌, arith, rules}
+use Rattle.std.proofs.Common.{◌∙◌, arith}
 use Rattle.bitvec.proofs.Lemmas.{exact, word_bvnot}
 use Rattle.bitvec.proofs.bvnot.Goals as goal
 

@@ -1,5 +1,5 @@
 -- `bitvec::bvor` meets its contract: the or of the words, reduced, is that of the vectors. Assumes nothing.
-use Rattle.std.proofs.Common.{◌∙◌, rules}
+use Rattle.std.proofs.Common.{◌∙◌}
 use Rattle.bitvec.proofs.Lemmas.{exact, word_bvor}
 use Rattle.bitvec.proofs.bvor.Goals as goal
 

@@ -1,6 +1,5 @@
 -- `bitvec::bvsdiv` meets its contract: each word stands for its vector, and the signs choose as in SMT-LIB's own
 -- expansion. Assumes nothing.
-use Rattle.std.proofs.Common.{rules}
 use Rattle.bitvec.proofs.WordDivisions.{word_bvsdiv}
 use Rattle.bitvec.proofs.bvsdiv.Goals as goal
 

@@ -1,6 +1,6 @@
 -- `bitvec::bvshl` meets its contract: below 64 what passes 2 ^ 64 does not count, from 64 on nothing is left. Assumes
 -- nothing.
-use Rattle.std.proofs.Common.{◌∙◌, rules}
+use Rattle.std.proofs.Common.{◌∙◌}
 use Rattle.bitvec.proofs.Lemmas.{word_bvshl, word_bvshl_out}
 use Rattle.bitvec.proofs.bvshl.Goals as goal
 

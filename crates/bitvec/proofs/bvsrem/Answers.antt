@@ -1,6 +1,5 @@
 -- `bitvec::bvsrem` meets its contract: each word stands for its vector, and the sign of s chooses as in SMT-LIB's own
 -- expansion. Assumes nothing.
-use Rattle.std.proofs.Common.{rules}
 use Rattle.bitvec.proofs.WordDivisions.{word_bvsrem}
 use Rattle.bitvec.proofs.bvsrem.Goals as goal
 

@@ -1,5 +1,5 @@
 -- `bitvec::bvudiv` meets its contract: by zero all ones, else the quotient of the numbers. Assumes nothing.
-use Rattle.std.proofs.Common.{sym, ◌∙◌, arith, rules}
+use Rattle.std.proofs.Common.{sym, ◌∙◌, arith}
 use Rattle.bitvec.proofs.WordDivisions.{word_bvudiv, word_bvudiv-zero}
 use Rattle.bitvec.proofs.bvudiv.Goals as goal
 

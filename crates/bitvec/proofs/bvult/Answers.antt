@@ -1,5 +1,4 @@
 -- `bitvec::bvult` meets its contract: the order is that of the numbers. Assumes nothing.
-use Rattle.std.proofs.Common.{rules}
 use Rattle.bitvec.proofs.Lemmas.{word_bvult}
 use Rattle.bitvec.proofs.bvult.Goals as goal
 

@@ -1,5 +1,5 @@
 -- `bitvec::bvurem` meets its contract: by zero the first operand, else the remainder of the numbers. Assumes nothing.
-use Rattle.std.proofs.Common.{sym, ◌∙◌, arith, rules}
+use Rattle.std.proofs.Common.{sym, ◌∙◌, arith}
 use Rattle.bitvec.proofs.WordDivisions.{word_bvurem, word_bvurem-zero}
 use Rattle.bitvec.proofs.bvurem.Goals as goal
 

@@ -1,5 +1,5 @@
 -- `bitvec::bvxor` meets its contract: the exclusive or of the words, reduced, is that of the vectors. Assumes nothing.
-use Rattle.std.proofs.Common.{◌∙◌, rules}
+use Rattle.std.proofs.Common.{◌∙◌}
 use Rattle.bitvec.proofs.Lemmas.{exact, word_bvxor}
 use Rattle.bitvec.proofs.bvxor.Goals as goal
 

@@ -1,6 +1,6 @@
 -- `bitvec::concat` meets its contract: its tests are those of `concat_at`, in the same order, and past them the high
 -- part, shifted, or the low part is the number of the whole. Assumes nothing.
-use Rattle.std.proofs.Common.{rules, le-leb}
+use Rattle.std.proofs.Common.{le-leb}
 use borrow.Author.Tests.{lt-leb}
 use Rattle.bitvec.specs.Words.{concat_at}
 use Rattle.bitvec.proofs.Lemmas.{word_concat}

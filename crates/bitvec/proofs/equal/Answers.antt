@@ -1,5 +1,5 @@
 -- `bitvec::equal` meets its contract: at one width vectors are equal where their numbers are. Assumes nothing.
-use Rattle.std.proofs.Common.{sym, rules}
+use Rattle.std.proofs.Common.{sym}
 use Rattle.bitvec.proofs.WordLaws.{too_narrow, too_wide, holds_none}
 use Rattle.bitvec.proofs.Lemmas.{word_equal}
 use Rattle.bitvec.proofs.equal.Goals as goal

@@ -1,6 +1,6 @@
 -- `bitvec::extract` meets its contract: its tests are those of `extract_at`, in the same order, and past them bits j to
 -- i of the word are those of the vector. Assumes nothing.
-use Rattle.std.proofs.Common.{◌<◌, ◌≤◌, ◌∙◌, arith, rules, le-ltb, lt-ltb, le-leb}
+use Rattle.std.proofs.Common.{◌<◌, ◌≤◌, ◌∙◌, arith, le-ltb, lt-ltb, le-leb}
 use borrow.Author.Tests.{lt-leb}
 use Rattle.bitvec.specs.Words.{extract_at}
 use Rattle.bitvec.proofs.Lemmas.{word_extract}

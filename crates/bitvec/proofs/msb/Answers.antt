@@ -1,5 +1,5 @@
 -- `bitvec::msb` meets its contract: bit width - 1 of the word is the top bit of the vector. Assumes nothing.
-use Rattle.std.proofs.Common.{sym, ◌∙◌, rules}
+use Rattle.std.proofs.Common.{sym, ◌∙◌}
 use Rattle.bitvec.proofs.WordLaws.{too_narrow, too_wide, holds_none, holds_width}
 use Rattle.bitvec.proofs.Lemmas.{word_msb}
 use Rattle.bitvec.proofs.msb.Goals as goal

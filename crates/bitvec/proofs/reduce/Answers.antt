@@ -1,6 +1,6 @@
 -- `bitvec::reduce` meets its contract: below 64 the remainder by 2 ^ width is `nat2bv`'s number, at 64 a word is its
 -- own remainder, and above 64 the answer is 0. Assumes nothing.
-use Rattle.std.proofs.Common.{sym, arith, pow_pos, rules}
+use Rattle.std.proofs.Common.{sym, arith}
 use Rattle.bitvec.proofs.WordLaws.{reduced, at_none, too_wide}
 use Rattle.bitvec.proofs.Arithmetic.{one_shl}
 use Rattle.bitvec.proofs.Lemmas.{whole}

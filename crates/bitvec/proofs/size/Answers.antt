@@ -1,5 +1,4 @@
 -- `bitvec::size` meets its contract: the sign chooses between the vector negated and itself. Assumes nothing.
-use Rattle.std.proofs.Common.{rules}
 use Rattle.bitvec.proofs.WordDivisions.{word_size}
 use Rattle.bitvec.proofs.size.Goals as goal
 

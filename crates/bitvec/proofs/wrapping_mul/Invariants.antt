@@ -1,8 +1,7 @@
 -- `bitvec::wrapping_mul` meets its contract. The invariant: modulo 2 ^ width the sum is that of the top j bits, which
 -- is s times the number they form (`partial-product`). The measure is how many bits are left. Assumes nothing.
-use Rattle.std.proofs.Common.{◌≡◌, ◌-◌, ◌%◌, ◌^◌, ◌≤◌, true, false, ap, ◌∙◌, ⊎_elim, arith, rules, eq-eqb, ne_eqb}
+use Rattle.std.proofs.Common.{◌≡◌, ◌-◌, ◌%◌, ◌^◌, ◌≤◌}
 use Rattle.bitvec.specs.Partial.{partial}
-use Rattle.bitvec.proofs.Products.{partial-none, partial-next}
 use Rattle.bitvec.proofs.wrapping_mul.Given as goal
 
 abbrev pub invariant-loop-j : goal.invariant-loop-j

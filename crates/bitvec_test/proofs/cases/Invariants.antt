@@ -1,5 +1,4 @@
 -- `bitvec_test::cases` stays inside its tables and ends: the loop's measure is the cases left. Assumes nothing.
-use borrow.Author.Rules.{rules}
 use Prim.Native.Nat.{◌-◌}
 use Rattle.bitvec_test.proofs.cases.Given as goal
 

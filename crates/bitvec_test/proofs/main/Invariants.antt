@@ -1,5 +1,4 @@
 -- `bitvec_test::main` ends: the loop's measure is the operations left; it asks nothing else. Assumes nothing.
-use borrow.Author.Rules.{rules}
 use Prim.Native.Nat.{◌-◌}
 use Rattle.bitvec_test.proofs.main.Given as goal
 

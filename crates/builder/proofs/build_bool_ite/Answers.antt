@@ -1,5 +1,4 @@
 -- `builder::build_bool_ite` meets its contract: it is one call of the engine. Assumes nothing.
-use borrow.Author.Rules.{rules}
 use Rattle.builder.proofs.Laws.{ran_op}
 use Rattle.builder.proofs.build_bool_ite.Goals as goal
 

@@ -1,5 +1,4 @@
 -- `bvmul_test::main` ends: the loop's measure is the widths left; it asks nothing else. Assumes nothing.
-use borrow.Author.Rules.{rules}
 use Prim.Native.Nat.{◌-◌}
 use Rattle.bvmul_test.proofs.main.Given as goal
 

@@ -1,5 +1,4 @@
 -- `bvmul_test::row` ends: the loop's measure is the operands left; it asks nothing else. Assumes nothing.
-use borrow.Author.Rules.{rules}
 use Prim.Native.Nat.{◌-◌}
 use Rattle.bvmul_test.proofs.row.Given as goal
 

@@ -1,8 +1,7 @@
 -- `call_list::place_from` meets its contract: from each record on, the scan finds the place that it finds from the
 -- first. The measure is how many words are left. Assumes nothing.
-use Prim.Native.Nat.{ℕ, ◌+◌, ◌-◌, ◌≤◌}
+use Prim.Native.Nat.{ℕ, ◌-◌}
 use mathlib.Core.Path.{◌≡◌, refl, sym, ap, ◌∙◌}
-use borrow.Author.Rules.{rules}
 use native.Mathlib.Omega.{arith}
 use lib.ListN.{length}
 use Rattle.engine.specs.Encode.{makes_term, bare, next_at}

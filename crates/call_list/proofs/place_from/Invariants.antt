@@ -1,13 +1,9 @@
 -- `call_list::place_from` meets its contract: from each record on, the scan finds the place that it finds from the
 -- first. The measure is how many words are left. Assumes nothing.
-use Prim.Native.Nat.{ℕ, ◌+◌, ◌-◌, ◌≤◌}
-use mathlib.Core.Path.{◌≡◌, refl, sym, ap, ◌∙◌}
-use borrow.Author.Rules.{rules}
-use native.Mathlib.Omega.{arith}
+use Prim.Native.Nat.{ℕ, ◌-◌, ◌≤◌}
+use mathlib.Core.Path.{◌≡◌}
 use lib.ListN.{length}
-use Rattle.engine.specs.Encode.{makes_term, bare, next_at}
 use Rattle.engine.specs.Structure.{term_place}
-use Rattle.engine.proofs.StructureLaws.{place_end, place_here, place-next, place_skip}
 use Rattle.call_list.proofs.place_from.Given as goal
 
 abbrev pub invariant-loop-at : goal.invariant-loop-at

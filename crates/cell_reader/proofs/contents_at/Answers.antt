@@ -1,7 +1,6 @@
 -- `cell_reader::contents_at` meets its contract: each answer rewrites the definition by the tests and calls that lead
 -- to it. Assumes nothing.
 use Rattle.cell_reader.specs.Record.{contents_at}
-use borrow.Author.Rules.{rules}
 use Rattle.cell_reader.proofs.contents_at.Goals as goal
 
 pub returns-in-Refused : goal.returns-in-Refused

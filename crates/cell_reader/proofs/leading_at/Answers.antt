@@ -2,7 +2,6 @@
 -- it. Assumes nothing.
 use borrow.Author.Tests.{lt-ltb, le-ltb, eq-eqb, ne_eqb}
 use Rattle.cell_reader.specs.Record.{leading_at, first_at}
-use borrow.Author.Rules.{rules}
 use Rattle.cell_reader.proofs.leading_at.Goals as goal
 
 pub returns-then-numbers-eq0 : goal.returns-then-numbers-eq0

@@ -2,7 +2,6 @@
 -- it. Assumes nothing.
 use borrow.Author.Tests.{eq-eqb, ne_eqb}
 use Rattle.cell_reader.specs.Record.{second_at}
-use borrow.Author.Rules.{rules}
 use Rattle.cell_reader.proofs.second_at.Goals as goal
 
 pub returns-then-numbers-eq2 : goal.returns-then-numbers-eq2

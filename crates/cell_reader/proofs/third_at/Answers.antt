@@ -3,7 +3,6 @@
 use Prim.Native.Nat.{◌+◌}
 use borrow.Author.Tests.{lt-ltb, le-ltb}
 use Rattle.cell_reader.specs.Record.{third_at}
-use borrow.Author.Rules.{rules}
 use Rattle.cell_reader.proofs.third_at.Goals as goal
 
 pub returns-then-n-offset : goal.returns-then-n-offset

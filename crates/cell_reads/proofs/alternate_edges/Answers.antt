@@ -1,14 +1,10 @@
 -- `cell_reads::alternate_edges` meets its contract. The invariant: the reads of the positions passed are added, and the
 -- positions left complete the alternate. The measure is how many are left. Assumes nothing.
-use borrow.Author.Rules.{rules}
-use mathlib.Core.Path.{◌≡◌, refl, ◌∙◌}
-use Prim.Native.Nat.{◌+◌, ◌≤◌}
+use mathlib.Core.Path.{◌∙◌}
 use native.Mathlib.Omega.{arith}
-use lib.ListN.{length}
-use Rattle.rules.specs.Reads.{current_nets, compared}
-use Rattle.cell_reader.specs.Parse.{net_in, nets_in, trit_in, trits_in}
+use Rattle.cell_reader.specs.Parse.{net_in, trit_in}
 use Rattle.nets.specs.Reads.{past_in}
-use Rattle.cell_reads.proofs.Adding.{Left, left-start, left_turn, left_end}
+use Rattle.cell_reads.proofs.Adding.{left_turn, left_end}
 use Rattle.cell_reads.proofs.Compared.{position_first, position-none, few_of_position}
 use Rattle.cell_reads.proofs.alternate_edges.Goals as goal
 

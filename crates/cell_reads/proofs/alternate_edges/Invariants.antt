@@ -1,15 +1,12 @@
 -- `cell_reads::alternate_edges` meets its contract. The invariant: the reads of the positions passed are added, and the
 -- positions left complete the alternate. The measure is how many are left. Assumes nothing.
-use borrow.Author.Rules.{rules}
-use mathlib.Core.Path.{◌≡◌, refl, ◌∙◌}
+use mathlib.Core.Path.{◌≡◌}
 use Prim.Native.Nat.{◌+◌, ◌≤◌}
-use native.Mathlib.Omega.{arith}
 use lib.ListN.{length}
 use Rattle.rules.specs.Reads.{current_nets, compared}
-use Rattle.cell_reader.specs.Parse.{net_in, nets_in, trit_in, trits_in}
+use Rattle.cell_reader.specs.Parse.{nets_in, trits_in}
 use Rattle.nets.specs.Reads.{past_in}
-use Rattle.cell_reads.proofs.Adding.{Left, left-start, left_turn, left_end}
-use Rattle.cell_reads.proofs.Compared.{position_first, position-none, few_of_position}
+use Rattle.cell_reads.proofs.Adding.{Left}
 use Rattle.cell_reads.proofs.alternate_edges.Given as goal
 
 abbrev pub invariant-loop-left : goal.invariant-loop-left

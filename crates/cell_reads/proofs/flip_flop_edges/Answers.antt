@@ -1,16 +1,10 @@
 -- `cell_reads::flip_flop_edges` meets its contract: the clock, then the three other controls and the data, which stand
 -- in one run. Assumes nothing.
-use borrow.Author.Rules.{rules}
 use mathlib.Core.Path.{ap, ◌∙◌}
-use mathlib.Core.Bool.{true}
-use Prim.Native.Nat.{◌+◌}
 use native.Mathlib.Omega.{arith}
 use Rattle.logic.specs.Word.{payload_of}
-use Rattle.cell_reader.specs.Parse.{net_in}
 use Rattle.nets.specs.Reads.{past_in}
-use Rattle.cell_reads.specs.Reads.{past_by}
 use Rattle.cell_reads.proofs.Adding.{adds_append}
-use Rattle.cell_reads.proofs.Runs.{few_of_net}
 use Rattle.cell_reads.proofs.Records.{flip_flop_reads_lem}
 use Rattle.cell_reads.proofs.flip_flop_edges.Goals as goal
 

@@ -1,17 +1,13 @@
 -- `cell_reads::match_edges` meets its contract: the enable, then the patterns; within the bounds of an accepted list
 -- the two numbers are taken as they stand. Assumes nothing.
-use borrow.Author.Rules.{rules}
 use mathlib.Core.Path.{◌≡◌, ap, ◌∙◌}
-use mathlib.Core.Bool.{false}
 use Prim.Native.Nat.{◌+◌}
 use native.Mathlib.Omega.{arith}
 use Rattle.logic.specs.Word.{payload_of}
 use Rattle.logic.proofs.TableLaws.{length-tab}
 use Rattle.cell_reader.specs.Parse.{number_in, net_in}
 use Rattle.cell_reader.proofs.AcceptedLaws.{length-patterns}
-use Rattle.cell_reads.specs.Reads.{past_by}
 use Rattle.cell_reads.proofs.Adding.{adds_append}
-use Rattle.cell_reads.proofs.Runs.{few_of_net}
 use Rattle.cell_reads.proofs.match_edges.Goals as goal
 
 pub returns : goal.returns

@@ -1,15 +1,13 @@
 -- `cell_reads::pattern_edges` meets its contract. The invariant: the reads of the alternates passed are added, and the
 -- alternates left complete the pattern. The measure is how many are left. Assumes nothing.
-use mathlib.Core.Path.{◌≡◌, refl, ◌∙◌}
+use mathlib.Core.Path.{◌≡◌}
 use Prim.Native.Nat.{◌+◌, ◌*◌, ◌≤◌}
-use native.Mathlib.Omega.{arith}
 use lib.ListN.{length}
 use Rattle.logic.specs.Table.{tab}
 use Rattle.rules.specs.Reads.{current_nets, compared_by_any}
 use Rattle.cell_reader.specs.Parse.{nets_in, trits_in}
 use Rattle.nets.specs.Reads.{past_in}
-use Rattle.cell_reads.proofs.Adding.{Left, left-start, left_turn, left_end}
-use Rattle.cell_reads.proofs.Compared.{alternate-first, alternate-none, few_of_alternate}
+use Rattle.cell_reads.proofs.Adding.{Left}
 use Rattle.cell_reads.proofs.pattern_edges.Given as goal
 
 abbrev pub invariant-loop-left : goal.invariant-loop-left

@@ -1,18 +1,13 @@
 -- `cell_reads::patterns_edges` meets its contract. The invariant: the reads of the patterns passed are added, and the
 -- patterns left complete those asked for. The measure is how many are left. Assumes nothing.
-use borrow.Author.Rules.{rules}
-use mathlib.Core.Path.{◌≡◌, refl, ap, ◌∙◌}
-use Prim.Native.Nat.{ℕ, ◌+◌, ◌*◌, ◌≤◌, min}
-use native.Mathlib.Nat.{mul-le-mul}
-use native.Mathlib.Omega.{arith}
+use mathlib.Core.Path.{◌≡◌}
+use Prim.Native.Nat.{◌+◌, ◌*◌, ◌≤◌}
 use lib.ListN.{length}
-use Rattle.logic.specs.Word.{payload_of}
 use Rattle.rules.specs.Reads.{current_nets, compared_nets}
-use Rattle.cell_reader.specs.Parse.{number_in, nets_in, patterns_in}
+use Rattle.cell_reader.specs.Parse.{nets_in, patterns_in}
 use Rattle.nets.specs.Reads.{past_in}
 use Rattle.cell_reads.specs.Reads.{Few}
-use Rattle.cell_reads.proofs.Adding.{Left, left-start, left_turn, left_end}
-use Rattle.cell_reads.proofs.Compared.{pattern_first, pattern_none, few-first, few_of_pattern}
+use Rattle.cell_reads.proofs.Adding.{Left}
 use Rattle.cell_reads.proofs.patterns_edges.Given as goal
 
 abbrev pub invariant-loop-left : goal.invariant-loop-left

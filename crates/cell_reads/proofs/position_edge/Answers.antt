@@ -1,6 +1,5 @@
 -- `cell_reads::position_edge` meets its contract: at an X nothing is compared, at a 0 or a 1 the value's net is.
 -- Assumes nothing.
-use borrow.Author.Rules.{rules}
 use mathlib.Core.Path.{◌≡◌, sym, ◌∙◌}
 use Rattle.logic.specs.declared.Trit.TheVariants.{Zero, One, Undef}
 use Rattle.rules.specs.Reads.{current_nets, compared}

@@ -1,7 +1,5 @@
 -- `cell_reads::record_edges` meets its contract: a readable record stands in the list, and its fields begin after its
 -- head. Assumes nothing.
-use borrow.Author.Rules.{rules}
-use native.Mathlib.Omega.{arith}
 use Rattle.cell_reader.specs.Parse.{cell_at}
 use Rattle.cell_reads.proofs.record_edges.Goals as goal
 

@@ -1,14 +1,12 @@
 -- `cell_reads::run_edges` meets its contract: the nets of the record stand in one run after its numbers, and that run
 -- is read. Assumes nothing.
-use borrow.Author.Rules.{rules}
 use mathlib.Core.Path.{ap, ◌∙◌}
 use Prim.Native.Nat.{◌+◌}
-use native.Mathlib.Omega.{arith}
 use Rattle.logic.specs.Word.{payload_of}
 use Rattle.cell.specs.declared.Fields.{Fields}
 use Rattle.cell.specs.declared.Numbers.{Numbers}
 use Rattle.nets.specs.Reads.{past_in}
-use Rattle.cell_reads.proofs.Records.{run_fits, numbers-low, run-reads}
+use Rattle.cell_reads.proofs.Records.{run-reads}
 use Rattle.cell_reads.proofs.run_edges.Goals as goal
 
 pub returns : goal.returns

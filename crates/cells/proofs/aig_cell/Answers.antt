@@ -1,6 +1,4 @@
 -- `cells::aig_cell` meets its contract: its calls are those of the model, one after the other. Assumes nothing.
-use borrow.Author.Rules.{rules}
-use mathlib.Core.Path.{◌∙◌}
 use Rattle.builder.proofs.Laws.{ran_bind}
 use Rattle.smt.specs.Builder.{cell}
 use Rattle.cells.proofs.aig_cell.Goals as goal

@@ -1,5 +1,4 @@
 -- `cells::io_buf_cell` meets its contract: it is one call, of the cell's own outputs. Assumes nothing.
-use borrow.Author.Rules.{rules}
 use Rattle.smt.specs.Builder.{cell}
 use Rattle.nets.specs.Reads.{reader}
 use Rattle.cells.proofs.io_buf_cell.Goals as goal

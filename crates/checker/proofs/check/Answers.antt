@@ -1,6 +1,5 @@
 -- `checker::check` meets its contract: the table of names starts as zeros, and the answer is that of the check with it.
 -- Assumes nothing.
-use borrow.Author.Rules.{rules}
 use native.Mathlib.Nat.{le_refl}
 use Rattle.checker.proofs.CheckingLaws.{zeros-all}
 use Rattle.checker.proofs.check.Goals as goal

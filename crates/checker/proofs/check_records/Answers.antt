@@ -1,16 +1,13 @@
 -- `checker::check_records` meets its contract: between two records the tables and counts are those of the calls so far,
 -- and the answer from there is the answer. The measure is how many words are left. Assumes nothing.
-use borrow.Author.Rules.{rules}
 use Prim.Native.Nat.{◌-◌}
-use mathlib.Core.Path.{◌≡◌, refl, sym, ap, ◌∙◌}
-use Rattle.call_list.specs.declared.Cursor.{Cursor}
+use mathlib.Core.Path.{refl, sym, ◌∙◌}
 use Rattle.call_list.proofs.CursorsLaws.{passed-next}
 use native.Mathlib.Omega.{arith}
-use lib.ListN.{length}
 use Rattle.term_table.specs.Near.{sort_near}
 use Rattle.record_faults.specs.Faults.{fault_by}
 use Rattle.record_faults.proofs.FaultsLaws.{wrong_at, wrong_none}
-use Rattle.checker.proofs.CheckingLaws.{Checking, checking_start, checked-fault, record_wrong, record_right}
+use Rattle.checker.proofs.CheckingLaws.{checking_start, checked-fault, record_wrong, record_right}
 use Rattle.checker.proofs.CheckingLaws.{checked-end, checked_wrong}
 use Rattle.checker.proofs.check_records.Goals as goal
 

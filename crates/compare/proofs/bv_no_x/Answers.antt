@@ -1,5 +1,4 @@
 -- `compare::bv_no_x` meets its contract: its calls are those of the model, one after the other. Assumes nothing.
-use borrow.Author.Rules.{rules}
 use Rattle.builder.proofs.Laws.{ran_bind}
 use Rattle.smt.specs.Builder.{bv_no_x}
 use Rattle.compare.proofs.bv_no_x.Goals as goal

@@ -1,6 +1,4 @@
 -- `compare::equals_unless` meets its contract: its calls are those of the model, one after the other. Assumes nothing.
-use borrow.Author.Rules.{rules}
-use mathlib.Core.Path.{◌∙◌}
 use Rattle.builder.proofs.Laws.{ran_bind, ran_ret}
 use Rattle.compare.specs.Parts.{equals_unless}
 use Rattle.compare.proofs.equals_unless.Goals as goal

@@ -1,6 +1,4 @@
 -- `compare::tv_equals` meets its contract: its calls are those of the model, one after the other. Assumes nothing.
-use borrow.Author.Rules.{rules}
-use mathlib.Core.Path.{◌∙◌}
 use Rattle.builder.proofs.Laws.{ran_bind}
 use Rattle.smt.specs.Builder.{tv_equals}
 use Rattle.compare.specs.Parts.{equals_unless}

@@ -1,6 +1,4 @@
 -- `compare::tv_less` meets its contract: its calls are those of the model, one after the other. Assumes nothing.
-use borrow.Author.Rules.{rules}
-use mathlib.Core.Path.{◌∙◌}
 use Rattle.builder.proofs.Laws.{ran_bind, ran_ret}
 use Rattle.smt.specs.Builder.{tv_less}
 use Rattle.compare.proofs.tv_less.Goals as goal

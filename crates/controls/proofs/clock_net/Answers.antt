@@ -1,6 +1,4 @@
 -- `controls::clock_net` meets its contract: its calls are those of the model, one after the other. Assumes nothing.
-use borrow.Author.Rules.{rules}
-use mathlib.Core.Path.{◌∙◌}
 use Rattle.builder.proofs.Laws.{ran_bind}
 use Rattle.smt.specs.Builder.{clock_net}
 use Rattle.controls.proofs.clock_net.Goals as goal

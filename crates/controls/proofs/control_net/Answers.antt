@@ -1,5 +1,4 @@
 -- `controls::control_net` meets its contract: its calls are those of the model, one after the other. Assumes nothing.
-use borrow.Author.Rules.{rules}
 use Rattle.builder.proofs.Laws.{ran_bind}
 use Rattle.smt.specs.Builder.{control_net}
 use Rattle.controls.proofs.control_net.Goals as goal

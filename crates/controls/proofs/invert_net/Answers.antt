@@ -1,5 +1,4 @@
 -- `controls::invert_net` meets its contract: its calls are those of the model, one after the other. Assumes nothing.
-use borrow.Author.Rules.{rules}
 use mathlib.Core.List.{[], ◌∷◌}
 use Rattle.builder.proofs.Laws.{ran_bind, ran_ret}
 use Rattle.smt.specs.Builder.{invert_net}

@@ -1,6 +1,5 @@
 -- `decision::match_cell` meets its contract: its calls are those of the model, one after the other. Assumes nothing.
-use borrow.Author.Rules.{rules}
-use mathlib.Core.Path.{◌≡◌, ap, ◌∙◌}
+use mathlib.Core.Path.{ap, ◌∙◌}
 use Prim.Native.Nat.{◌≤◌}
 use native.Mathlib.Omega.{arith}
 use Rattle.logic.specs.Word.{payload_of}

@@ -1,19 +1,14 @@
 -- `decision::matches` meets its contract. Invariant: `place` is that of pattern i (`Reached`), the terms of the
 -- patterns below i are stored, and if the rest of the patterns is run from here, all of them were run from the start
 -- (`Left`). What is left of k patterns falls. Assumes nothing.
-use borrow.Author.Rules.{rules}
 use mathlib.Core.Path.{◌≡◌, refl, ap, ◌∙◌}
-use Prim.Native.Nat.{◌≤◌, ◌<◌, ◌+◌, ◌*◌, ◌-◌, ◌^◌}
+use Prim.Native.Nat.{◌<◌, ◌+◌, ◌*◌, ◌-◌}
 use native.Mathlib.Omega.{arith}
 use lib.ListN.{length}
 use Rattle.logic.specs.Word.{payload_of}
-use Rattle.cell_reader.specs.Parse.{nets_in, patterns_in}
-use Rattle.smt.specs.Builder.{match_of}
-use Rattle.nets.specs.Reads.{past_in}
-use Rattle.vectors.specs.Elements.{elements}
 use Rattle.vectors.proofs.Tables.{no_elements, elements_turn}
-use Rattle.values.proofs.Collect.{Left, left-start, left_turn, left_end}
-use Rattle.decision.proofs.Patterns.{Few, Reached, reached_start, reached_room, reached_next, reached_turn}
+use Rattle.values.proofs.Collect.{left-start, left_turn, left_end}
+use Rattle.decision.proofs.Patterns.{reached_start, reached_room, reached_next, reached_turn}
 use Rattle.decision.proofs.Patterns.{reached_end}
 use Rattle.decision.proofs.matches.Goals as goal
 
@@ -35,8 +30,7 @@ loop-i-preserved c =
     let i = c.loop-i.i in
     let more = c.loop-i-test.true in
     let count-is = c.payload-alternates.ensures ∙ ap payload_of c.word_at.ensures in
-    let next-is = rw count-is at c.alternate_at-place.ensures in
-    (
+    let next-is = rw count-is at c.alternate_at-place.ensures in (
       omega arith,
       c.sum-made.auto.calls ∙ inv.1,
       c.sum-made.auto.names ∙ inv.2,

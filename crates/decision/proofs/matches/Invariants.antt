@@ -1,20 +1,15 @@
 -- `decision::matches` meets its contract. Invariant: `place` is that of pattern i (`Reached`), the terms of the
 -- patterns below i are stored, and if the rest of the patterns is run from here, all of them were run from the start
 -- (`Left`). What is left of k patterns falls. Assumes nothing.
-use borrow.Author.Rules.{rules}
-use mathlib.Core.Path.{◌≡◌, refl, ap, ◌∙◌}
-use Prim.Native.Nat.{◌≤◌, ◌<◌, ◌+◌, ◌*◌, ◌-◌, ◌^◌}
-use native.Mathlib.Omega.{arith}
+use mathlib.Core.Path.{◌≡◌}
+use Prim.Native.Nat.{◌≤◌, ◌<◌, ◌*◌, ◌-◌, ◌^◌}
 use lib.ListN.{length}
-use Rattle.logic.specs.Word.{payload_of}
 use Rattle.cell_reader.specs.Parse.{nets_in, patterns_in}
 use Rattle.smt.specs.Builder.{match_of}
 use Rattle.nets.specs.Reads.{past_in}
 use Rattle.vectors.specs.Elements.{elements}
-use Rattle.vectors.proofs.Tables.{no_elements, elements_turn}
-use Rattle.values.proofs.Collect.{Left, left-start, left_turn, left_end}
-use Rattle.decision.proofs.Patterns.{Few, Reached, reached_start, reached_room, reached_next, reached_turn}
-use Rattle.decision.proofs.Patterns.{reached_end}
+use Rattle.values.proofs.Collect.{Left}
+use Rattle.decision.proofs.Patterns.{Few, Reached}
 use Rattle.decision.proofs.matches.Given as goal
 
 abbrev pub invariant-loop-i : goal.invariant-loop-i

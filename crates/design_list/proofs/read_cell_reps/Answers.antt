@@ -1,7 +1,6 @@
 -- `design_list::read_cell_reps` meets its contract: each answer rewrites the definition by the tests and calls that
 -- lead to it. Assumes nothing.
 use Rattle.design_list.specs.Answers.{cell_reps_answer}
-use borrow.Author.Rules.{rules}
 use Rattle.design_list.proofs.read_cell_reps.Goals as goal
 
 pub returns-in-Refused : goal.returns-in-Refused

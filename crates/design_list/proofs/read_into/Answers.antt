@@ -7,7 +7,6 @@ use Rattle.design_list.specs.Read.{read}
 use Rattle.design_list.specs.Table.{Stored}
 use Rattle.design_list.proofs.TableLaws.{stored-cells}
 use Rattle.items.proofs.Laws.{header_read}
-use borrow.Author.Rules.{rules}
 use Rattle.design_list.proofs.read_into.Goals as goal
 
 pub returns-then-list-gt16384 : goal.returns-then-list-gt16384

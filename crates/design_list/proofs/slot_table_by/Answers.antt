@@ -1,11 +1,10 @@
 -- `design_list::slot_table_by` meets its contract: an accepted list leaves the words of its slots in the table, and
 -- they are copied where they fit. Assumes nothing.
-use borrow.Author.Tests.{lt-ltb, le-ltb}
+use borrow.Author.Tests.{le-ltb}
 use mathlib.Core.Path.{sym, ◌∙◌}
 use native.Mathlib.Omega.{arith}
 use Rattle.cell.specs.declared.Mode.TheVariants.{Ported}
-use Rattle.design_list.proofs.TableLaws.{tabled, table-low, table-refused, table-short, table_filled}
-use borrow.Author.Rules.{rules}
+use Rattle.design_list.proofs.TableLaws.{tabled, table-low, table_filled}
 use Rattle.design_list.proofs.slot_table_by.Goals as goal
 
 pub overflow_add-extent : goal.overflow_add-extent

@@ -1,5 +1,4 @@
 -- `division_test::all` ends: the loop's measure is the numbers left; it asks nothing else. Assumes nothing.
-use borrow.Author.Rules.{rules}
 use Prim.Native.Nat.{◌-◌}
 use Rattle.division_test.proofs.all.Given as goal
 

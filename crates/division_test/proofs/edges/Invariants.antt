@@ -1,5 +1,4 @@
 -- `division_test::edges` ends: the loop's measure is the operands left; it asks nothing else. Assumes nothing.
-use borrow.Author.Rules.{rules}
 use Prim.Native.Nat.{◌-◌}
 use Rattle.division_test.proofs.edges.Given as goal
 

@@ -1,5 +1,4 @@
 -- `division_test::main` ends: the loop's measure is the operations left; it asks nothing else. Assumes nothing.
-use borrow.Author.Rules.{rules}
 use Prim.Native.Nat.{◌-◌}
 use Rattle.division_test.proofs.main.Given as goal
 

@@ -1,5 +1,4 @@
 -- `division_test::row_of_edges` ends: the loop's measure is the operands left; it asks nothing else. Assumes nothing.
-use borrow.Author.Rules.{rules}
 use Prim.Native.Nat.{◌-◌}
 use Rattle.division_test.proofs.row_of_edges.Given as goal
 

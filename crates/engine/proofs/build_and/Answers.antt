@@ -1,5 +1,4 @@
 -- `engine::build_and` meets its contract: the references follow the head, whose count has 24 bits. Assumes nothing.
-use borrow.Author.Rules.{rules}
 use mathlib.Core.Path.{◌∙◌}
 use Rattle.engine.proofs.EmitLaws.{wrote_then, and-head}
 use Rattle.engine.proofs.build_and.Goals as goal

@@ -1,6 +1,5 @@
 -- `engine::build_bitvec_lit` meets its contract: the digits of the reduced number follow the head and the width.
 -- Assumes nothing.
-use borrow.Author.Rules.{rules}
 use Prim.Native.Nat.{◌≤◌}
 use native.Mathlib.Omega.{arith}
 use Rattle.engine.proofs.EmitLaws.{wrote_then, literal_record}

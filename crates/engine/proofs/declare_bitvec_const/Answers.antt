@@ -1,6 +1,5 @@
 -- `engine::declare_bitvec_const` meets its contract: the head, the letter and index, the suffix and width follow one
 -- another. Assumes nothing.
-use borrow.Author.Rules.{rules}
 use Rattle.engine.proofs.EmitLaws.{wrote_then}
 use Rattle.engine.proofs.declare_bitvec_const.Goals as goal
 

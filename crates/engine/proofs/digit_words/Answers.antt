@@ -1,15 +1,12 @@
 -- `engine::digit_words` meets its contract: what is written, with the digits left of the rest, are the digits of the
 -- number. The measure is how many digits are left. Assumes nothing.
 use Prim.Native.Nat.{◌<◌, ◌^◌}
-use mathlib.Core.Path.{◌≡◌, refl, sym, ap, ◌∙◌}
-use mathlib.Core.List.{List, [], ◌++◌, map, append_assoc, append-nil}
-use borrow.Author.Rules.{rules}
+use mathlib.Core.Path.{refl, sym, ap, ◌∙◌}
+use mathlib.Core.List.{List, [], ◌++◌, append_assoc, append-nil}
 use native.Mathlib.Omega.{arith}
 use Prim.Native.Nat.{ℕ}
 use lib.ListN.{length}
 use Rattle.logic.specs.Word.{number_word}
-use Rattle.engine.specs.Encode.{digits}
-use Rattle.engine.specs.Emit.{Wrote}
 use Rattle.engine.proofs.EmitLaws.{wrote_none, wrote_then, no_digits, first-digit}
 use Rattle.engine.proofs.digit_words.Goals as goal
 

@@ -1,6 +1,5 @@
 -- `engine::push` meets its contract: the word is stored by `put`, and the count stops at its largest number. Assumes
 -- nothing.
-use borrow.Author.Rules.{rules}
 use native.Mathlib.Omega.{arith}
 use Rattle.engine.specs.Emit.{overwrite}
 use Rattle.engine.proofs.push.Goals as goal

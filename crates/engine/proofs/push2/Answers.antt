@@ -1,5 +1,4 @@
 -- `engine::push2` meets its contract: the second word is written where the first leaves off. Assumes nothing.
-use borrow.Author.Rules.{rules}
 use native.Mathlib.Omega.{arith}
 use Rattle.engine.proofs.EmitLaws.{wrote_then}
 use Rattle.engine.proofs.push2.Goals as goal

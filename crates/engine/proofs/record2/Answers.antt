@@ -1,5 +1,4 @@
 -- `engine::record2` meets its contract: the arguments are written where the head leaves off. Assumes nothing.
-use borrow.Author.Rules.{rules}
 use native.Mathlib.Omega.{arith}
 use Rattle.engine.proofs.EmitLaws.{wrote_then}
 use Rattle.engine.proofs.record2.Goals as goal

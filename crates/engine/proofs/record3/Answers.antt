@@ -1,5 +1,4 @@
 -- `engine::record3` meets its contract: two words are written, and two where they leave off. Assumes nothing.
-use borrow.Author.Rules.{rules}
 use native.Mathlib.Omega.{arith}
 use Rattle.engine.proofs.EmitLaws.{wrote_then}
 use Rattle.engine.proofs.record3.Goals as goal

@@ -1,15 +1,11 @@
 -- `engine::term_words` meets its contract: after i turns the references of the first i terms are written. The measure
 -- is how many terms are left. Assumes nothing.
-use Prim.Native.Nat.{◌≤◌, ◌-◌, ◌<◌, ◌^◌}
-use mathlib.Core.Path.{◌≡◌, refl, ◌∙◌}
+use Prim.Native.Nat.{◌≤◌, ◌-◌}
+use mathlib.Core.Path.{◌≡◌}
 use mathlib.Core.List.{map}
-use borrow.Author.Rules.{rules}
-use native.Mathlib.Omega.{arith}
 use lib.ListN.{length, take}
-use lib.Seq.{take_all}
 use Rattle.logic.specs.Word.{term_word}
 use Rattle.engine.specs.Emit.{Wrote}
-use Rattle.engine.proofs.EmitLaws.{wrote_none, wrote_then, more-words}
 use Rattle.engine.proofs.term_words.Given as goal
 
 abbrev pub invariant-loop-i : goal.invariant-loop-i

@@ -2,7 +2,6 @@
 -- Assumes nothing.
 use borrow.Author.Tests.{lt-ltb, le-ltb, eq-eqb, ne_eqb}
 use Rattle.fields.specs.Field.{bit_at}
-use borrow.Author.Rules.{rules}
 use Rattle.fields.proofs.bit_at.Goals as goal
 
 pub returns-then-is_constant : goal.returns-then-is_constant

@@ -1,7 +1,6 @@
 -- `fields::constant_at` meets its contract: each answer rewrites the definition by the tests and calls that lead to it.
 -- Assumes nothing.
 use Rattle.fields.specs.Field.{constant_at}
-use borrow.Author.Rules.{rules}
 use Rattle.fields.proofs.constant_at.Goals as goal
 
 pub returns-in-Constant : goal.returns-in-Constant

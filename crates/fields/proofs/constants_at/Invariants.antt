@@ -1,10 +1,7 @@
 -- `fields::constants_at` meets its contract. The invariant: the scan from here answers what the scan from the start
 -- does. The measure is what is left. Assumes nothing.
-use borrow.Author.Rules.{rules}
-use mathlib.Core.Path.{◌≡◌, refl, sym, ◌∙◌}
-use native.Mathlib.Omega.{arith}
+use mathlib.Core.Path.{◌≡◌}
 use Rattle.fields.specs.Field.{constants_at}
-use Rattle.fields.proofs.Laws.{many-none, many_turn, many-fault}
 use Rattle.fields.proofs.constants_at.Given as goal
 
 abbrev pub invariant-loop-left : goal.invariant-loop-left

@@ -2,7 +2,6 @@
 -- Assumes nothing.
 use borrow.Author.Tests.{lt-ltb, le-ltb, eq-eqb, ne_eqb}
 use Rattle.fields.specs.Head.{head_at}
-use borrow.Author.Rules.{rules}
 use Rattle.fields.proofs.head_at.Goals as goal
 
 pub returns-in-Unknown : goal.returns-in-Unknown

@@ -2,7 +2,6 @@
 -- Assumes nothing.
 use borrow.Author.Tests.{lt-ltb, le-ltb, le-leb, lt-leb}
 use Rattle.fields.specs.Field.{net_at}
-use borrow.Author.Rules.{rules}
 use Rattle.fields.proofs.net_at.Goals as goal
 
 pub returns-then-is_known : goal.returns-then-is_known

@@ -1,9 +1,6 @@
 -- `fields::nets_at` meets its contract. The invariant: the scan from here answers what the scan from the start does.
 -- The measure is what is left. Assumes nothing.
-use borrow.Author.Rules.{rules}
-use mathlib.Core.Path.{◌≡◌, refl, sym, ◌∙◌}
-use native.Mathlib.Omega.{arith}
-use Rattle.fields.specs.Field.{nets_at}
+use mathlib.Core.Path.{sym, ◌∙◌}
 use Rattle.fields.proofs.Laws.{many-none, many_turn, many-fault}
 use Rattle.fields.proofs.nets_at.Goals as goal
 

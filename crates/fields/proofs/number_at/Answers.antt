@@ -2,7 +2,6 @@
 -- Assumes nothing.
 use borrow.Author.Tests.{lt-ltb, le-ltb, le-leb, lt-leb, eq-eqb, ne_eqb}
 use Rattle.fields.specs.Field.{number_at}
-use borrow.Author.Rules.{rules}
 use Rattle.fields.proofs.number_at.Goals as goal
 
 pub returns-then-payload-bound : goal.returns-then-payload-bound

@@ -1,11 +1,8 @@
 -- `fields::patterns_at` meets its contract. Each loop's invariant: the scan of what is left, from here, answers what
 -- the whole scan does; its measure is what it counts down. The label is left at a word that is no constant, where the
 -- scan of what is left answers fault 8. Assumes nothing.
-use borrow.Author.Rules.{rules}
-use mathlib.Core.Path.{◌≡◌, refl, sym, ◌∙◌}
-use native.Mathlib.Omega.{arith}
-use Rattle.fields.specs.Pattern.{patterns_at}
-use Rattle.fields.proofs.Laws.{in_pattern, in_alternate, no_pattern, pattern_fault, pattern_begins, pattern_ends}
+use mathlib.Core.Path.{sym, ◌∙◌}
+use Rattle.fields.proofs.Laws.{no_pattern, pattern_fault, pattern_begins, pattern_ends}
 use Rattle.fields.proofs.Laws.{alternate_begins, alternate-ends, word_turn, word_other, word_fault}
 use Rattle.fields.proofs.patterns_at.Goals as goal
 

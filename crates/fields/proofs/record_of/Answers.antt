@@ -1,7 +1,6 @@
 -- `fields::record_of` meets its contract: the two tests are the one test of the definition, without a sum that could
 -- wrap. Assumes nothing.
 use borrow.Author.Tests.{le-leb, lt-leb}
-use borrow.Author.Rules.{rules}
 use native.Mathlib.Omega.{arith}
 use Prim.Native.Nat.{◌+◌}
 use Rattle.fields.specs.Head.{record_of}

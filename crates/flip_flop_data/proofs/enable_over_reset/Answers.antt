@@ -1,5 +1,4 @@
 -- `flip_flop_data::enable_over_reset` meets its contract: reset, then enable. Assumes nothing.
-use borrow.Author.Rules.{rules}
 use Rattle.builder.proofs.Laws.{ran_bind}
 use Rattle.smt.specs.Builder.{loaded}
 use Rattle.flip_flop_data.proofs.enable_over_reset.Goals as goal

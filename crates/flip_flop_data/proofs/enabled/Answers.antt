@@ -1,5 +1,4 @@
 -- `flip_flop_data::enabled` meets its contract: its calls are those of the model, one after the other. Assumes nothing.
-use borrow.Author.Rules.{rules}
 use Rattle.builder.proofs.Laws.{ran_bind}
 use Rattle.smt.specs.Builder.{enabled}
 use Rattle.flip_flop_data.proofs.enabled.Goals as goal

@@ -1,5 +1,4 @@
 -- `flip_flop_data::reset_over_enable` meets its contract: enable, then reset. Assumes nothing.
-use borrow.Author.Rules.{rules}
 use Rattle.builder.proofs.Laws.{ran_bind}
 use Rattle.smt.specs.Builder.{reset_to, loaded}
 use Rattle.builder.specs.Ran.{trits}

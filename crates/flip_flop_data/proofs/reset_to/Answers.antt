@@ -1,6 +1,5 @@
 -- `flip_flop_data::reset_to` meets its contract: its calls are those of the model, one after the other. Assumes
 -- nothing.
-use borrow.Author.Rules.{rules}
 use Rattle.builder.proofs.Laws.{ran_bind}
 use Rattle.smt.specs.Builder.{reset_to}
 use Rattle.flip_flop_data.proofs.reset_to.Goals as goal

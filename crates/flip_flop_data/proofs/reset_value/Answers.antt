@@ -1,7 +1,6 @@
 -- `flip_flop_data::reset_value` meets its contract: the constants at the place of the reset value are packed into a
 -- literal. Assumes nothing.
-use borrow.Author.Rules.{rules}
-use mathlib.Core.Path.{◌≡◌, ap, ◌∙◌}
+use mathlib.Core.Path.{ap, ◌∙◌}
 use Prim.Native.Nat.{◌≤◌}
 use native.Mathlib.Omega.{arith}
 use Rattle.logic.proofs.TableLaws.{length-tab}
@@ -14,6 +13,6 @@ returns c =
     let number = c.payload-n.ensures ∙ ap payload_of c.word_at.ensures in
     λ small names marks.
     let few : c.payload-n.result ≤ 64 = omega (arith, number, small) in
-    let packed = c.constants-value.ensures.1 few in
+    let packed = c.constants-value.ensures.literal few in
     rw (← number)
     (ran_as (c.tv_lit.ensures _ packed.is_undef packed.is_one names marks) (rw length-tab))

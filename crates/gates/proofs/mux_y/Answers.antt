@@ -1,6 +1,4 @@
 -- `gates::mux_y` meets its contract: its calls are those of the model, one after the other. Assumes nothing.
-use borrow.Author.Rules.{rules}
-use mathlib.Core.Path.{◌∙◌}
 use Rattle.builder.proofs.Laws.{ran_bind, ran_ret}
 use Rattle.gates.specs.Parts.{mux_y}
 use Rattle.gates.proofs.mux_y.Goals as goal

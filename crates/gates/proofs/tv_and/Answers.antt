@@ -1,5 +1,4 @@
 -- `gates::tv_and` meets its contract: its calls are those of the model, one after the other. Assumes nothing.
-use borrow.Author.Rules.{rules}
 use Rattle.builder.proofs.Laws.{ran_bind}
 use Rattle.smt.specs.Builder.{tv_and}
 use Rattle.gates.specs.Parts.{undecided, and_bound}

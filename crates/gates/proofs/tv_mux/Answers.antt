@@ -1,6 +1,4 @@
 -- `gates::tv_mux` meets its contract: its calls are those of the model, one after the other. Assumes nothing.
-use borrow.Author.Rules.{rules}
-use mathlib.Core.Path.{◌∙◌}
 use Rattle.builder.proofs.Laws.{ran_bind}
 use Rattle.smt.specs.Builder.{tv_mux}
 use Rattle.gates.specs.Parts.{mux_y, mux_x, mux_bound}

@@ -1,10 +1,6 @@
 -- `items::cell_reps_at` meets its contract. The invariant: reading on from here answers what reading from the start
 -- does. The measure is what is left. Assumes nothing.
-use borrow.Author.Rules.{rules}
-use mathlib.Core.Path.{◌≡◌, refl, sym, ◌∙◌}
-use native.Mathlib.Omega.{arith}
-use Rattle.items.specs.Items.{replaces, cell_reps_from}
-use Rattle.items.specs.Marks.{at_slot_in}
+use mathlib.Core.Path.{sym, ◌∙◌}
 use Rattle.items.proofs.StepLaws.{cell-read, cell-refused}
 use Rattle.items.proofs.Laws.{ascending-none, ascending_turn, ascending-fault}
 use Rattle.items.proofs.cell_reps_at.Goals as goal

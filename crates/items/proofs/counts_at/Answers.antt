@@ -1,7 +1,6 @@
 -- `items::counts_at` meets its contract: each answer rewrites the definition by the tests and calls that lead to it.
 -- Assumes nothing.
 use Rattle.items.specs.Items.{counts_at}
-use borrow.Author.Rules.{rules}
 use Rattle.items.proofs.counts_at.Goals as goal
 
 pub returns-in-Refused : goal.returns-in-Refused

@@ -4,7 +4,6 @@ use native.Mathlib.Omega.{arith}
 use mathlib.Core.Path.{sym, ◌∙◌}
 use Rattle.fields.proofs.AcceptedLaws.{number_read}
 use Rattle.items.specs.Items.{header_at}
-use borrow.Author.Rules.{rules}
 use Rattle.items.proofs.header_at.Goals as goal
 
 pub overflow_sub-base : goal.overflow_sub-base

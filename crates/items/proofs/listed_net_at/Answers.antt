@@ -2,7 +2,6 @@
 -- it. Assumes nothing.
 use borrow.Author.Tests.{lt-ltb, le-ltb}
 use Rattle.items.specs.Items.{listed_net_at}
-use borrow.Author.Rules.{rules}
 use Rattle.items.proofs.listed_net_at.Goals as goal
 
 pub returns-then-at-list : goal.returns-then-at-list

@@ -1,9 +1,6 @@
 -- `items::net_reps_at` meets its contract. The invariant: reading on from here answers what reading from the start
 -- does. The measure is what is left. Assumes nothing.
-use borrow.Author.Rules.{rules}
-use mathlib.Core.Path.{◌≡◌, refl, sym, ◌∙◌}
-use native.Mathlib.Omega.{arith}
-use Rattle.items.specs.Items.{net_reps_from}
+use mathlib.Core.Path.{sym, ◌∙◌}
 use Rattle.items.proofs.StepLaws.{net-read, net-refused}
 use Rattle.items.proofs.Laws.{ascending-none, ascending_turn, ascending-fault}
 use Rattle.items.proofs.net_reps_at.Goals as goal

@@ -1,9 +1,7 @@
 -- `items::pair_at` meets its contract: each answer rewrites the definition by the tests and calls that lead to it.
 -- Assumes nothing.
-use native.Mathlib.Omega.{arith}
 use borrow.Author.Tests.{le-leb, lt-leb}
 use Rattle.items.specs.Items.{pair_at}
-use borrow.Author.Rules.{rules}
 use Rattle.items.proofs.pair_at.Goals as goal
 
 pub returns-then-least-from : goal.returns-then-least-from

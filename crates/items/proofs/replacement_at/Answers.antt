@@ -4,7 +4,6 @@ use mathlib.Core.Path.{sym, ◌∙◌}
 use native.Mathlib.Omega.{arith}
 use Rattle.items.specs.Items.{replacement_at}
 use Rattle.items.proofs.Laws.{listed-low}
-use borrow.Author.Rules.{rules}
 use Rattle.items.proofs.replacement_at.Goals as goal
 
 pub overflow_add-result : goal.overflow_add-result

@@ -2,7 +2,6 @@
 -- Assumes nothing.
 use borrow.Author.Tests.{lt-ltb, le-ltb, le-leb, lt-leb, eq-eqb, ne_eqb}
 use Rattle.items.specs.Items.{replaces}
-use borrow.Author.Rules.{rules}
 use Rattle.items.proofs.replaces.Goals as goal
 
 pub returns-then-base-slot : goal.returns-then-base-slot

@@ -1,5 +1,4 @@
 -- `lines::put_body` meets its contract: each way of writing a term has its own function. Assumes nothing.
-use borrow.Author.Rules.{rules}
 use Rattle.lines.proofs.RecordLaws.{body-kind}
 use Rattle.lines.proofs.put_body.Goals as goal
 

@@ -1,5 +1,4 @@
 -- `lines::put_define` meets its contract: the pieces in their order. Assumes nothing.
-use borrow.Author.Rules.{rules}
 use Rattle.engine.proofs.EmitLaws.{wrote_then}
 use Rattle.lines.proofs.put_define.Goals as goal
 

@@ -1,5 +1,4 @@
 -- `lines::put_literal` meets its contract: the record's number and width. Assumes nothing.
-use borrow.Author.Rules.{rules}
 use Rattle.call_list.proofs.LiteralLaws.{four_digits_lem}
 use Rattle.lines.proofs.put_literal.Goals as goal
 

@@ -1,6 +1,5 @@
 -- `lines::put_record` meets its contract: each line has its own function. Assumes nothing.
-use borrow.Author.Rules.{rules}
-use Rattle.lines.proofs.RecordLaws.{line-kind, line-declared, line-asserted, line-checked, line_defined}
+use Rattle.lines.proofs.RecordLaws.{line-kind, line-asserted, line-checked, line_defined}
 use Rattle.lines.proofs.put_record.Goals as goal
 
 pub returns-in-Define : goal.returns-in-Define

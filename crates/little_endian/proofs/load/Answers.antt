@@ -1,12 +1,8 @@
 -- `little_endian::load` meets its contract. The loop's invariant: the first i words are stored. The measure is the
 -- number of words left. Assumes nothing.
-use borrow.Author.Rules.{rules}
-use Prim.Native.Nat.{◌≤◌, ◌-◌, ◌/◌}
-use mathlib.Core.Path.{◌≡◌, refl, ◌∙◌}
+use Prim.Native.Nat.{◌-◌}
+use mathlib.Core.Path.{refl, ◌∙◌}
 use native.Mathlib.Omega.{arith}
-use lib.ListN.{length}
-use lib.Seq.{sets}
-use Rattle.little_endian.specs.Words.{first_words}
 use Rattle.little_endian.proofs.Laws.{words-none, words_turn}
 use Rattle.little_endian.proofs.load.Goals as goal
 

@@ -1,13 +1,10 @@
 -- `little_endian::load` meets its contract. The loop's invariant: the first i words are stored. The measure is the
 -- number of words left. Assumes nothing.
-use borrow.Author.Rules.{rules}
-use Prim.Native.Nat.{◌≤◌, ◌-◌, ◌/◌}
-use mathlib.Core.Path.{◌≡◌, refl, ◌∙◌}
-use native.Mathlib.Omega.{arith}
+use Prim.Native.Nat.{◌≤◌, ◌-◌}
+use mathlib.Core.Path.{◌≡◌}
 use lib.ListN.{length}
 use lib.Seq.{sets}
 use Rattle.little_endian.specs.Words.{first_words}
-use Rattle.little_endian.proofs.Laws.{words-none, words_turn}
 use Rattle.little_endian.proofs.load.Given as goal
 
 abbrev pub invariant-loop-i : goal.invariant-loop-i

@@ -1,5 +1,4 @@
 -- `little_endian::words` meets its contract: the input's own faults first, then its words. Assumes nothing.
-use borrow.Author.Rules.{rules}
 use Rattle.little_endian.proofs.Laws.{too_long, broken_word, whole_words, untouched, stored-words}
 use Rattle.little_endian.proofs.words.Goals as goal
 

@@ -1,5 +1,4 @@
 -- `loop_line::put_loop` meets its contract: the pieces of the line in their order. Assumes nothing.
-use borrow.Author.Rules.{rules}
 use Rattle.engine.proofs.EmitLaws.{wrote_then}
 use Rattle.loop_line.proofs.put_loop.Goals as goal
 

@@ -1,5 +1,4 @@
 -- `loop_line::put_slot` meets its contract: a space and the letter, then the number. Assumes nothing.
-use borrow.Author.Rules.{rules}
 use Rattle.engine.proofs.EmitLaws.{wrote_then}
 use Rattle.loop_line.proofs.put_slot.Goals as goal
 

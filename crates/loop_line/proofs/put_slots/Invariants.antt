@@ -1,14 +1,11 @@
 -- `loop_line::put_slots` meets its contract. The loop's invariant: what is written and the names of the slots from
 -- `index` on are all names. The measure is the number of slots left. Assumes nothing.
-use borrow.Author.Rules.{rules}
 use Prim.Native.Nat.{ℕ, ◌-◌}
-use mathlib.Core.Path.{◌≡◌, refl, ◌∙◌}
-use mathlib.Core.List.{List, []}
-use native.Mathlib.Omega.{arith}
+use mathlib.Core.Path.{◌≡◌}
+use mathlib.Core.List.{List}
 use lib.ListN.{length}
 use Rattle.engine.specs.Emit.{Wrote}
-use Rattle.engine.proofs.EmitLaws.{wrote_none, wrote_then}
-use Rattle.loop_line.proofs.Laws.{NamesLeft, names-start, names-next, names-end}
+use Rattle.loop_line.proofs.Laws.{NamesLeft}
 use Rattle.loop_line.proofs.put_slots.Given as goal
 
 abbrev pub invariant-loop-index : goal.invariant-loop-index

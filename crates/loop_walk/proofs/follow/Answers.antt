@@ -1,11 +1,10 @@
 -- `loop_walk::follow` meets its contract. The invariant (`Walking`): the nodes met so far are all different, and the
 -- table has the place of each. The measure is how many of n nodes are left to meet. Assumes nothing.
-use borrow.Author.Rules.{rules}
 use Prim.Native.Nat.{◌-◌}
-use mathlib.Core.Path.{◌≡◌, refl, ap, ◌∙◌}
+use mathlib.Core.Path.{refl, ap, ◌∙◌}
 use native.Mathlib.Omega.{arith}
 use lib.ListN.{length, length-set, length-replicate}
-use Rattle.loop_walk.proofs.WalkingLaws.{Walking, walking_start, walking_before, walking_within, walking_turn}
+use Rattle.loop_walk.proofs.WalkingLaws.{walking_start, walking_before, walking_within, walking_turn}
 use Rattle.loop_walk.proofs.WalkingLaws.{walking_loop, walking_found}
 use Rattle.loop_walk.proofs.follow.Goals as goal
 

@@ -1,11 +1,9 @@
 -- `loop_walk::lowest_reads` meets its contract. The invariant: the table has the lowest reads of the words passed. The
 -- measure is how many words are left. Assumes nothing.
-use borrow.Author.Rules.{rules}
 use Prim.Native.Nat.{◌-◌}
-use mathlib.Core.Path.{◌≡◌, refl, ap, ◌∙◌}
-use lib.ListN.{length, take, length-replicate}
-use Rattle.loop_walk.specs.Reads.{LowestReads}
-use Rattle.loop_walk.proofs.NotedLaws.{length-noted, notes_start, notes_turn, notes_end}
+use mathlib.Core.Path.{refl, ap, ◌∙◌}
+use lib.ListN.{length, length-replicate}
+use Rattle.loop_walk.proofs.NotedLaws.{length-noted, notes_start, notes_turn}
 use Rattle.loop_walk.proofs.lowest_reads.Goals as goal
 
 pub loop-i-init : goal.loop-i-init

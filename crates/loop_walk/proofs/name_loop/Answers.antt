@@ -1,7 +1,5 @@
 -- `loop_walk::name_loop` meets its contract: the walk by the table of the lowest reads, from the lowest node that is
 -- not done, has the loop that is found and written. Assumes nothing.
-use borrow.Author.Rules.{rules}
-use native.Mathlib.Omega.{arith}
 use mathlib.Core.Path.{refl}
 use Rattle.loops.specs.Edges.{has_edge}
 use Rattle.loop_walk.proofs.FirstLaws.{left_below}

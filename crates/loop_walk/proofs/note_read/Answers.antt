@@ -1,5 +1,4 @@
 -- `loop_walk::note_read` meets its contract: each way out has what its tests say. Assumes nothing.
-use borrow.Author.Rules.{rules}
 use Prim.Native.Nat.{◌%◌, ◌<◌}
 use borrow.Author.Tests.{eq-eqb, ne_eqb, lt-ltb, le-ltb}
 use Rattle.loops.specs.Edges.{done_in}

@@ -1,5 +1,4 @@
 -- `loop_walk::step` meets its contract: each way out has what its test says. Assumes nothing.
-use borrow.Author.Rules.{rules}
 use borrow.Author.Tests.{lt-ltb, le-ltb}
 use Rattle.loop_walk.specs.Steps.{step}
 use Rattle.loop_walk.proofs.step.Goals as goal

@@ -1,24 +1,18 @@
 -- `loop_walk::write_loop` meets its contract. The invariant: writing the rest of the walk from here gives what writing
 -- all of it from the start does. The measure is how many nodes are left. Assumes nothing.
-use borrow.Author.Rules.{rules}
-use Prim.Native.Nat.{◌-◌, ◌<◌}
-use mathlib.Core.Path.{◌≡◌, refl, sym, ◌∙◌}
-use native.Mathlib.Nat.{sub-zero}
-use lib.ListN.{length, length-set}
-use lib.Seq.{sets}
-use Rattle.logic.specs.Table.{tab}
-use Rattle.loop_walk.specs.Steps.{steps}
+use Prim.Native.Nat.{◌-◌}
+use mathlib.Core.Path.{sym, ◌∙◌}
+use lib.ListN.{length-set}
 use Rattle.loop_walk.proofs.StepLaws.{step_below, write_turn, write_none}
 use Rattle.loop_walk.proofs.write_loop.Goals as goal
 
 pub loop-m-preserved : goal.loop-m-preserved
-loop-m-preserved c =
-    (
-      c.loop-m.invariant.0 ∙ write_turn _ _ c.loop-m.slots c.loop-m.m _ _ c.loop-m-test.true
-          ∙ rw (c.put.ensures, c.step-at.ensures),
-      rw c.put.ensures (simp length-set c.loop-m.invariant.1),
-      rw c.step-at.ensures (step_below _ _ c.requires.0 c.loop-m.at),
-    )
+loop-m-preserved c = (
+  c.loop-m.invariant.0 ∙ write_turn _ _ c.loop-m.slots c.loop-m.m _ _ c.loop-m-test.true
+      ∙ rw (c.put.ensures, c.step-at.ensures),
+  rw c.put.ensures (simp length-set c.loop-m.invariant.1),
+  rw c.step-at.ensures (step_below _ _ c.requires.0 c.loop-m.at),
+)
 
 pub returns : goal.returns
 returns c =

@@ -1,14 +1,11 @@
 -- `loop_walk::write_loop` meets its contract. The invariant: writing the rest of the walk from here gives what writing
 -- all of it from the start does. The measure is how many nodes are left. Assumes nothing.
-use borrow.Author.Rules.{rules}
 use Prim.Native.Nat.{◌-◌, ◌<◌}
-use mathlib.Core.Path.{◌≡◌, refl, sym, ◌∙◌}
-use native.Mathlib.Nat.{sub-zero}
-use lib.ListN.{length, length-set}
+use mathlib.Core.Path.{◌≡◌}
+use lib.ListN.{length}
 use lib.Seq.{sets}
 use Rattle.logic.specs.Table.{tab}
 use Rattle.loop_walk.specs.Steps.{steps}
-use Rattle.loop_walk.proofs.StepLaws.{step_below, write_turn, write_none}
 use Rattle.loop_walk.proofs.write_loop.Given as goal
 
 abbrev pub invariant-loop-m : goal.invariant-loop-m

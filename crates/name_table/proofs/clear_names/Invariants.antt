@@ -1,11 +1,8 @@
 -- `name_table::clear_names` meets its contract. The loop's invariant: every byte before `at` is 0. The measure is what
 -- is left of the table. Assumes nothing.
-use borrow.Author.Rules.{rules}
 use Prim.Native.Nat.{ℕ, ◌-◌, ◌<◌}
-use mathlib.Core.Path.{◌≡◌, refl, ◌∙◌}
-use native.Mathlib.Omega.{arith}
-use lib.ListN.{length, get_or, length-set}
-use Rattle.name_table.proofs.NamedLaws.{zeros-more, zeros-all}
+use mathlib.Core.Path.{◌≡◌}
+use lib.ListN.{length, get_or}
 use Rattle.name_table.proofs.clear_names.Given as goal
 
 abbrev pub invariant-loop-at : goal.invariant-loop-at

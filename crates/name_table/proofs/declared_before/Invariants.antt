@@ -1,13 +1,9 @@
 -- `name_table::declared_before` meets its contract: from each record on, the scan answers what it answers from the
 -- first. The measure is how many words are left. Assumes nothing.
-use Prim.Native.Nat.{ℕ, ◌+◌, ◌-◌, ◌≤◌, min}
-use mathlib.Core.Path.{◌≡◌, refl, sym, ap, ◌∙◌}
-use borrow.Author.Rules.{rules}
-use native.Mathlib.Omega.{arith}
+use Prim.Native.Nat.{ℕ, ◌-◌, ◌≤◌, min}
+use mathlib.Core.Path.{◌≡◌}
 use lib.ListN.{length}
-use Rattle.engine.specs.Encode.{bare, next_at}
 use Rattle.engine.specs.Structure.{declared_from}
-use Rattle.engine.proofs.StructureLaws.{declared-end, declared-here, declared-next}
 use Rattle.name_table.proofs.declared_before.Given as goal
 
 abbrev pub invariant-loop-at : goal.invariant-loop-at

@@ -1,6 +1,5 @@
 -- `names::bv_const` meets its contract: the slot is marked first; then the word of the name's place is 0 and the name
 -- is declared, or it is one more than the name's term. Assumes nothing.
-use borrow.Author.Rules.{rules}
 use mathlib.Core.Path.{◌≡◌, sym, ◌∙◌}
 use Prim.Native.Nat.{suc, ◌-◌}
 use native.Mathlib.Omega.{arith}

@@ -1,5 +1,4 @@
 -- `names::tv_const` meets its contract: its calls are those of the model, one after the other. Assumes nothing.
-use borrow.Author.Rules.{rules}
 use Rattle.builder.proofs.Laws.{ran_bind, ran_ret}
 use Rattle.smt.specs.Builder.{tv_const}
 use Rattle.names.proofs.tv_const.Goals as goal

@@ -1,6 +1,5 @@
 -- `net_pairs::replace_dff_net` meets its contract: the join is asserted, and the term of the one obligation pushed.
 -- Assumes nothing.
-use borrow.Author.Rules.{rules}
 use mathlib.Core.Path.{refl}
 use Rattle.net_pairs.specs.Does.{obliged_in}
 use Rattle.net_pairs.proofs.Does.{does_pushed}

@@ -1,6 +1,5 @@
 -- `net_pairs::replace_dff_pair` meets its contract: the induction step, and after it, in the ported mode, the ordinary
 -- one. Assumes nothing.
-use borrow.Author.Rules.{rules}
 use mathlib.Core.List.{[], ◌∷◌}
 use Rattle.order.specs.Verify.{replace_dff_net}
 use Rattle.net_pairs.proofs.Does.{does_append}

@@ -1,5 +1,4 @@
 -- `net_pairs::replace_void_net` meets its contract: an assertion, and no obligation more. Assumes nothing.
-use borrow.Author.Rules.{rules}
 use mathlib.Core.Path.{refl}
 use Rattle.net_pairs.specs.Does.{obliged_in}
 use Rattle.net_pairs.proofs.Does.{does_did}

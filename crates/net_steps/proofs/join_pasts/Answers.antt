@@ -1,6 +1,4 @@
 -- `net_steps::join_pasts` meets its contract: its calls are those of the model, one after the other. Assumes nothing.
-use borrow.Author.Rules.{rules}
-use mathlib.Core.Path.{◌∙◌}
 use Rattle.builder.proofs.Laws.{ran_bind}
 use Rattle.order.specs.Verify.{join_pasts}
 use Rattle.net_steps.proofs.Laws.{did-asserted}

@@ -1,5 +1,4 @@
 -- `net_steps::replace_dff_net` meets its contract: the join, then the obligation. Assumes nothing.
-use borrow.Author.Rules.{rules}
 use mathlib.Core.List.{[], ◌∷◌}
 use Rattle.net_steps.proofs.Laws.{did_append}
 use Rattle.net_steps.proofs.replace_dff_net.Goals as goal

@@ -1,7 +1,5 @@
 -- `net_steps::replace_void_net` meets its contract: its calls are those of the model, one after the other. Assumes
 -- nothing.
-use borrow.Author.Rules.{rules}
-use mathlib.Core.Path.{◌∙◌}
 use Rattle.builder.proofs.Laws.{ran_bind}
 use Rattle.order.specs.Verify.{replace_void_net}
 use Rattle.net_steps.proofs.Laws.{did-asserted}

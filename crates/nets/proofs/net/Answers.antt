@@ -1,5 +1,4 @@
 -- `nets::net` meets its contract: the model's `net` reads the trit that `age_in` tells. Assumes nothing.
-use borrow.Author.Rules.{rules}
 use Rattle.nets.proofs.Laws.{net_aged}
 use Rattle.nets.proofs.net.Goals as goal
 

@@ -1,9 +1,8 @@
 -- `nets::net_of` meets its contract: a constant is a literal, a slot its two names; a number below 2^29 names one of
 -- them. Assumes nothing.
-use borrow.Author.Rules.{rules}
 use mathlib.Core.Path.{sym, ◌∙◌}
 use Rattle.smt.specs.Builder.{net_of}
-use Rattle.nets.proofs.Laws.{drives_constant, drives_output, drives_something}
+use Rattle.nets.proofs.Laws.{drives_constant, drives_output}
 use Rattle.nets.proofs.net_of.Goals as goal
 
 pub returns-in-Constant : goal.returns-in-Constant

@@ -1,5 +1,4 @@
 -- `nets::read_net` meets its contract: the model's reader reads the trit that `age_by` tells. Assumes nothing.
-use borrow.Author.Rules.{rules}
 use Rattle.nets.proofs.Laws.{reader_aged}
 use Rattle.nets.proofs.read_net.Goals as goal
 

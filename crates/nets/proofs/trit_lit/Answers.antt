@@ -1,5 +1,4 @@
 -- `nets::trit_lit` meets its contract: a literal of one trit, by the two bits that are its numbers. Assumes nothing.
-use borrow.Author.Rules.{rules}
 use mathlib.Core.List.{[], ◌∷◌}
 use Rattle.nets.proofs.Laws.{bit-lit}
 use Rattle.nets.proofs.trit_lit.Goals as goal

@@ -1,14 +1,10 @@
 -- `one_hot::first_match` meets its contract. Invariant: the patterns from `index` on are chosen from, and what the
 -- model does below `index` completes its whole run (`MatchLeft`); each turn is one pattern. The measure is `index`.
 -- Assumes nothing.
-use borrow.Author.Rules.{rules}
-use mathlib.Core.Path.{◌≡◌, refl, ◌∙◌}
-use mathlib.Core.List.{List}
-use Prim.Native.Nat.{ℕ, suc, ◌-◌, ◌<◌, ◌≤◌}
+use mathlib.Core.Path.{◌≡◌, ◌∙◌}
+use Prim.Native.Nat.{suc, ◌-◌}
 use native.Mathlib.Omega.{arith}
-use lib.ListN.{length}
-use Rattle.builder.specs.Ran.{trits}
-use Rattle.one_hot.proofs.Loops.{MatchLeft, match-start, match_turn, match-end}
+use Rattle.one_hot.proofs.Loops.{match_turn, match-end}
 use Rattle.one_hot.proofs.first_match.Goals as goal
 
 pub loop-index-preserved : goal.loop-index-preserved

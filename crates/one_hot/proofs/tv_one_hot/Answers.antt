@@ -1,5 +1,4 @@
 -- `one_hot::tv_one_hot` meets its contract: it is a literal of zeros, but for the hot place. Assumes nothing.
-use borrow.Author.Rules.{rules}
 use Rattle.builder.proofs.Laws.{ran_as}
 use native.Mathlib.Omega.{arith}
 use Rattle.logic.proofs.TableLaws.{length-tab}

@@ -1,5 +1,4 @@
 -- `one_hot::tv_zero` meets its contract: it is a literal of zeros. Assumes nothing.
-use borrow.Author.Rules.{rules}
 use Rattle.builder.proofs.Laws.{ran_as}
 use lib.ListN.{length-replicate}
 use Rattle.bits.proofs.Literals.{narrow}

@@ -1,7 +1,6 @@
 -- `operands::concat_undef` meets its contract: the word of X is stored behind the copied words. Assumes nothing.
-use mathlib.Core.Path.{◌≡◌, refl, ap, ◌∙◌}
+use mathlib.Core.Path.{◌≡◌}
 use mathlib.Core.List.{[], ◌∷◌, ◌++◌}
-use borrow.Author.Rules.{rules}
 use lib.Seq.{sets}
 use Rattle.operands.specs.Words.{words_in}
 use Rattle.operands.proofs.Nets.{topped_stored, nets_topped}

@@ -1,9 +1,8 @@
 -- `operands::constants` meets its contract. The invariant: the numbers are those of the constants from i on, which
 -- leave room for one more. The measure is i. Assumes nothing.
-use mathlib.Core.Path.{◌≡◌, refl, sym, ap, ◌∙◌}
-use Prim.Native.Nat.{◌+◌, ◌-◌, ◌≤◌, min}
+use mathlib.Core.Path.{◌≡◌, sym}
+use Prim.Native.Nat.{◌+◌, ◌-◌, min}
 use native.Mathlib.Omega.{arith}
-use borrow.Author.Rules.{rules}
 use Rattle.logic.specs.Trit.{x_of, y_of}
 use Rattle.operands.specs.Words.{packed}
 use Rattle.operands.proofs.Numbers.{packed_turn, packed_none, packed_all, packed-room, bit-low, packed_literal}

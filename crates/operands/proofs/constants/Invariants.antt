@@ -1,12 +1,9 @@
 -- `operands::constants` meets its contract. The invariant: the numbers are those of the constants from i on, which
 -- leave room for one more. The measure is i. Assumes nothing.
-use mathlib.Core.Path.{◌≡◌, refl, sym, ap, ◌∙◌}
+use mathlib.Core.Path.{◌≡◌}
 use Prim.Native.Nat.{◌+◌, ◌-◌, ◌≤◌, min}
-use native.Mathlib.Omega.{arith}
-use borrow.Author.Rules.{rules}
 use Rattle.logic.specs.Trit.{x_of, y_of}
 use Rattle.operands.specs.Words.{packed}
-use Rattle.operands.proofs.Numbers.{packed_turn, packed_none, packed_all, packed-room, bit-low, packed_literal}
 use Rattle.operands.proofs.constants.Given as goal
 
 abbrev pub invariant-loop-i : goal.invariant-loop-i

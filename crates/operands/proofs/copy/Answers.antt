@@ -1,14 +1,10 @@
 -- `operands::copy` meets its contract. The invariant: storing the rest from here gives what storing all from the start
 -- does. The measure is what is left to copy. Assumes nothing.
-use borrow.Author.Rules.{rules}
-use Prim.Native.Nat.{ℕ, ◌+◌, ◌-◌}
-use mathlib.Core.List.{List}
-use mathlib.Core.Path.{◌≡◌, refl, sym, ap, ◌∙◌}
-use native.Mathlib.Nat.{add-zero, add_assoc}
-use lib.ListN.{length, get_or, length-set}
-use lib.Seq.{sets}
-use Rattle.operands.specs.Words.{words_in}
-use Rattle.operands.proofs.Stores.{rest, rest_all, rest_turn, rest_none}
+use Prim.Native.Nat.{◌+◌, ◌-◌}
+use mathlib.Core.Path.{sym, ◌∙◌}
+use native.Mathlib.Nat.{add_assoc}
+use lib.ListN.{length-set}
+use Rattle.operands.proofs.Stores.{rest_turn, rest_none}
 use Rattle.operands.proofs.copy.Goals as goal
 use Rattle.operands.proofs.copy.Invariants.{after}
 

@@ -1,8 +1,7 @@
 -- `operands::extension` meets its contract: a value that has nets has its top net last. Assumes nothing.
-use mathlib.Core.Path.{◌≡◌, refl, ◌∙◌}
+use mathlib.Core.Path.{◌∙◌}
 use borrow.Author.Rules.{rules}
 use Rattle.logic.specs.Table.{tab}
-use Rattle.operands.specs.Words.{extension}
 use Rattle.operands.proofs.Nets.{msb_last}
 use Rattle.operands.proofs.extension.Goals as goal
 

@@ -1,9 +1,7 @@
 -- `operands::ilog2` meets its contract. The invariant: the stride, or 1 where it is 0, reaches the power of two of the
 -- exponent, and `next` is the power after it. The measure is what the stride has above `next`. Assumes nothing.
-use mathlib.Core.Path.{◌≡◌, refl, sym}
+use mathlib.Core.Path.{◌≡◌}
 use Prim.Native.Nat.{◌+◌, ◌-◌, ◌^◌, ◌≤◌, max}
-use native.Mathlib.Omega.{arith}
-use Rattle.operands.proofs.Numbers.{next_power, exponent_is}
 use Rattle.operands.proofs.ilog2.Given as goal
 
 abbrev pub invariant-loop-next : goal.invariant-loop-next

@@ -1,15 +1,13 @@
 -- `operands::output_nets` meets its contract. The invariant: storing the rest from here gives what storing all from the
 -- start does. The measure is what is left to store; the nets of the stored words are the output's. Assumes nothing.
-use borrow.Author.Rules.{rules}
 use Prim.Native.Nat.{ℕ, ◌+◌, ◌-◌}
-use mathlib.Core.Path.{◌≡◌, refl, sym, ap, ◌∙◌}
-use lib.ListN.{length, length-set}
+use mathlib.Core.Path.{◌≡◌}
+use lib.ListN.{length}
 use lib.Seq.{sets}
 use Rattle.logic.specs.Net.{net_of_slot}
 use Rattle.logic.specs.Word.{net_word}
 use Rattle.operands.specs.Words.{output_words}
-use Rattle.operands.proofs.Stores.{rest, rest_all, rest_turn, rest_none}
-use Rattle.operands.proofs.Nets.{nets-output}
+use Rattle.operands.proofs.Stores.{rest}
 use Rattle.operands.proofs.output_nets.Given as goal
 
 -- The word of an output.

@@ -1,10 +1,6 @@
 -- `operands::shift_width` meets its contract: the larger of the two widths, in each of the three cases. Assumes
 -- nothing.
-use mathlib.Core.Path.{◌≡◌}
-use Prim.Native.Nat.{◌+◌, min}
 use native.Mathlib.Omega.{arith}
-use borrow.Author.Rules.{rules}
-use Rattle.smt.specs.Builder.{shift_width}
 use Rattle.operands.proofs.Numbers.{width-value, width-amount, width-last, wide}
 use Rattle.operands.proofs.shift_width.Goals as goal
 

@@ -1,5 +1,4 @@
 -- `order_lists::main` is safe and ends: the turns left fall. Assumes nothing.
-use borrow.Author.Rules.{rules}
 use Rattle.order_lists.proofs.main.Given as goal
 
 abbrev pub invariant-loop-left : goal.invariant-loop-left

@@ -1,5 +1,4 @@
 -- `order_lists::show_slots` is safe and ends: the slots left fall. Assumes nothing.
-use borrow.Author.Rules.{rules}
 use Prim.Native.Nat.{◌-◌}
 use Rattle.order_lists.proofs.show_slots.Given as goal
 
@@ -7,4 +6,4 @@ abbrev pub invariant-loop-at : goal.invariant-loop-at
 invariant-loop-at l = Unit {0}
 
 abbrev pub decreases-loop-at : goal.decreases-loop-at
-decreases-loop-at l = n - at
+decreases-loop-at l = l.n - l.at

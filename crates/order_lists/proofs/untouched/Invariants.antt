@@ -1,5 +1,4 @@
 -- `order_lists::untouched` is safe and ends: the places left fall. Assumes nothing.
-use borrow.Author.Rules.{rules}
 use Prim.Native.Nat.{◌-◌}
 use lib.ListN.{length}
 use Rattle.order_lists.proofs.untouched.Given as goal

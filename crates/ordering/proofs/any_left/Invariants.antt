@@ -1,13 +1,10 @@
 -- `ordering::any_left` meets its contract. The invariant: every node before the one looked at is done. The measure is
 -- how many are left to look at. Assumes nothing.
-use borrow.Author.Rules.{rules}
 use Prim.Native.Nat.{ℕ, ◌-◌, ◌<◌}
-use mathlib.Core.Path.{◌≡◌, sym, ◌∙◌}
+use mathlib.Core.Path.{◌≡◌}
 use mathlib.Core.Bool.{true}
-use native.Mathlib.Omega.{arith}
 use lib.ListN.{length}
 use Rattle.loops.specs.Edges.{done_in}
-use Rattle.ordering.proofs.Left.{left_here, left-none, done_next}
 use Rattle.ordering.proofs.any_left.Given as goal
 
 abbrev pub invariant-loop-a : goal.invariant-loop-a

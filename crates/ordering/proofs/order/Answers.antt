@@ -1,12 +1,11 @@
 -- `ordering::order` meets its contract: what `slot_table` refuses is refused, then a slice too short, and an accepted
 -- list is ordered with its table. Assumes nothing.
-use borrow.Author.Rules.{rules}
 use mathlib.Core.Path.{sym, ◌∙◌}
 use native.Mathlib.Omega.{arith}
 use lib.Seq.{length-take-le}
 use Rattle.cell.specs.declared.Mode.TheVariants.{Ported}
 use Rattle.ordering.proofs.Ready.{zeros}
-use Rattle.ordering.proofs.Listed.{taken_within, slots-low, ready_of, short_orders, refused_orders}
+use Rattle.ordering.proofs.Listed.{taken_within, slots-low, ready_of, refused_orders}
 use Rattle.ordering.proofs.order.Goals as goal
 
 pub overflow_add-total : goal.overflow_add-total
@@ -31,11 +30,10 @@ slice_bounds-order_read-end c =
     )))
 
 pub order_read-requires : goal.order_read-requires
-order_read-requires c =
-    (
-      λ mode. ready_of mode _ zeros (c.slot_table.ensures mode) c.in-Filled.is,
-      taken_within _ _ _ c.if-slots-total.false,
-    )
+order_read-requires c = (
+  λ mode. ready_of mode _ zeros (c.slot_table.ensures mode) c.in-Filled.is,
+  taken_within _ _ _ c.if-slots-total.false,
+)
 
 pub returns-in-Refused : goal.returns-in-Refused
 returns-in-Refused c =

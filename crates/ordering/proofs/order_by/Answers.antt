@@ -1,9 +1,8 @@
 -- `ordering::order_by` meets its contract: the order goes into turns of its own; where a node is left the loop is
 -- written, else the turns are copied. Assumes nothing.
-use borrow.Author.Rules.{rules}
 use mathlib.Core.Path.{sym, ◌∙◌}
 use native.Mathlib.Omega.{arith}
-use Rattle.ordering.proofs.Answers.{loops_by, orders_by, turns_few}
+use Rattle.ordering.proofs.Answers.{orders_by, turns_few}
 use Rattle.ordering.proofs.Ready.{zeros}
 use Rattle.ordering.proofs.order_by.Goals as goal
 

@@ -1,13 +1,12 @@
 -- `ordering::order_read` meets its contract: the flags and the words are the design's, and so is what they answer.
 -- Assumes nothing.
-use borrow.Author.Rules.{rules}
 use mathlib.Core.Path.{sym}
 use Prim.Native.Nat.{ℕ}
 use native.Mathlib.Omega.{arith}
-use lib.ListN.{length, replicate, length-replicate}
+use lib.ListN.{length-replicate}
 use lib.Seq.{length-take-le}
 use Rattle.cell.specs.declared.Mode.TheVariants.{Ported}
-use Rattle.ordering.proofs.Ready.{zeros, table-low, zeros_taken, flags_low, edges_few, ready_orders}
+use Rattle.ordering.proofs.Ready.{zeros, table-low, zeros_taken, ready_orders}
 use Rattle.ordering.proofs.order_read.Goals as goal
 
 pub slice_bounds-flags-end : goal.slice_bounds-flags-end

@@ -1,6 +1,4 @@
 -- `origins::origin_at` meets its contract: an arm for each operation. Assumes nothing.
-use native.Mathlib.Omega.{arith}
-use borrow.Author.Rules.{rules}
 use Rattle.bitvec.proofs.Laws.{length-nat2bv}
 use Rattle.origins.proofs.origin_at.Goals as goal
 

@@ -1,5 +1,4 @@
 -- `pieces::put_application` meets its contract: the pieces in their order. Assumes nothing.
-use borrow.Author.Rules.{rules}
 use Rattle.engine.proofs.EmitLaws.{wrote_then}
 use Rattle.pieces.proofs.put_application.Goals as goal
 

@@ -1,5 +1,4 @@
 -- `pieces::put_argument` meets its contract: a space, then the term. Assumes nothing.
-use borrow.Author.Rules.{rules}
 use Rattle.engine.proofs.EmitLaws.{wrote_then}
 use Rattle.pieces.proofs.put_argument.Goals as goal
 

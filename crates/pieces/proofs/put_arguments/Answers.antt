@@ -1,14 +1,9 @@
 -- `pieces::put_arguments` meets its contract. The loop's invariant: the arguments before `i` are written, and the place
 -- is the one after them. The measure is the number of arguments left. Assumes nothing.
-use borrow.Author.Rules.{rules}
-use Prim.Native.Nat.{◌-◌, ◌≤◌}
-use mathlib.Core.Path.{◌≡◌, refl, ◌∙◌}
+use Prim.Native.Nat.{◌-◌}
+use mathlib.Core.Path.{refl, ◌∙◌}
 use native.Mathlib.Omega.{arith}
-use lib.ListN.{length}
-use Rattle.engine.specs.Emit.{Wrote}
 use Rattle.engine.proofs.EmitLaws.{wrote_none, wrote_then}
-use Rattle.pieces.specs.Text.{spaced}
-use Rattle.pieces.specs.Arguments.{argument_texts}
 use Rattle.pieces.proofs.Laws.{spaced-none, spaced-more}
 use Rattle.pieces.proofs.put_arguments.Goals as goal
 

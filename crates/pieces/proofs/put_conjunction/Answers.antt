@@ -1,5 +1,4 @@
 -- `pieces::put_conjunction` meets its contract: an and of one argument is written as that argument. Assumes nothing.
-use borrow.Author.Rules.{rules}
 use Rattle.pieces.proofs.Laws.{conjunction-one, conjunction-more}
 use Rattle.pieces.proofs.put_conjunction.Goals as goal
 

@@ -1,5 +1,4 @@
 -- `pieces::put_extraction` meets its contract: the pieces in their order. Assumes nothing.
-use borrow.Author.Rules.{rules}
 use Rattle.engine.proofs.EmitLaws.{wrote_then}
 use Rattle.pieces.proofs.Laws.{spaced-one}
 use Rattle.pieces.proofs.put_extraction.Goals as goal

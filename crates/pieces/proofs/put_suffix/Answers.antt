@@ -1,5 +1,4 @@
 -- `pieces::put_suffix` meets its contract: any number but 1 and 2 is no suffix's. Assumes nothing.
-use borrow.Author.Rules.{rules}
 use Rattle.pieces.proofs.Laws.{suffix-none}
 use Rattle.engine.proofs.EmitLaws.{wrote_none}
 use native.Mathlib.Omega.{arith}

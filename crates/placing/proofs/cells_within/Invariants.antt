@@ -1,10 +1,7 @@
 -- `placing::cells_within` meets its contract. The invariant is `Going`: reading and storing on from here gives what it
 -- gives from the start. The measure is the slots that are left. Assumes nothing.
-use borrow.Author.Rules.{rules}
 use Prim.Native.Nat.{◌-◌}
-use mathlib.Core.Path.{sym, ◌∙◌}
-use native.Mathlib.Omega.{arith}
-use Rattle.placing.proofs.Laws.{Going, going_start, going_turn, going_fault, going_done, placed-read}
+use Rattle.placing.proofs.Laws.{Going}
 use Rattle.placing.proofs.cells_within.Given as goal
 
 abbrev pub invariant-loop-slot : goal.invariant-loop-slot

@@ -6,7 +6,6 @@ use mathlib.Core.Path.{sym, ◌∙◌}
 use Rattle.cell_reader.proofs.AcceptedLaws.{record_read}
 use borrow.Author.Tests.{le-leb, lt-leb}
 use Rattle.placing.specs.Cells.{placed_at}
-use borrow.Author.Rules.{rules}
 use Rattle.placing.proofs.placed_at.Goals as goal
 
 pub overflow_add-after : goal.overflow_add-after

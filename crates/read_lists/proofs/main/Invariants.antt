@@ -1,5 +1,4 @@
 -- `read_lists::main` is safe and ends: the turns left fall. Assumes nothing.
-use borrow.Author.Rules.{rules}
 use Rattle.read_lists.proofs.main.Given as goal
 
 abbrev pub invariant-loop-left : goal.invariant-loop-left

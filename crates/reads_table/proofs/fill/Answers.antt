@@ -1,6 +1,5 @@
 -- `reads_table::fill` meets its contract: the cells' words, then the Voids', are those of all reads (`filled`). Assumes
 -- nothing.
-use borrow.Author.Rules.{rules}
 use native.Mathlib.Omega.{arith}
 use Rattle.reads_table.proofs.Filling.{reps_between, filled}
 use Rattle.reads_table.proofs.fill.Goals as goal

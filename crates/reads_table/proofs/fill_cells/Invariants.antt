@@ -1,16 +1,13 @@
 -- `reads_table::fill_cells` meets its contract: along the cells (`ReadsLeft`), each turn stores the reads of one cell
 -- if it is asserted, and after the last slot none is left. Assumes nothing.
-use borrow.Author.Rules.{rules}
-use mathlib.Core.Path.{◌≡◌, refl, ◌∙◌}
-use Prim.Native.Nat.{ℕ, ◌-◌, ◌%◌, ◌<◌, max}
-use native.Mathlib.Omega.{arith}
+use mathlib.Core.Path.{◌≡◌}
+use Prim.Native.Nat.{ℕ, ◌-◌}
 use lib.ListN.{length}
 use Rattle.cell.specs.declared.Mode.{Mode}
 use Rattle.cell.specs.Design.{Design}
 use Rattle.design_list.specs.Read.{read, accepted}
-use Rattle.slots.specs.Tells.{width_in}
 use Rattle.reads_table.specs.Table.{IsTable}
-use Rattle.reads_table.proofs.Filling.{ReadsLeft, reads-start, reads-step, reads_end}
+use Rattle.reads_table.proofs.Filling.{ReadsLeft}
 use Rattle.reads_table.proofs.fill_cells.Given as goal
 
 abbrev pub invariant-loop-index : goal.invariant-loop-index

@@ -1,5 +1,4 @@
 -- `reads_table::flag_cell` meets its contract: the flag is put just where the cell is asserted. Assumes nothing.
-use borrow.Author.Rules.{rules}
 use mathlib.Core.Path.{sym, ◌∙◌}
 use Rattle.reads_table.specs.Nodes.{flag_all}
 use Rattle.reads_table.proofs.flag_cell.Goals as goal

@@ -1,16 +1,8 @@
 -- `reads_table::flag_cells` meets its contract: along the cells (`FlagsLeft`), each turn flags one cell if it is
 -- asserted, and after the last slot none is left. Assumes nothing.
-use borrow.Author.Rules.{rules}
-use mathlib.Core.Path.{◌≡◌, refl, ◌∙◌}
-use Prim.Native.Nat.{ℕ, ◌-◌, ◌%◌, ◌<◌, max}
-use native.Mathlib.Omega.{arith}
-use lib.ListN.{length}
-use Rattle.cell.specs.declared.Mode.{Mode}
-use Rattle.cell.specs.Design.{Design}
-use Rattle.design_list.specs.Read.{read, accepted}
-use Rattle.slots.specs.Tells.{width_in}
-use Rattle.reads_table.specs.Table.{IsTable}
-use Rattle.reads_table.proofs.Flags.{FlagsLeft, flags_start, flags_step, flags_end}
+use mathlib.Core.Path.{refl, ◌∙◌}
+use Prim.Native.Nat.{◌-◌}
+use Rattle.reads_table.proofs.Flags.{flags_start, flags_step, flags_end}
 use Rattle.reads_table.proofs.flag_cells.Goals as goal
 
 pub loop-index-init : goal.loop-index-init

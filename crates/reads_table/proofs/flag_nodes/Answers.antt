@@ -1,6 +1,5 @@
 -- `reads_table::flag_nodes` meets its contract: the asserted cells and the replaced Voids are all nodes
 -- (`flags_whole`). Assumes nothing.
-use borrow.Author.Rules.{rules}
 use Rattle.reads_table.proofs.Flags.{flags_whole}
 use Rattle.reads_table.proofs.flag_nodes.Goals as goal
 

@@ -1,5 +1,4 @@
 -- `reads_table::flag_pair` meets its contract: the flag is put just where `void_of` says a slot. Assumes nothing.
-use borrow.Author.Rules.{rules}
 use mathlib.Core.Path.{sym, ◌∙◌}
 use Rattle.reads_table.specs.Nodes.{flag_all}
 use Rattle.reads_table.proofs.flag_pair.Goals as goal

@@ -1,15 +1,8 @@
 -- `reads_table::flag_pairs` meets its contract: along the net replacements (`VoidsLeft`), each turn flags the Void that
 -- one replaces, if it is one's, and at the last word none is left. Assumes nothing.
-use borrow.Author.Rules.{rules}
-use mathlib.Core.Path.{◌≡◌, refl, ◌∙◌}
-use Prim.Native.Nat.{ℕ, ◌-◌}
-use native.Mathlib.Omega.{arith}
-use lib.ListN.{length}
-use Rattle.cell.specs.declared.Mode.{Mode}
-use Rattle.cell.specs.Design.{Design}
-use Rattle.design_list.specs.Read.{read, accepted}
-use Rattle.reads_table.specs.Table.{IsTable}
-use Rattle.reads_table.proofs.Flags.{VoidsLeft, voids-start, voids-step, voids-end}
+use mathlib.Core.Path.{refl, ◌∙◌}
+use Prim.Native.Nat.{◌-◌}
+use Rattle.reads_table.proofs.Flags.{voids-start, voids-step, voids-end}
 use Rattle.reads_table.proofs.flag_pairs.Goals as goal
 
 pub loop-at-init : goal.loop-at-init

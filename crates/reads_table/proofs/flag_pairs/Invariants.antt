@@ -1,15 +1,13 @@
 -- `reads_table::flag_pairs` meets its contract: along the net replacements (`VoidsLeft`), each turn flags the Void that
 -- one replaces, if it is one's, and at the last word none is left. Assumes nothing.
-use borrow.Author.Rules.{rules}
-use mathlib.Core.Path.{◌≡◌, refl, ◌∙◌}
+use mathlib.Core.Path.{◌≡◌}
 use Prim.Native.Nat.{ℕ, ◌-◌}
-use native.Mathlib.Omega.{arith}
 use lib.ListN.{length}
 use Rattle.cell.specs.declared.Mode.{Mode}
 use Rattle.cell.specs.Design.{Design}
 use Rattle.design_list.specs.Read.{read, accepted}
 use Rattle.reads_table.specs.Table.{IsTable}
-use Rattle.reads_table.proofs.Flags.{VoidsLeft, voids-start, voids-step, voids-end}
+use Rattle.reads_table.proofs.Flags.{VoidsLeft}
 use Rattle.reads_table.proofs.flag_pairs.Given as goal
 
 abbrev pub invariant-loop-at : goal.invariant-loop-at

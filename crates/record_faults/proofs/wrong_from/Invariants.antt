@@ -1,18 +1,11 @@
 -- `record_faults::wrong_from` meets its contract: from each argument on, the scan finds what it finds from the first;
 -- the word before and its sort are kept from turn to turn. The measure is how many arguments are left. Assumes nothing.
-use borrow.Author.Rules.{rules}
-use Prim.Native.Nat.{ℕ, ◌+◌, ◌-◌, ◌≤◌}
-use mathlib.Core.Path.{◌≡◌, sym, ap, ◌∙◌}
-use native.Mathlib.Omega.{arith}
+use Prim.Native.Nat.{◌+◌, ◌-◌, ◌≤◌}
+use mathlib.Core.Path.{◌≡◌}
 use lib.ListN.{get_or}
-use Rattle.engine.specs.Encode.{Op}
-use Rattle.engine.specs.WellFormed.{first_failing, argument_of}
-use Rattle.engine.proofs.Steps.{failing_none, failing_turn, failing_here}
-use Rattle.record_faults.specs.Faults.{word_sort, stands_by, wrong_as, on_wrong}
-use mathlib.Core.Option.{Option}
-use Rattle.record_faults.specs.declared.Wrong.TheVariants.{At}
+use Rattle.engine.specs.WellFormed.{first_failing}
+use Rattle.record_faults.specs.Faults.{word_sort, stands_by}
 use Rattle.term_table.specs.Near.{sort_near}
-use Rattle.record_faults.proofs.FaultsLaws.{stands_is}
 use Rattle.record_faults.proofs.wrong_from.Given as goal
 
 abbrev pub invariant-loop-i : goal.invariant-loop-i

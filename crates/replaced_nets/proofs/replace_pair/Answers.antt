@@ -1,6 +1,5 @@
 -- `replaced_nets::replace_pair` meets its contract: what each kind of net replacement makes, the kind being that of the
 -- words. Assumes nothing.
-use borrow.Author.Rules.{rules}
 use mathlib.Core.Path.{sym, ap, ◌∙◌}
 use Rattle.slots.specs.Pairs.{pair_kind}
 use Rattle.net_pairs.proofs.Does.{does_none}

@@ -1,15 +1,9 @@
 -- `replaced_nets::replace_pairs` meets its contract: along the net replacements (`AlongPairs`), each turn does the
 -- steps of one pair, and at the last word none is left. Assumes nothing.
-use borrow.Author.Rules.{rules}
-use mathlib.Core.Path.{◌≡◌, refl, ◌∙◌}
-use Prim.Native.Nat.{ℕ, ◌-◌}
-use native.Mathlib.Omega.{arith}
-use lib.ListN.{length}
-use Rattle.cell.specs.Design.{Design}
-use Rattle.design_list.specs.Read.{read, accepted}
+use mathlib.Core.Path.{refl, ◌∙◌}
+use Prim.Native.Nat.{◌-◌}
 use Rattle.design_list.proofs.AcceptedLaws.{accepted-read}
-use Rattle.slots.specs.Tells.{Tells}
-use Rattle.replaced_nets.proofs.Pairs.{AlongPairs, pairs_along, pairs_turn, pairs-done}
+use Rattle.replaced_nets.proofs.Pairs.{pairs_along, pairs_turn, pairs-done}
 use Rattle.replaced_nets.proofs.replace_pairs.Goals as goal
 
 pub loop-at-init : goal.loop-at-init
@@ -17,8 +11,7 @@ loop-at-init c = (refl, refl, refl, refl, λ d replacements accepts tells. pairs
 
 pub loop-at-preserved : goal.loop-at-preserved
 loop-at-preserved c =
-    let inv = c.loop-at.invariant in
-    (
+    let inv = c.loop-at.invariant in (
       c.replace_pair-s.auto.calls ∙ inv.0,
       c.replace_pair-s.auto.names ∙ inv.1,
       c.replace_pair-s.auto.marks ∙ inv.2,

@@ -1,15 +1,12 @@
 -- `replaced_nets::replace_pairs` meets its contract: along the net replacements (`AlongPairs`), each turn does the
 -- steps of one pair, and at the last word none is left. Assumes nothing.
-use borrow.Author.Rules.{rules}
-use mathlib.Core.Path.{◌≡◌, refl, ◌∙◌}
+use mathlib.Core.Path.{◌≡◌}
 use Prim.Native.Nat.{ℕ, ◌-◌}
-use native.Mathlib.Omega.{arith}
 use lib.ListN.{length}
 use Rattle.cell.specs.Design.{Design}
 use Rattle.design_list.specs.Read.{read, accepted}
-use Rattle.design_list.proofs.AcceptedLaws.{accepted-read}
 use Rattle.slots.specs.Tells.{Tells}
-use Rattle.replaced_nets.proofs.Pairs.{AlongPairs, pairs_along, pairs_turn, pairs-done}
+use Rattle.replaced_nets.proofs.Pairs.{AlongPairs}
 use Rattle.replaced_nets.proofs.replace_pairs.Given as goal
 
 abbrev pub invariant-loop-at : goal.invariant-loop-at

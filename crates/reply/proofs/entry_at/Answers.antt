@@ -1,5 +1,4 @@
 -- `reply::entry_at` meets its contract: its tests are those of `entry_of`, in the same order. Assumes nothing.
-use borrow.Author.Rules.{rules}
 use borrow.Author.Tests.{eq-eqb, ne_eqb}
 use Rattle.reply.specs.Step.{entry_of}
 use Rattle.reply.proofs.entry_at.Goals as goal

@@ -1,5 +1,4 @@
 -- `reply::pair_at` meets its contract: the four tokens of a pair in their order. Assumes nothing.
-use borrow.Author.Rules.{rules}
 use Rattle.reply.specs.Reply.{pair_spelled}
 use Rattle.reply.proofs.pair_at.Goals as goal
 

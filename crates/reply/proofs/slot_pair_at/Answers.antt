@@ -1,6 +1,5 @@
 -- `reply::slot_pair_at` meets its contract: the name is spelled into 24 bytes, which hold any, and its pair is read.
 -- Assumes nothing.
-use borrow.Author.Rules.{rules}
 use native.Mathlib.Omega.{arith}
 use mathlib.Core.Path.{sym}
 use lib.Seq.{length-take-le}

@@ -1,14 +1,10 @@
 -- `reply::token_is` meets its contract. The loop's invariant: the token is the word exactly when their bytes from `i`
 -- on are the same. The measure is the number of bytes left. Assumes nothing.
-use borrow.Author.Rules.{rules}
-use Prim.Native.Nat.{◌-◌, ◌+◌, ◌≤◌, ◌<◌}
+use Prim.Native.Nat.{◌-◌, ◌+◌, ◌<◌}
 use mathlib.Core.Path.{◌≡◌, sym, ◌∙◌}
 use native.Mathlib.Omega.{arith}
-use lib.ListN.{length, drop}
-use lib.Seq.{slice}
-use Rattle.reply.specs.Reply.{same}
+use lib.ListN.{length}
 use Rattle.reply.proofs.Same.{same_length, same-done, same-stops, same_goes}
-use native.Mathlib.Nat.{add-zero}
 use Rattle.reply.proofs.token_is.Goals as goal
 
 pub returns-then-end-start : goal.returns-then-end-start

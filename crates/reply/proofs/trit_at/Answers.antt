@@ -1,5 +1,4 @@
 -- `reply::trit_at` meets its contract: x and then y, and the trit that they show. Assumes nothing.
-use borrow.Author.Rules.{rules}
 use mathlib.Core.Path.{◌≡◌}
 use Rattle.tokens.specs.Place.{tokens_from}
 use Rattle.reply.specs.Step.{bit_result, slot_pair, trit}

@@ -1,6 +1,5 @@
 -- `reply::verdict_of` meets its contract: the first token is compared with sat, unsat and unknown. Assumes nothing.
-use borrow.Author.Rules.{rules}
-use Rattle.tokens.proofs.Laws.{found_end, found_token, found_inside}
+use Rattle.tokens.proofs.Laws.{found_end, found_token}
 use Rattle.reply.specs.Reply.{reply}
 use Rattle.reply.proofs.StepLaws.{tokens-start}
 use Rattle.reply.proofs.verdict_of.Goals as goal

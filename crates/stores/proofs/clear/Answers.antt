@@ -1,10 +1,8 @@
 -- `stores::clear` meets its contract. The invariant: storing the rest from here gives what storing all from the start
 -- does. The measure is what is left to store. Assumes nothing.
-use borrow.Author.Rules.{rules}
 use Prim.Native.Nat.{◌-◌}
-use mathlib.Core.Path.{◌≡◌, refl, sym, ◌∙◌}
-use lib.ListN.{length, replicate, length-set}
-use lib.Seq.{sets}
+use mathlib.Core.Path.{sym, ◌∙◌}
+use lib.ListN.{length, length-set}
 use native.Mathlib.Omega.{arith}
 use Rattle.stores.proofs.Laws.{fill_none, fill_turn, all-zeros}
 use Rattle.stores.proofs.clear.Goals as goal

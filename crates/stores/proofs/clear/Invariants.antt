@@ -1,12 +1,9 @@
 -- `stores::clear` meets its contract. The invariant: storing the rest from here gives what storing all from the start
 -- does. The measure is what is left to store. Assumes nothing.
-use borrow.Author.Rules.{rules}
 use Prim.Native.Nat.{◌-◌}
-use mathlib.Core.Path.{◌≡◌, refl, sym, ◌∙◌}
-use lib.ListN.{length, replicate, length-set}
+use mathlib.Core.Path.{◌≡◌}
+use lib.ListN.{length, replicate}
 use lib.Seq.{sets}
-use native.Mathlib.Omega.{arith}
-use Rattle.stores.proofs.Laws.{fill_none, fill_turn, all-zeros}
 use Rattle.stores.proofs.clear.Given as goal
 
 abbrev pub invariant-loop-at : goal.invariant-loop-at

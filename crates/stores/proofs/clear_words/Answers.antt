@@ -1,5 +1,4 @@
 -- `stores::clear_words` meets its contract. Assumes nothing.
-use borrow.Author.Rules.{rules}
 use Rattle.stores.proofs.Laws.{all-zeros}
 use Rattle.stores.proofs.clear_words.Goals as goal
 

@@ -1,11 +1,9 @@
 -- `stores::copy` meets its contract. The invariant: storing the rest from here gives what storing all from the start
 -- does. The measure is what is left to store. Assumes nothing.
-use borrow.Author.Rules.{rules}
 use Prim.Native.Nat.{◌-◌, ◌≤◌}
-use mathlib.Core.Path.{◌≡◌, refl, sym, ◌∙◌}
-use lib.ListN.{length, take, drop, length-set}
+use mathlib.Core.Path.{◌≡◌}
+use lib.ListN.{length, take, drop}
 use lib.Seq.{sets}
-use Rattle.stores.proofs.Laws.{copy_turn, copy_done}
 use Rattle.stores.proofs.copy.Given as goal
 
 abbrev pub invariant-loop-i : goal.invariant-loop-i

@@ -1,11 +1,9 @@
 -- `stores::fill` meets its contract. The invariant: storing the rest from here gives what storing all from the start
 -- does. The measure is what is left to store. Assumes nothing.
-use borrow.Author.Rules.{rules}
 use Prim.Native.Nat.{◌-◌}
-use mathlib.Core.Path.{◌≡◌, refl, sym, ◌∙◌}
-use lib.ListN.{length, replicate, length-set}
-use lib.Seq.{sets}
-use Rattle.stores.proofs.Laws.{fill_none, fill_turn}
+use mathlib.Core.Path.{◌∙◌}
+use lib.ListN.{length-set}
+use Rattle.stores.proofs.Laws.{fill_turn}
 use Rattle.stores.proofs.fill.Goals as goal
 
 pub loop-at-preserved : goal.loop-at-preserved

@@ -1,5 +1,4 @@
 -- `strict::may_divide` meets its contract: its calls are those of the model, one after the other. Assumes nothing.
-use borrow.Author.Rules.{rules}
 use Rattle.builder.proofs.Laws.{ran_bind}
 use Rattle.smt.specs.Builder.{may_divide}
 use Rattle.strict.proofs.may_divide.Goals as goal

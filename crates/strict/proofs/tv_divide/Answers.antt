@@ -1,5 +1,4 @@
 -- `strict::tv_divide` meets its contract: its calls are those of the model, one after the other. Assumes nothing.
-use borrow.Author.Rules.{rules}
 use Rattle.builder.proofs.Laws.{ran_bind}
 use Rattle.strict.proofs.tv_divide.Goals as goal
 

@@ -1,6 +1,4 @@
 -- `strict::tv_strict` meets its contract: its calls are those of the model, one after the other. Assumes nothing.
-use borrow.Author.Rules.{rules}
-use mathlib.Core.Path.{◌∙◌}
 use Rattle.builder.proofs.Laws.{ran_as, ran_bind, ran_ret}
 use lib.ListN.{length-replicate}
 use Rattle.bits.proofs.Literals.{narrow, zeros-lit, ones-lit}

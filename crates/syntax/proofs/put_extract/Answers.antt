@@ -1,5 +1,4 @@
 -- `syntax::put_extract` meets its contract: the pieces in their order. Assumes nothing.
-use borrow.Author.Rules.{rules}
 use Rattle.engine.proofs.EmitLaws.{wrote_then}
 use Rattle.syntax.proofs.put_extract.Goals as goal
 

@@ -1,5 +1,4 @@
 -- `syntax::put_literal` meets its contract: #b, then the bits. Assumes nothing.
-use borrow.Author.Rules.{rules}
 use Rattle.engine.proofs.EmitLaws.{wrote_then}
 use Rattle.syntax.proofs.put_literal.Goals as goal
 

@@ -1,5 +1,4 @@
 -- `syntax::put_operation` meets its contract: each operation has its name or none. Assumes nothing.
-use borrow.Author.Rules.{rules}
 use native.Mathlib.Omega.{arith}
 use Rattle.engine.proofs.EmitLaws.{wrote_none}
 use Rattle.syntax.proofs.put_operation.Goals as goal

@@ -1,5 +1,4 @@
 -- `syntax::put_sort` meets its contract: Bool at 0, otherwise a vector of the width. Assumes nothing.
-use borrow.Author.Rules.{rules}
 use Rattle.engine.proofs.EmitLaws.{wrote_then}
 use Rattle.syntax.proofs.Laws.{sort-vector}
 use Rattle.syntax.proofs.put_sort.Goals as goal

@@ -1,7 +1,7 @@
 -- `term_table::sort_through` meets its contract: what is summed so far, with the sort of the term gone on with, is the
 -- sort of the term asked. Each step goes to an earlier term, so the term's number is the measure of the loop and of the
 -- calls. Assumes nothing.
-use Rattle.std.proofs.Common.{◌≡◌, ℕ, suc, ◌+◌, sym, ap, ◌∙◌, arith}
+use Rattle.std.proofs.Common.{ℕ, suc, ◌+◌, sym, ap, ◌∙◌, arith}
 use Rattle.engine.specs.Structure.{capped}
 use Rattle.term_table.specs.Near.{origin_near, sort_via}
 use Rattle.term_table.proofs.NearLaws.{near_below, via_low, via_given, via_same, via_joined}

@@ -1,8 +1,5 @@
 -- `term_table::note_recent` meets its contract: each way out has what its tests say. Assumes nothing.
-use borrow.Author.Rules.{rules}
-use mathlib.Core.Bool.{and-false}
 use native.Mathlib.Omega.{arith}
-use borrow.Author.Tests.{le-leb, lt-leb}
 use Rattle.term_table.proofs.NearLaws.{record_low}
 use Rattle.term_table.proofs.note_recent.Goals as goal
 

@@ -1,5 +1,4 @@
 -- `term_table::note_sort` meets its contract: each way out has what its tests say. Assumes nothing.
-use borrow.Author.Rules.{rules}
 use native.Mathlib.Omega.{arith}
 use Rattle.term_table.proofs.NearLaws.{record_low}
 use Rattle.term_table.proofs.note_sort.Goals as goal

@@ -1,5 +1,4 @@
 -- `term_table::term_sort` meets its contract: a sort that the table has is known without the record. Assumes nothing.
-use borrow.Author.Rules.{rules}
 use lib.ListN.{get_or}
 use mathlib.Core.Path.{◌≡◌}
 use Rattle.engine.specs.declared.Origin.TheVariants.{Given}

@@ -1,12 +1,9 @@
 -- `text::copy_bytes` meets its contract. The loop's invariant: the bytes before `i` are stored. The measure is the
 -- number of bytes left. Assumes nothing.
-use borrow.Author.Rules.{rules}
-use Prim.Native.Nat.{◌≤◌, ◌-◌, ◌<◌, ◌+◌}
-use mathlib.Core.Path.{◌≡◌, refl, sym, ap, ◌∙◌}
+use Prim.Native.Nat.{◌-◌, ◌<◌}
+use mathlib.Core.Path.{refl, sym, ◌∙◌}
 use native.Mathlib.Omega.{arith}
-use lib.ListN.{length, take, length-set}
-use Rattle.engine.specs.Emit.{overwrite}
-use Rattle.engine.proofs.EmitLaws.{length-overwrite}
+use lib.ListN.{length, length-set}
 use Rattle.text.proofs.Write.{overwrite-none, overwrite-next}
 use Rattle.text.proofs.copy_bytes.Goals as goal
 

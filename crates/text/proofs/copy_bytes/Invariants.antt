@@ -1,13 +1,9 @@
 -- `text::copy_bytes` meets its contract. The loop's invariant: the bytes before `i` are stored. The measure is the
 -- number of bytes left. Assumes nothing.
-use borrow.Author.Rules.{rules}
-use Prim.Native.Nat.{◌≤◌, ◌-◌, ◌<◌, ◌+◌}
-use mathlib.Core.Path.{◌≡◌, refl, sym, ap, ◌∙◌}
-use native.Mathlib.Omega.{arith}
-use lib.ListN.{length, take, length-set}
+use Prim.Native.Nat.{◌≤◌, ◌-◌}
+use mathlib.Core.Path.{◌≡◌}
+use lib.ListN.{length, take}
 use Rattle.engine.specs.Emit.{overwrite}
-use Rattle.engine.proofs.EmitLaws.{length-overwrite}
-use Rattle.text.proofs.Write.{overwrite-none, overwrite-next}
 use Rattle.text.proofs.copy_bytes.Given as goal
 
 abbrev pub invariant-loop-i : goal.invariant-loop-i

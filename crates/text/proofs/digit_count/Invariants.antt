@@ -1,13 +1,9 @@
 -- `text::digit_count` meets its contract. The loop's invariant: the digits counted and those of what is left are the
 -- number's; a machine word has at most 20. The measure is what is left. Assumes nothing.
-use borrow.Author.Rules.{rules}
 use Prim.Native.Nat.{◌≤◌, ◌+◌}
-use mathlib.Core.Path.{◌≡◌, sym, ◌∙◌}
-use native.Mathlib.Omega.{arith}
+use mathlib.Core.Path.{◌≡◌}
 use lib.ListN.{length}
 use Rattle.text.specs.Bytes.{decimal}
-use Rattle.text.proofs.BytesLaws.{decimal-length, length-one}
-use Rattle.text.proofs.BytesLaws.{length_two, length_three, length_four, length_above}
 use Rattle.text.proofs.digit_count.Given as goal
 
 abbrev pub invariant-loop-left : goal.invariant-loop-left

@@ -1,5 +1,4 @@
 -- `text::put_byte` meets its contract: one byte stored, one place counted. Assumes nothing.
-use borrow.Author.Rules.{rules}
 use Rattle.text.proofs.Write.{wrote_byte}
 use Rattle.text.proofs.put_byte.Goals as goal
 

@@ -1,9 +1,7 @@
 -- `text::put_bytes` meets its contract: only the bytes for which there is room are stored, and all are counted.
 -- Assumes nothing.
-use borrow.Author.Rules.{rules}
 use mathlib.Core.Path.{◌∙◌}
 use native.Mathlib.Omega.{arith}
-use lib.Seq.{take-length}
 use Rattle.text.proofs.Write.{overwrite-room, wrote-past}
 use Rattle.text.proofs.put_bytes.Goals as goal
 

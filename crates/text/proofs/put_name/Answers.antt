@@ -1,5 +1,4 @@
 -- `text::put_name` meets its contract: the letter, the index and the suffix, one after the other. Assumes nothing.
-use borrow.Author.Rules.{rules}
 use Rattle.engine.proofs.EmitLaws.{wrote_then}
 use Rattle.text.proofs.put_name.Goals as goal
 

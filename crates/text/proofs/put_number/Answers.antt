@@ -1,5 +1,4 @@
 -- `text::put_number` meets its contract: past the text's end the digits are only counted. Assumes nothing.
-use borrow.Author.Rules.{rules}
 use native.Mathlib.Omega.{arith}
 use Rattle.text.proofs.BytesLaws.{decimal-length}
 use Rattle.text.proofs.Write.{wrote-past}

@@ -1,8 +1,7 @@
 -- `text::store_digits` meets its contract. The loop's invariant: the number is written as what is left of it and then
 -- the digits stored, which stand where they belong. The measure is what is left. Assumes nothing.
-use borrow.Author.Rules.{rules}
 use mathlib.Core.Path.{◌∙◌}
-use Rattle.text.proofs.Digits.{Stored, stored-none, stored-before, stored_more, stored-all}
+use Rattle.text.proofs.Digits.{stored-none, stored-before, stored_more, stored-all}
 use Rattle.text.proofs.store_digits.Goals as goal
 
 pub loop-left-init : goal.loop-left-init

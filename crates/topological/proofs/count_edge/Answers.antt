@@ -1,6 +1,5 @@
 -- `topological::count_edge` meets its contract: by the flag, one edge more is counted for its reader or not at all.
 -- Assumes nothing.
-use borrow.Author.Rules.{rules}
 use borrow.Author.Tests.{eq-eqb, ne_eqb}
 use native.Mathlib.Omega.{arith}
 use Rattle.loops.specs.Edges.{done_in}

@@ -1,9 +1,7 @@
 -- `topological::count_waits` meets its contract. The invariant: the edges before `e` are counted. The measure is how
 -- many edges are left. Assumes nothing.
-use borrow.Author.Rules.{rules}
 use Prim.Native.Nat.{◌-◌, ◌≤◌}
-use mathlib.Core.Path.{◌≡◌, refl, ◌∙◌}
-use native.Mathlib.Omega.{arith}
+use mathlib.Core.Path.{◌≡◌}
 use lib.ListN.{length}
 use Rattle.loops.specs.Edges.{done_in}
 use Rattle.topological.specs.Waiting.{waiting}

@@ -1,5 +1,4 @@
 -- `topological::insert_ready` meets its contract: each way out has what its tests say. Assumes nothing.
-use borrow.Author.Rules.{rules}
 use Rattle.topological.proofs.Settling.{joined-ready, joined_waits, joined-done}
 use Rattle.topological.proofs.insert_ready.Goals as goal
 

@@ -1,6 +1,4 @@
 -- `topological::link_edge` meets its contract: the two words stored are those of one edge more. Assumes nothing.
-use borrow.Author.Rules.{rules}
-use native.Mathlib.Omega.{arith}
 use Rattle.topological.proofs.Links.{links_turn}
 use Rattle.topological.proofs.link_edge.Goals as goal
 

@@ -1,9 +1,7 @@
 -- `topological::link_edges` meets its contract. The invariant: the edges before `e` are linked. The measure is how many
 -- edges are left. Assumes nothing.
-use borrow.Author.Rules.{rules}
 use Prim.Native.Nat.{◌-◌, ◌≤◌}
-use mathlib.Core.Path.{◌≡◌, refl, ◌∙◌}
-use native.Mathlib.Omega.{arith}
+use mathlib.Core.Path.{◌≡◌}
 use lib.ListN.{length}
 use Rattle.topological.specs.State.{Links}
 use Rattle.topological.proofs.link_edges.Given as goal

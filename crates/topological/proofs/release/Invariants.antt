@@ -1,11 +1,8 @@
 -- `topological::release` meets its contract. The invariant: the reads after the edge `e` are taken off. The measure is
 -- that edge, as the one before it that reads the same node is lower. Assumes nothing.
-use borrow.Author.Rules.{rules}
-use mathlib.Core.Path.{◌≡◌, refl, ◌∙◌}
-use native.Mathlib.Omega.{arith}
+use mathlib.Core.Path.{◌≡◌}
 use lib.ListN.{length}
-use Rattle.topological.proofs.Settling.{Releasing, release_start, release_low, release_next, release_less}
-use Rattle.topological.proofs.Settling.{release_end}
+use Rattle.topological.proofs.Settling.{Releasing}
 use Rattle.topological.proofs.release.Given as goal
 
 abbrev pub invariant-loop-e : goal.invariant-loop-e

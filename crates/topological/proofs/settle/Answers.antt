@@ -1,6 +1,5 @@
 -- `topological::settle` meets its contract: a word of the table is at least 1, and past the table nothing changes.
 -- Assumes nothing.
-use borrow.Author.Rules.{rules}
 use native.Mathlib.Omega.{arith}
 use Prim.Native.Nat.{◌<◌}
 use lib.ListN.{get_or}

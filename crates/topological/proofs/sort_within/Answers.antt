@@ -1,8 +1,5 @@
 -- `topological::sort_within` meets its contract: the tables of zeros are those of no edge, no count and no ready node,
 -- and each keeps its length. Assumes nothing.
-use Prim.Native.Nat.{ℕ}
-use mathlib.Core.Path.{sym, ◌∙◌}
-use lib.ListN.{length-replicate}
 use Rattle.loops.specs.Edges.{done_in}
 use Rattle.lowest_set.proofs.Changing.{empty_holds}
 use Rattle.topological.proofs.Links.{links-none}
@@ -23,9 +20,8 @@ start_ready-requires c =
     (c.requires.1, empty_holds)
 
 pub take_turns-requires : goal.take_turns-requires
-take_turns-requires c =
-    (
-      c.requires.1,
-      c.link_edges.ensures,
-      counts_start c.count_waits.ensures c.start_ready.ensures,
-    )
+take_turns-requires c = (
+  c.requires.1,
+  c.link_edges.ensures,
+  counts_start c.count_waits.ensures c.start_ready.ensures,
+)

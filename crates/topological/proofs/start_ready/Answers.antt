@@ -1,13 +1,9 @@
 -- `topological::start_ready` meets its contract. The invariant: the set has the ready nodes below `a`. The measure is
 -- how many flags are left. Assumes nothing.
-use borrow.Author.Rules.{rules}
-use Prim.Native.Nat.{◌-◌, ◌≤◌}
+use Prim.Native.Nat.{◌-◌}
 use mathlib.Core.Path.{◌≡◌, refl, ◌∙◌}
 use native.Mathlib.Omega.{arith}
-use lib.ListN.{length, get_or}
-use Rattle.loops.specs.Edges.{done_in}
-use Rattle.lowest_set.specs.Tree.{Holds}
-use Rattle.topological.specs.State.{ready_by, up_to}
+use lib.ListN.{length}
 use Rattle.topological.proofs.Tables.{holds_same}
 use Rattle.topological.proofs.Starting.{none_yet, one_further, all_seen}
 use Rattle.topological.proofs.start_ready.Goals as goal
@@ -17,14 +13,13 @@ loop-a-init c =
     (refl, omega arith, holds_same c.requires.1 (λ b l. none_yet _ b))
 
 pub loop-a-preserved : goal.loop-a-preserved
-loop-a-preserved c =
-    (
-      c.insert_ready.auto.tree ∙ c.loop-a.invariant.0,
-      omega (arith, c.loop-a-test.true),
-      holds_same
-          (c.insert_ready.ensures _ c.loop-a.invariant.2 (omega (arith, c.loop-a-test.true, c.requires.0)))
-          (λ b l. one_further _ c.loop-a.a b),
-    )
+loop-a-preserved c = (
+  c.insert_ready.auto.tree ∙ c.loop-a.invariant.0,
+  omega (arith, c.loop-a-test.true),
+  holds_same
+      (c.insert_ready.ensures _ c.loop-a.invariant.2 (omega (arith, c.loop-a-test.true, c.requires.0)))
+      (λ b l. one_further _ c.loop-a.a b),
+)
 
 pub returns : goal.returns
 returns c =

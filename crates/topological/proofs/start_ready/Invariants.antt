@@ -1,15 +1,11 @@
 -- `topological::start_ready` meets its contract. The invariant: the set has the ready nodes below `a`. The measure is
 -- how many flags are left. Assumes nothing.
-use borrow.Author.Rules.{rules}
 use Prim.Native.Nat.{◌-◌, ◌≤◌}
-use mathlib.Core.Path.{◌≡◌, refl, ◌∙◌}
-use native.Mathlib.Omega.{arith}
+use mathlib.Core.Path.{◌≡◌}
 use lib.ListN.{length, get_or}
 use Rattle.loops.specs.Edges.{done_in}
 use Rattle.lowest_set.specs.Tree.{Holds}
 use Rattle.topological.specs.State.{ready_by, up_to}
-use Rattle.topological.proofs.Tables.{holds_same}
-use Rattle.topological.proofs.Starting.{none_yet, one_further, all_seen}
 use Rattle.topological.proofs.start_ready.Given as goal
 
 abbrev pub invariant-loop-a : goal.invariant-loop-a

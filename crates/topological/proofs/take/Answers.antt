@@ -1,6 +1,5 @@
 -- `topological::take` meets its contract: the node leaves the set of the ready ones, and its reads are taken off.
 -- Assumes nothing.
-use borrow.Author.Rules.{rules}
 use Rattle.topological.proofs.Settling.{taken_out}
 use Rattle.topological.proofs.take.Goals as goal
 

@@ -1,12 +1,10 @@
 -- `topological::take_turns` meets its contract. The invariant: what is written and cleared from here on comes to the
 -- whole order, the counts are those of the flags now, and `a` is the lowest ready node, or 4,096 where none is. The
 -- measure is how much of the order is left. Assumes nothing.
-use borrow.Author.Rules.{rules}
-use mathlib.Core.Path.{◌≡◌, refl, ◌∙◌}
-use native.Mathlib.Omega.{arith}
+use mathlib.Core.Path.{◌≡◌}
 use lib.ListN.{length}
 use Rattle.loops.specs.Edges.{order_in}
-use Rattle.topological.proofs.Turns.{Turning, turns_start, turns_end, turn, turn_room, turn_less, turn_next}
+use Rattle.topological.proofs.Turns.{Turning}
 use Rattle.topological.proofs.take_turns.Given as goal
 
 abbrev pub invariant-loop-a : goal.invariant-loop-a

@@ -1,7 +1,5 @@
 -- `trits::tv_bind` meets its contract: two names declared, the temporaries counted, the equations asserted. Assumes
 -- nothing.
-use borrow.Author.Rules.{rules}
-use mathlib.Core.Path.{◌∙◌}
 use Rattle.bits.proofs.Temporaries.{ran_tv-bind}
 use Rattle.trits.proofs.tv_bind.Goals as goal
 

@@ -1,5 +1,4 @@
 -- `trits::tv_eq` meets its contract: its calls are those of the model, one after the other. Assumes nothing.
-use borrow.Author.Rules.{rules}
 use Rattle.builder.proofs.Laws.{ran_bind}
 use Rattle.smt.specs.Builder.{tv_eq}
 use Rattle.trits.proofs.tv_eq.Goals as goal

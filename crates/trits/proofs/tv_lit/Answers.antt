@@ -1,5 +1,4 @@
 -- `trits::tv_lit` meets its contract: its calls are those of the model, one after the other. Assumes nothing.
-use borrow.Author.Rules.{rules}
 use Rattle.builder.proofs.Laws.{ran_as, ran_bind, ran_ret}
 use lib.ListN.{length-map}
 use Rattle.logic.specs.Trit.{x_of, y_of}

@@ -1,5 +1,4 @@
 -- `trits::tv_not` meets its contract: its calls are those of the model, one after the other. Assumes nothing.
-use borrow.Author.Rules.{rules}
 use Rattle.builder.proofs.Laws.{ran_ret}
 use Rattle.smt.specs.Builder.{tv_not}
 use Rattle.trits.proofs.tv_not.Goals as goal

@@ -1,6 +1,4 @@
 -- `trits::tv_refines` meets its contract: its calls are those of the model, one after the other. Assumes nothing.
-use borrow.Author.Rules.{rules}
-use mathlib.Core.Path.{◌∙◌}
 use Rattle.builder.proofs.Laws.{ran_bind}
 use Rattle.smt.specs.Builder.{tv_refines}
 use Rattle.trits.proofs.tv_refines.Goals as goal

@@ -1,16 +1,13 @@
 -- `values::net_terms` meets its contract: after i turns the terms have the first i elements, and if the rest of the
 -- nets is read from here, all of them were read from the start; each turn reads one net more. What is left of n nets
 -- falls. Assumes nothing.
-use borrow.Author.Rules.{rules}
-use mathlib.Core.Path.{◌≡◌, refl, ◌∙◌}
-use Prim.Native.Nat.{◌≤◌, ◌<◌, ◌+◌, ◌*◌, ◌-◌, ◌^◌}
-use native.Mathlib.Omega.{arith}
+use mathlib.Core.Path.{◌≡◌}
+use Prim.Native.Nat.{◌≤◌, ◌*◌, ◌-◌}
 use lib.ListN.{length}
 use Rattle.cell_reader.specs.Parse.{nets_in}
 use Rattle.nets.specs.Reads.{reader}
 use Rattle.vectors.specs.Elements.{elements}
-use Rattle.vectors.proofs.Tables.{no_elements, elements_turn}
-use Rattle.values.proofs.Collect.{Left, left-start, left_turn, left_end, nets-next, nets-end}
+use Rattle.values.proofs.Collect.{Left}
 use Rattle.values.proofs.net_terms.Given as goal
 
 abbrev pub invariant-loop-i : goal.invariant-loop-i

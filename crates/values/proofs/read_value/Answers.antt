@@ -1,6 +1,5 @@
 -- `values::read_value` meets its contract: its calls are those of the model, one after the other; 64 elements have
 -- room. Assumes nothing.
-use borrow.Author.Rules.{rules}
 use native.Mathlib.Omega.{arith}
 use Rattle.builder.proofs.Laws.{ran_bind}
 use Rattle.smt.specs.Builder.{value_of}

@@ -1,5 +1,4 @@
 -- `values::value` meets its contract: it is one call. Assumes nothing.
-use borrow.Author.Rules.{rules}
 use Rattle.nets.specs.Reads.{reader}
 use Rattle.values.proofs.value.Goals as goal
 

@@ -1,18 +1,11 @@
 -- `vectors::bv_concat` meets its contract. Invariant: the elements from i on are joined, as the model joins them, to a
 -- vector of n - i bits. It holds of the last element alone, and each turn is one step of the model (`bv-from_turn`).
 -- The measure is i. Assumes nothing.
-use borrow.Author.Rules.{rules}
 use mathlib.Core.Path.{◌≡◌, refl, ◌∙◌}
-use mathlib.Core.List.{List}
-use Prim.Native.Nat.{ℕ, ◌+◌, ◌-◌, ◌<◌}
+use Prim.Native.Nat.{◌+◌, ◌-◌, ◌<◌}
 use native.Mathlib.Omega.{arith}
-use lib.ListN.{length}
-use Rattle.smt.specs.Prog.{bv}
-use Rattle.smt.specs.Builder.{bv_concat_on}
-use Rattle.builder.specs.Ran.{MakesVector}
 use Rattle.builder.proofs.Laws.{ran_as}
-use Rattle.vectors.specs.Elements.{bit_at}
-use Rattle.vectors.proofs.Concat.{from, bv-from_top, bv-from_turn, bv-from-all, bv-concat-none}
+use Rattle.vectors.proofs.Concat.{bv-from_top, bv-from_turn, bv-from-all, bv-concat-none}
 use Rattle.vectors.proofs.bv_concat.Goals as goal
 
 pub returns-then-n-eq0 : goal.returns-then-n-eq0

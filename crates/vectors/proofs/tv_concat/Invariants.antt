@@ -1,17 +1,13 @@
 -- `vectors::tv_concat` meets its contract. Invariant: the elements from i on are joined, as the model joins them, to a
 -- vector of n - i trits. It holds of the last element alone, and each turn is one step of the model (`tv-from_turn`).
 -- The measure is i. Assumes nothing.
-use borrow.Author.Rules.{rules}
-use mathlib.Core.Path.{◌≡◌, refl, sym, ◌∙◌}
-use mathlib.Core.List.{List}
-use Prim.Native.Nat.{ℕ, ◌+◌, ◌-◌, ◌<◌}
-use native.Mathlib.Omega.{arith}
+use mathlib.Core.Path.{◌≡◌}
+use Prim.Native.Nat.{◌-◌, ◌<◌}
 use lib.ListN.{length}
 use Rattle.smt.specs.Builder.{tv_concat_on}
-use Rattle.builder.specs.Ran.{trits, MakesTrits}
-use Rattle.builder.proofs.Laws.{ran_as}
+use Rattle.builder.specs.Ran.{MakesTrits}
 use Rattle.vectors.specs.Elements.{element_at}
-use Rattle.vectors.proofs.Concat.{from, tv-from_top, tv-from_turn, tv-from-all, tv-concat-none}
+use Rattle.vectors.proofs.Concat.{from}
 use Rattle.vectors.proofs.tv_concat.Given as goal
 
 abbrev pub invariant-loop-i : goal.invariant-loop-i

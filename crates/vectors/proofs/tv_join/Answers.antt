@@ -1,5 +1,4 @@
 -- `vectors::tv_join` meets its contract: its calls are those of the model, one after the other. Assumes nothing.
-use borrow.Author.Rules.{rules}
 use Rattle.builder.proofs.Laws.{ran_bind, ran_ret}
 use Rattle.vectors.specs.Elements.{tv_join}
 use Rattle.vectors.proofs.tv_join.Goals as goal

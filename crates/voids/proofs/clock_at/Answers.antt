@@ -1,7 +1,6 @@
 -- `voids::clock_at` meets its contract: each answer rewrites the definition by the tests and calls that lead to it.
 -- Assumes nothing.
 use Rattle.voids.specs.Voids.{clock_at}
-use borrow.Author.Rules.{rules}
 use Rattle.voids.proofs.clock_at.Goals as goal
 
 pub returns-in-Unknown : goal.returns-in-Unknown

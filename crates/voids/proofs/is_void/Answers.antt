@@ -2,7 +2,6 @@
 -- Assumes nothing.
 use borrow.Author.Tests.{lt-ltb, le-ltb}
 use Rattle.voids.specs.Marks.{is_void_in}
-use borrow.Author.Rules.{rules}
 use Rattle.voids.proofs.is_void.Goals as goal
 
 pub returns-then-slot-base : goal.returns-then-slot-base

@@ -1,11 +1,7 @@
 -- `voids::items_voids_at` meets its contract. The invariant: the scan from here answers what the scan from the start
 -- does. The measure is what is left. Assumes nothing.
-use borrow.Author.Rules.{rules}
-use mathlib.Core.Path.{◌≡◌, refl, sym, ◌∙◌}
-use native.Mathlib.Omega.{arith}
-use Rattle.fields.specs.Field.{scan_many}
+use mathlib.Core.Path.{sym, ◌∙◌}
 use Rattle.fields.proofs.Laws.{many-none, many_turn, many-fault}
-use Rattle.voids.specs.Marks.{is_void_in}
 use Rattle.voids.specs.Voids.{item_voids_at}
 use Rattle.voids.proofs.items_voids_at.Goals as goal
 

@@ -1,6 +1,5 @@
 -- `voids::names_void` meets its contract: it answers by what the net names, as the definition does. Assumes nothing.
 use Rattle.voids.specs.Voids.{names_void}
-use borrow.Author.Rules.{rules}
 use Rattle.voids.proofs.names_void.Goals as goal
 
 pub returns-in-Constant : goal.returns-in-Constant

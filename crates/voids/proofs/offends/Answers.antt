@@ -2,7 +2,6 @@
 -- Assumes nothing.
 use borrow.Author.Tests.{le-leb, lt-leb, eq-eqb, ne_eqb}
 use Rattle.voids.specs.Voids.{offends}
-use borrow.Author.Rules.{rules}
 use Rattle.voids.proofs.offends.Goals as goal
 
 pub returns-then-at-clock : goal.returns-then-at-clock

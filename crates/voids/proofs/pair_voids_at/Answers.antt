@@ -2,7 +2,6 @@
 -- it. Assumes nothing.
 use borrow.Author.Tests.{lt-ltb, le-ltb}
 use Rattle.voids.specs.Voids.{pair_voids_at, void_at}
-use borrow.Author.Rules.{rules}
 use Rattle.voids.proofs.pair_voids_at.Goals as goal
 
 pub returns-then-offends : goal.returns-then-offends

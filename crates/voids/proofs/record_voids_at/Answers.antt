@@ -2,7 +2,6 @@
 -- it. Assumes nothing.
 use borrow.Author.Tests.{lt-ltb, le-ltb}
 use Rattle.voids.specs.Voids.{record_voids_at}
-use borrow.Author.Rules.{rules}
 use Rattle.voids.proofs.record_voids_at.Goals as goal
 
 pub returns-then-at-list : goal.returns-then-at-list

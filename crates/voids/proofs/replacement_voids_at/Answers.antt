@@ -2,7 +2,6 @@
 -- lead to it. Assumes nothing.
 use borrow.Author.Tests.{lt-ltb, le-ltb}
 use Rattle.voids.specs.Voids.{replacement_voids_at}
-use borrow.Author.Rules.{rules}
 use Rattle.voids.proofs.replacement_voids_at.Goals as goal
 
 pub returns-then-at-list : goal.returns-then-at-list

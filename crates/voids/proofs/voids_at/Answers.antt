@@ -1,7 +1,6 @@
 -- `voids::voids_at` meets its contract: each answer rewrites the definition by the tests and calls that lead to it.
 -- Assumes nothing.
 use Rattle.voids.specs.Voids.{voids_at}
-use borrow.Author.Rules.{rules}
 use Rattle.voids.proofs.voids_at.Goals as goal
 
 pub returns-in-Refused : goal.returns-in-Refused

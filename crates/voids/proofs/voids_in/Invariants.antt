@@ -1,14 +1,10 @@
 -- `voids::voids_in` meets its contract. The invariant: the scan from here answers what the scan from the start does,
 -- and the places left end where they did. The measure is what is left. Assumes nothing.
-use borrow.Author.Rules.{rules}
 use Prim.Native.Nat.{◌+◌}
-use mathlib.Core.Path.{◌≡◌, refl, sym, ◌∙◌}
-use native.Mathlib.Omega.{arith}
+use mathlib.Core.Path.{◌≡◌}
 use Rattle.fields.specs.Field.{scan_many}
-use Rattle.fields.proofs.Laws.{many-none, many_turn, many-fault}
 use Rattle.voids.specs.Marks.{is_void_in}
 use Rattle.voids.specs.Voids.{void_at}
-use Rattle.voids.proofs.Laws.{void_clean, void-fault}
 use Rattle.voids.proofs.voids_in.Given as goal
 
 abbrev pub invariant-loop-left : goal.invariant-loop-left

@@ -1,7 +1,6 @@
 -- `word_input::load` is safe and ends: the words keep their number, and the words left to read fall. Assumes nothing.
-use borrow.Author.Rules.{rules}
 use Prim.Native.Nat.{◌-◌}
-use mathlib.Core.Path.{◌≡◌, refl}
+use mathlib.Core.Path.{◌≡◌}
 use lib.ListN.{length}
 use Rattle.word_input.proofs.load.Given as goal
 
