@@ -59,7 +59,7 @@ module _ (reads_past : ℕ → Bool) where
       (value_costs reads_past (output_nets s n)))
   cell_costs s (c.unary c.buf a) h b =
       costs_more (length a * 16) (5100 * (2 + length a)) _ _ (omega arith) (value_costs reads_past a)
-  cell_costs s (c.unary c.not a) h b =
+  cell_costs s (c.unary c.inverter a) h b =
       costs_more (length a * 16 + 2) (5100 * (2 + length a)) _ _ (omega arith)
       (then (length a * 16) 2 _ _ (value_costs reads_past a) λ x. tv_not_costs x)
   cell_costs s (c.binary o a d) h b =

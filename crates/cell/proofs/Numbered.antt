@@ -18,7 +18,7 @@ use Rattle.cell.specs.declared.Decoded.TheVariants as D
 pub number_operation : (op : Operation) → (operation_of (number_of op) ≡ D.Known op) × (number_of op < 32)
 number_operation O.Void = (refl, omega arith)
 number_operation (O.Unary C.buf) = (refl, omega arith)
-number_operation (O.Unary C.not) = (refl, omega arith)
+number_operation (O.Unary C.inverter) = (refl, omega arith)
 number_operation (O.Binary C.and) = (refl, omega arith)
 number_operation (O.Binary C.or) = (refl, omega arith)
 number_operation (O.Binary C.xor) = (refl, omega arith)

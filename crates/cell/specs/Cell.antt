@@ -8,7 +8,7 @@ use Rattle.cell.specs.declared.Standing.{Standing}
 use Rattle.cell.specs.declared.Standing.TheVariants as S
 -- Operations on one vector, #n n*.
 pub use Rattle.operators.specs.declared.Unary.{Unary}
-pub use Rattle.operators.specs.declared.Unary.TheVariants.{Buf as buf, Not as not}
+pub use Rattle.operators.specs.declared.Unary.TheVariants.{Buf as buf, Not as inverter}
 -- Operations on two vectors of one width, #n n* n*.
 pub use Rattle.operators.specs.declared.Binary.{Binary}
 pub use Rattle.operators.specs.declared.Binary.TheVariants.{And as and, Or as or, Xor as xor, Mul as mul}

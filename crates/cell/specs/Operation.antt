@@ -20,7 +20,7 @@ use Rattle.cell.specs.declared.Standing.TheVariants as S
 -- The operations by their numbers, from 0.
 abbrev pub operations : List Operation
 operations =
-    O.Void ∷ O.Unary C.buf ∷ O.Unary C.not ∷ O.Binary C.and ∷ O.Binary C.or ∷ O.Binary C.xor ∷ O.Mux ∷ O.Adc ∷ O.Aig ∷
+    O.Void ∷ O.Unary C.buf ∷ O.Unary C.inverter ∷ O.Binary C.and ∷ O.Binary C.or ∷ O.Binary C.xor ∷ O.Mux ∷ O.Adc ∷ O.Aig ∷
     O.Binary C.eq ∷ O.Binary C.ult ∷ O.Binary C.slt ∷ O.Shift C.shl ∷ O.Shift C.ushr ∷ O.Shift C.sshr ∷ O.Shift C.xshr ∷
     O.Binary C.mul ∷ O.Match ∷ O.Assign ∷ O.Dff ∷ O.IoBuf ∷ O.Input ∷ O.Note ∷ O.Binary C.udiv ∷
     O.Binary C.umod ∷ O.Binary C.sdiv_trunc ∷ O.Binary C.smod_trunc ∷ []
@@ -33,7 +33,7 @@ operation_of number = get_or (map Known operations) number Unknown
 abbrev pub number_of : Operation → ℕ
 number_of O.Void = 0
 number_of (O.Unary C.buf) = 1
-number_of (O.Unary C.not) = 2
+number_of (O.Unary C.inverter) = 2
 number_of (O.Binary C.and) = 3
 number_of (O.Binary C.or) = 4
 number_of (O.Binary C.xor) = 5

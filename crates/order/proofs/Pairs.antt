@@ -359,7 +359,7 @@ module _ (reads_past : ℕ → Bool) where
   paired_cell s w (cells.input n) = paired_ret _
   paired_cell s w (cells.io_buf n) = paired_value (output_nets s w)
   paired_cell s w (cells.unary cells.buf a) = paired_value a
-  paired_cell s w (cells.unary cells.not a) = paired_seq _ _ (paired_value a) λ x. paired_tv_not x
+  paired_cell s w (cells.unary cells.inverter a) = paired_seq _ _ (paired_value a) λ x. paired_tv_not x
   paired_cell s w (cells.binary o a b) =
       paired_seq _ _ (paired_value a) λ x.
       paired_seq _ _ (paired_value b) λ y. paired_tv_binary o x y _ w

@@ -276,7 +276,7 @@ module _ (reads_past : ℕ → Bool) (b b' : NetBits) where
   cell_bits_local s w (c.input n) h io = refl
   cell_bits_local s w (c.io_buf n) h io = absurd (io n refl)
   cell_bits_local s w (c.unary c.buf x) h io = nets-value x h
-  cell_bits_local s w (c.unary c.not x) h io = rw (nets-value x h)
+  cell_bits_local s w (c.unary c.inverter x) h io = rw (nets-value x h)
   cell_bits_local s w (c.binary o x y) h io =
       rw (nets-value x (first _ _ h), nets-value y (second (current_nets reads_past x) _ h))
   cell_bits_local s w (c.mux sel x y) h io =

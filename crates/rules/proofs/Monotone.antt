@@ -42,7 +42,7 @@ mux-trit-monotone = f.monotone₃ t.mux tt tt tt
 -- ---- Vectors, trit by trit.
 pub unary-monotone : (op : Unary) {a a' : List Trit} → Refine a a' → Refine (r.unary op a) (r.unary op a')
 unary-monotone c.buf h = h
-unary-monotone c.not h = f.refine_map t.not not-monotone h
+unary-monotone c.inverter h = f.refine_map t.not not-monotone h
 
 pub mux-monotone : (s s' : Trit) {a a' b b' : List Trit} → Refines s s' → Refine a a' → Refine b b'
     → Refine (r.mux s a b) (r.mux s' a' b')

@@ -52,7 +52,7 @@ one_width t = record { is = refl }
 
 pub unary-width : (op : Unary) {n : ℕ} {a : List Trit} → Width n a → Width n (r.unary op a)
 unary-width c.buf p = p
-unary-width c.not {a = a} p = record { is = length-map a t.not ∙ p.is }
+unary-width c.inverter {a = a} p = record { is = length-map a t.not ∙ p.is }
 
 pub divided-width : {n : ℕ} {a : List Trit} → Width n a → (b : List Trit) (result : ℕ) → Width n (r.divided a b result)
 divided-width {n} {a} p b result = rw p.is (defined-width (r.undivided a b) n _ (tab-width n (bit_at result)))

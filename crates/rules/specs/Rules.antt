@@ -16,7 +16,7 @@ trits n v = tab n (bit_at v)
 -- Buf copies; Not is Kleene's.
 abbrev pub unary : Unary → List Trit → List Trit
 unary c.buf a = a
-unary c.not a = map t.not a
+unary c.inverter a = map t.not a
 
 -- Mux, trit by trit.
 abbrev pub mux : Trit → List Trit → List Trit → List Trit

@@ -291,7 +291,7 @@ module _ (reads_past : ℕ → Bool) (ρ : Assignment) (v : ℕ → Value) where
   cell-wp s (cells.input n) h terms some = absurd (terms n refl)
   cell-wp s (cells.io_buf n) h terms some = value-wp (output_nets s n) (simp length-tab some)
   cell-wp s (cells.unary cells.buf x) h terms some = value-wp x some
-  cell-wp s (cells.unary cells.not x) h terms some =
+  cell-wp s (cells.unary cells.inverter x) h terms some =
       wp_seq ρ v (value_of (net reads_past) x) _ _ _ (value-wp x some) λ p hp. tv_not-wp ρ v p _ hp
   cell-wp s (cells.binary o x y) h terms some =
       let n = wide o (length x) h.1 some in

@@ -481,7 +481,7 @@ module _ (reads_past : ℕ → Bool) (b : NetBits) where
       )
       at (value-shows (output_nets s n))
   cell-bits_show s (cells.unary cells.buf x) h terms some = value-shows x
-  cell-bits_show s (cells.unary cells.not x) h terms some = not-shows (value-shows x)
+  cell-bits_show s (cells.unary cells.inverter x) h terms some = not-shows (value-shows x)
   cell-bits_show s (cells.binary o x y) h terms some = binary-shows o (value-shows x) (rw h.0 at (value-shows y))
   cell-bits_show s (cells.mux sel x y) h terms some = mux-nets sel x y (length x) refl h
   cell-bits_show s (cells.adc x y carry) h terms some = adc-cell-shows x y carry h

@@ -534,7 +534,7 @@ module _ (reads_past : ℕ → Bool) where
   cell s w (cells.input n) = ret (tv no_vec no_vec)
   cell s w (cells.io_buf n) = value (output_nets s w)
   cell s w (cells.unary cells.buf a) = value a
-  cell s w (cells.unary cells.not a) = value a >>= tv_not
+  cell s w (cells.unary cells.inverter a) = value a >>= tv_not
   cell s w (cells.binary o a b) = do
     x ← value a
     y ← value b

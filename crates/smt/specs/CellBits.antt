@@ -111,7 +111,7 @@ module _ (reads_past : ℕ → Bool) (b : NetBits) where
   cell_bits s w (cells.input n) = tb [] []
   cell_bits s w (cells.io_buf n) = value_bits (output_nets s w)
   cell_bits s w (cells.unary cells.buf x) = value_bits x
-  cell_bits s w (cells.unary cells.not x) = not_bits (value_bits x)
+  cell_bits s w (cells.unary cells.inverter x) = not_bits (value_bits x)
   cell_bits s w (cells.binary o x y) = binary_bits o (value_bits x) (value_bits y) (length x)
   cell_bits s w (cells.mux sel x y) = mux_bits (net_bit sel) (value_bits x) (value_bits y)
   cell_bits s w (cells.adc x y carry) = adc_cell_bits x y carry

@@ -14,7 +14,7 @@ use Rattle.smt.specs.Builder.{zeros, ones, bv_no_x, tv_and, tv_or, tv_xor, tv_eq
 -- Operations 0 to 22.
 abbrev pub earlier : List Operation
 earlier =
-    O.Void ∷ O.Unary cells.buf ∷ O.Unary cells.not ∷ O.Binary cells.and ∷ O.Binary cells.or ∷ O.Binary cells.xor ∷
+    O.Void ∷ O.Unary cells.buf ∷ O.Unary cells.inverter ∷ O.Binary cells.and ∷ O.Binary cells.or ∷ O.Binary cells.xor ∷
     O.Mux ∷ O.Adc ∷ O.Aig ∷ O.Binary cells.eq ∷ O.Binary cells.ult ∷ O.Binary cells.slt ∷ O.Shift cells.shl ∷
     O.Shift cells.ushr ∷ O.Shift cells.sshr ∷ O.Shift cells.xshr ∷ O.Binary cells.mul ∷ O.Match ∷ O.Assign ∷ O.Dff ∷
     O.IoBuf ∷ O.Input ∷ O.Note ∷ []

@@ -395,7 +395,7 @@ module _ (slots : ℕ) (σ : ℕ → Sort) (reads_past : ℕ → Bool) where
       rw (length-tab m (λ i. slot (s + i))) at (value_safe n (output_nets s m)
       (rw (length-tab m (λ i. slot (s + i))) (omega arith)) (output-within s m l))
   cell_safe n s (cells.unary cells.buf x) h terms some b wn l = value_safe n x (omega arith) wn
-  cell_safe n s (cells.unary cells.not x) h terms some b wn l =
+  cell_safe n s (cells.unary cells.inverter x) h terms some b wn l =
       let w = length x in
       safe_seq slots σ n (value_of (net reads_past) x) _ (Tv w) (Tv w) (value_safe n x (omega arith) wn) λ i p li g.
       tv_not_safe slots σ i w p (omega arith) g

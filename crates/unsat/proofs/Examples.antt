@@ -12,7 +12,7 @@ use Rattle.logic.specs.Net.{slot}
 use Rattle.logic.specs.declared.Trit.{Trit}
 use Rattle.logic.specs.declared.Trit.TheVariants.{Zero, One, Undef}
 use Rattle.cell.specs.declared.Mode.TheVariants.{Ported}
-use Rattle.cell.specs.Cell.{input, unary, not}
+use Rattle.cell.specs.Cell.{input, unary, inverter}
 use Rattle.cell.specs.Design.{Design, cell_in}
 use Rattle.cell.specs.Each.{Each}
 use Rattle.right.specs.Valid.{Valid}
@@ -42,8 +42,8 @@ nots from = record {
   base = 3;
   added = 0;
   cells =
-      record { slot = 0; cell = input 1 } ∷ record { slot = 1; cell = unary not (slot 0 ∷ []) }
-      ∷ record { slot = 2; cell = unary not (slot 1 ∷ []) } ∷ [];
+      record { slot = 0; cell = input 1 } ∷ record { slot = 1; cell = unary inverter (slot 0 ∷ []) }
+      ∷ record { slot = 2; cell = unary inverter (slot 1 ∷ []) } ∷ [];
   cell_reps = [];
   net_reps = record { from = slot from; to = slot 0 } ∷ [];
 }

@@ -6,7 +6,7 @@ use native.Mathlib.Omega.{arith}
 use Rattle.logic.specs.Word.{net_word, head_word, number_word}
 use Rattle.logic.specs.Net.{slot}
 use Rattle.cell.specs.declared.Mode.TheVariants.{Ported}
-use Rattle.cell.specs.Cell.{input, unary, not}
+use Rattle.cell.specs.Cell.{input, unary, inverter}
 use Rattle.cell.specs.Design.{Design, cell_in}
 use Rattle.right.specs.Valid.{Valid}
 use Rattle.design_list.specs.Read.{read, accepted}
@@ -18,7 +18,7 @@ example = record {
   mode = Ported;
   base = 2;
   added = 0;
-  cells = record { slot = 0; cell = input 1 } ∷ record { slot = 1; cell = unary not (slot 0 ∷ []) } ∷ [];
+  cells = record { slot = 0; cell = input 1 } ∷ record { slot = 1; cell = unary inverter (slot 0 ∷ []) } ∷ [];
   cell_reps = [];
   net_reps = record { from = slot 1; to = slot 0 } ∷ [];
 }
