@@ -1,4 +1,2 @@
--- Laws of a pass, and what the walks by hand share.
+-- Laws of a pass.
 pub mod Passes
-pub mod Others
-pub mod Local
