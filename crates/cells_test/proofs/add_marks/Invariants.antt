@@ -1,7 +1,5 @@
 -- `cells_test::add_marks` is safe and ends: the marks left fall. Assumes nothing.
-use borrow.Author.Rules.{rules}
 use Prim.Native.Nat.{◌-◌}
-use native.Mathlib.Omega.{arith}
 use Rattle.cells_test.proofs.add_marks.Given as goal
 
 abbrev pub invariant-loop-i : goal.invariant-loop-i

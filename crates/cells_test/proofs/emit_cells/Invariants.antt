@@ -1,7 +1,5 @@
 -- `cells_test::emit_cells` is safe and ends: the slices keep their lengths, and the turns left fall. Assumes nothing.
-use borrow.Author.Rules.{rules}
-use mathlib.Core.Path.{◌≡◌, refl, ◌∙◌}
-use native.Mathlib.Omega.{arith}
+use mathlib.Core.Path.{◌≡◌}
 use lib.ListN.{length}
 use Rattle.cells_test.proofs.emit_cells.Given as goal
 

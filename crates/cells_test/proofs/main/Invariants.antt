@@ -1,5 +1,4 @@
 -- `cells_test::main` is safe and ends: the turns left fall. Assumes nothing.
-use borrow.Author.Rules.{rules}
 use Rattle.cells_test.proofs.main.Given as goal
 
 abbrev pub invariant-loop-left : goal.invariant-loop-left

@@ -1,5 +1,5 @@
 -- `read_calls::digest` is safe and ends: the values left fall. Assumes nothing.
-use Rattle.std.proofs.Common.{◌-◌, length, arith, rules}
+use Rattle.std.proofs.Common.{◌-◌, length}
 use Rattle.read_calls.proofs.digest.Given as goal
 
 abbrev pub invariant-loop-at : goal.invariant-loop-at

@@ -1,5 +1,4 @@
 -- `read_calls::main` is safe and ends: the turns left fall. Assumes nothing.
-use Rattle.std.proofs.Common.{rules}
 use Rattle.read_calls.proofs.main.Given as goal
 
 abbrev pub invariant-loop-left : goal.invariant-loop-left

@@ -1,5 +1,5 @@
 -- `read_calls::show_values` is safe and ends: the values left to write fall. Assumes nothing.
-use Rattle.std.proofs.Common.{◌-◌, length, arith, rules}
+use Rattle.std.proofs.Common.{◌-◌, length}
 use Rattle.read_calls.proofs.show_values.Given as goal
 
 abbrev pub invariant-loop-at : goal.invariant-loop-at

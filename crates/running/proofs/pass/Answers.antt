@@ -1,8 +1,7 @@
 -- `running::pass` meets its contract: the walk does the steps of the list, and check asks the terms that it leaves
 -- first in the table. Assumes
 -- nothing.
-use borrow.Author.Rules.{rules}
-use Rattle.running.proofs.Passes.{least-count, passes}
+use Rattle.running.proofs.Passes.{passes}
 use Rattle.running.proofs.pass.Goals as goal
 
 pub returns : goal.returns

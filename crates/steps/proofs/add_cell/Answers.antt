@@ -1,6 +1,5 @@
 -- `steps::add_cell` meets its contract: an Input's nets are declared; of any other cell the claim is made and asserted.
 -- Assumes nothing.
-use borrow.Author.Rules.{rules}
 use mathlib.Core.Path.{sym, ◌∙◌}
 use Rattle.nets.specs.Reads.{past_in}
 use Rattle.steps.proofs.Inputs.{did-input, did-claim}

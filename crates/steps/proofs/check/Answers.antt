@@ -1,7 +1,6 @@
 -- `steps::check` meets its contract: with no obligation nothing is written; else the query, its assertion and the
 -- check. Assumes nothing.
 use mathlib.Core.Path.{refl}
-use borrow.Author.Rules.{rules}
 use Rattle.net_steps.proofs.Laws.{asks_nothing, asks-query}
 use Rattle.steps.proofs.check.Goals as goal
 

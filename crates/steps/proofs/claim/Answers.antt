@@ -1,5 +1,4 @@
 -- `steps::claim` meets its contract: its calls are those of the model, one after the other. Assumes nothing.
-use borrow.Author.Rules.{rules}
 use Rattle.builder.proofs.Laws.{ran_bind}
 use Rattle.order.specs.Verify.{claim}
 use Rattle.steps.proofs.claim.Goals as goal

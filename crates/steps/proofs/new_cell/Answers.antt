@@ -1,5 +1,4 @@
 -- `steps::new_cell` meets its contract: its calls are those of the model, one after the other. Assumes nothing.
-use borrow.Author.Rules.{rules}
 use Rattle.builder.proofs.Laws.{ran_bind}
 use Rattle.order.specs.Verify.{new_cell}
 use Rattle.net_steps.proofs.Laws.{did-obliged}

@@ -1,5 +1,4 @@
 -- `steps::query` meets its contract: its calls are those of the model, one after the other. Assumes nothing.
-use borrow.Author.Rules.{rules}
 use Rattle.builder.proofs.Laws.{ran_bind}
 use Rattle.order.specs.Verify.{query}
 use Rattle.steps.proofs.query.Goals as goal

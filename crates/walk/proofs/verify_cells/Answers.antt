@@ -1,15 +1,9 @@
 -- `walk::verify_cells` meets its contract: along the cells (`Along`), each turn does the steps of one cell, and after
 -- the last slot none is left. Assumes nothing.
-use borrow.Author.Rules.{rules}
-use mathlib.Core.Path.{◌≡◌, refl, ◌∙◌}
-use Prim.Native.Nat.{◌-◌, ◌%◌, ◌<◌, max}
+use mathlib.Core.Path.{refl, ◌∙◌}
+use Prim.Native.Nat.{◌-◌}
 use native.Mathlib.Omega.{arith}
-use lib.ListN.{length}
-use Rattle.cell.specs.declared.Mode.{Mode}
-use Rattle.cell.specs.Design.{Design, total}
-use Rattle.design_list.specs.Read.{read, accepted}
-use Rattle.slots.specs.Tells.{width_in, Tells}
-use Rattle.walk.proofs.Along.{Along, along_start, along_step, along_end}
+use Rattle.walk.proofs.Along.{along_start, along_step, along_end}
 use Rattle.walk.proofs.verify_cells.Goals as goal
 
 pub loop-index-init : goal.loop-index-init
@@ -17,8 +11,7 @@ loop-index-init c = (refl, refl, refl, refl, λ mode d accepts tells size. along
 
 pub loop-index-preserved : goal.loop-index-preserved
 loop-index-preserved c =
-    let inv = c.loop-index.invariant in
-    (
+    let inv = c.loop-index.invariant in (
       c.verify_cell-s.auto.calls ∙ inv.0,
       c.verify_cell-s.auto.names ∙ inv.1,
       c.verify_cell-s.auto.marks ∙ inv.2,

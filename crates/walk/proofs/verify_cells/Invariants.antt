@@ -1,15 +1,13 @@
 -- `walk::verify_cells` meets its contract: along the cells (`Along`), each turn does the steps of one cell, and after
 -- the last slot none is left. Assumes nothing.
-use borrow.Author.Rules.{rules}
-use mathlib.Core.Path.{◌≡◌, refl, ◌∙◌}
-use Prim.Native.Nat.{◌-◌, ◌%◌, ◌<◌, max}
-use native.Mathlib.Omega.{arith}
+use mathlib.Core.Path.{◌≡◌}
+use Prim.Native.Nat.{◌-◌}
 use lib.ListN.{length}
 use Rattle.cell.specs.declared.Mode.{Mode}
 use Rattle.cell.specs.Design.{Design, total}
 use Rattle.design_list.specs.Read.{read, accepted}
-use Rattle.slots.specs.Tells.{width_in, Tells}
-use Rattle.walk.proofs.Along.{Along, along_start, along_step, along_end}
+use Rattle.slots.specs.Tells.{Tells}
+use Rattle.walk.proofs.Along.{Along}
 use Rattle.walk.proofs.verify_cells.Given as goal
 
 abbrev pub invariant-loop-index : goal.invariant-loop-index

@@ -1,5 +1,4 @@
 -- `walk::work` meets its contract: the cells, then the net replacements. Assumes nothing.
-use borrow.Author.Rules.{rules}
 use Rattle.walk.proofs.Along.{works}
 use Rattle.walk.proofs.work.Goals as goal
 

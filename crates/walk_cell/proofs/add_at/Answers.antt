@@ -1,8 +1,6 @@
 -- `walk_cell::add_at` meets its contract: the cell is that of the part of the list after its head, and obliges nothing.
 -- Assumes nothing.
-use borrow.Author.Rules.{rules}
 use mathlib.Core.Path.{refl}
-use native.Mathlib.Omega.{arith}
 use Rattle.cell_reader.specs.Parse.{cell_at}
 use Rattle.nets.specs.Reads.{past_in}
 use Rattle.net_pairs.proofs.Does.{does_did}

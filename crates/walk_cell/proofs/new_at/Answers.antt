@@ -1,8 +1,6 @@
 -- `walk_cell::new_at` meets its contract: the cell is that of the part of the list after its head; one obligation, its
 -- term pushed. Assumes nothing.
-use borrow.Author.Rules.{rules}
 use mathlib.Core.Path.{refl}
-use native.Mathlib.Omega.{arith}
 use Rattle.net_pairs.specs.Does.{obliged_in}
 use Rattle.net_pairs.proofs.Does.{does_pushed}
 use Rattle.walk_cell.proofs.Cells.{fields_in_lem}

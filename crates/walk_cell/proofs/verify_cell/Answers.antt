@@ -1,15 +1,12 @@
 -- `walk_cell::verify_cell` meets its contract: no step at output width 0, else those of the cell, and of the new cell
 -- where the next replacement is its. Assumes nothing.
-use borrow.Author.Rules.{rules}
 use mathlib.Core.Path.{sym, ◌∙◌}
 use Prim.Native.Nat.{◌+◌}
-use native.Mathlib.Omega.{arith}
 use Rattle.cell_reader.specs.Parse.{cell_at}
 use Rattle.nets.specs.Reads.{past_in}
 use Rattle.slots.specs.Tells.{width_in}
 use Rattle.replaced_cells.specs.Cursor.{new_at}
-use Rattle.replaced_cells.proofs.CursorLaws.{next-inside}
-use Rattle.walk_cell.proofs.Steps.{does_skip, does_old, does_both}
+use Rattle.walk_cell.proofs.Steps.{does_skip, does_both}
 use Rattle.walk_cell.proofs.verify_cell.Goals as goal
 
 pub returns-then-width-eq0 : goal.returns-then-width-eq0

@@ -1,0 +1,10 @@
+-- `design::verify` meets its contract: a number that is no mode is refused, any other is the number of its mode.
+-- Assumes nothing.
+use mathlib.Core.Path.{sym, ◌∙◌}
+use Rattle.design.proofs.Verifies.{unknown_verifies}
+use Rattle.design.proofs.verify.Goals as goal
+
+pub returns-in-Unknown : goal.returns-in-Unknown
+returns-in-Unknown c =
+    rw c.no_mode.ensures
+    (unknown_verifies _ (sym c.mode_of.ensures ∙ c.in-Unknown.is) _ _ _)
