@@ -46,6 +46,7 @@ or-true false = refl
 
 is_declared : (calls : List Call) (name : Name) → IsDeclared calls name → declared calls name ≡ true
 unfolding any declared_names
+is_declared [] name m = elim m [ ]
 is_declared (c.term t ∷ calls) name m = is_declared calls name m
 is_declared (c.declare other w ∷ calls) name (Memᴰ.head e) =
     ap (λ (b : Bool). b || declared calls name) (subst (λ (n : Name).
