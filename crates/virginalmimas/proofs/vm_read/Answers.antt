@@ -4,7 +4,6 @@ use mathlib.Core.Path.{sym, ◌∙◌}
 use native.Mathlib.Omega.{arith}
 use Rattle.cell.specs.declared.Mode.TheVariants.{Ported}
 use Rattle.design_list.proofs.TableLaws.{table-low}
-use borrow.Author.Rules.{rules}
 use Rattle.virginalmimas.proofs.vm_read.Goals as goal
 
 pub overflow_add-result : goal.overflow_add-result

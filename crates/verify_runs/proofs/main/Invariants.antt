@@ -1,0 +1,9 @@
+-- `verify_runs::main` is safe and ends: the turns left fall. Assumes nothing.
+use borrow.Author.Rules.{rules}
+use Rattle.verify_runs.proofs.main.Given as goal
+
+abbrev pub invariant-loop-left : goal.invariant-loop-left
+invariant-loop-left l = Unit {0}
+
+abbrev pub decreases-loop-left : goal.decreases-loop-left
+decreases-loop-left l = l.left
