@@ -40,11 +40,13 @@ module _ (d : Design) (g : Trits) where
   -- What stands at the place of a broken one.
   broken-at : (l : List Obligation) (place : ℕ) → FirstFalse (map (λ o. not (broken d (whole d g) o)) l) place
       → (o : Obligation) × Memᴰ o l × (broken d (whole d g) o ≡ true)
+  broken-at [] place e = elim e [ ]
   broken-at (o ∷ l) zero e = (o, Memᴰ.head refl, not-false _ e)
   broken-at (o ∷ l) (suc place) e = let r = broken-at l place e.1 in (r.0, Memᴰ.tail r.1, r.2)
 
   not-all-kept : (l : List Obligation) (o : Obligation) → Memᴰ o l → broken d (whole d g) o ≡ true
       → all (map (λ o. not (broken d (whole d g) o)) l) ≡ false
+  not-all-kept [] o x'' e = elim x'' [ ]
   not-all-kept (p ∷ l) o (Memᴰ.head q) e = rw (← q, e)
   not-all-kept (p ∷ l) o (Memᴰ.tail m) e = rw (not-all-kept l o m e) (and-false (not (broken d (whole d g) p)))
 
@@ -60,6 +62,7 @@ module _ (d : Design) (g : Trits) where
 
   none-broken : (l : List Obligation) → Each (λ o. broken d (whole d g) o ≡ false) l
       → (o : Obligation) → Memᴰ o l → broken d (whole d g) o ≡ true → ⊥
+  none-broken [] keeps o x3 e = elim x3 [ ]
   none-broken (p ∷ l) keeps o (Memᴰ.head q) e = true≢false (sym e ∙ ap (broken d (whole d g)) q ∙ keeps.0)
   none-broken (p ∷ l) keeps o (Memᴰ.tail m) e = none-broken l keeps.1 o m e
 

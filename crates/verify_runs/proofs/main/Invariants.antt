@@ -1,5 +1,4 @@
 -- `verify_runs::main` is safe and ends: the turns left fall. Assumes nothing.
-use borrow.Author.Rules.{rules}
 use Rattle.verify_runs.proofs.main.Given as goal
 
 abbrev pub invariant-loop-left : goal.invariant-loop-left
