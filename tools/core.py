@@ -171,7 +171,7 @@ def query(calls):
 def refined(calls, term):
     """The terms of the x and y bits that an obligation's old net must refine to, None if they are not found.
 
-    Seven records in a row make the obligation (`tvRefines`), three words each but the first; the second reads x first,
+    Seven records in a row make the obligation (`tv_refines`), three words each but the first; the second reads x first,
     the fifth reads y last.
     """
     binary, content = 2 << 29 | 10 + 32 * 2, bytes(calls)

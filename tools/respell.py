@@ -6,7 +6,7 @@
 
 A word in lower camel case turns to snake case part by part, as `tvBinary-wp` to `tv_binary-wp`. In the name of a lemma a
 dash stays between two parts that are both names of definitions or of constructors; elsewhere an underscore takes its
-place, as in `what_unsat_says`. Types, modules, what the code names, and the names that the check makes for the goals of
+place, as in `two_nots_unsat`. Types, modules, what the code names, and the names that the check makes for the goals of
 a function keep their spelling. It was run once, when the repository was brought over from an older Rattle.
 """
 import collections
