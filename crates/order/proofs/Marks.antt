@@ -26,7 +26,7 @@ pub record MarkedBy (before marks : List ℕ) (rs : List NetRead) : Type 0 where
 after_append : (i m : ℕ) (rs qs : List NetRead) → mark_after i m (rs ++ qs) ≡ mark_after i (mark_after i m rs) qs
 unfolding mark_after
 after_append i m [] qs = refl
-after_append i m (r ∷ rs) qs = after_append i (cond (eqb r.slot i) (mark r.age) m) rs qs
+after_append i m (r ∷ rs) qs = after_append i (mark_after i m (r ∷ [])) rs qs
 
 marked_then : {before mid marks : List ℕ} (rs qs : List NetRead) → MarkedBy before mid rs → MarkedBy mid marks qs
     → MarkedBy before marks (rs ++ qs)
@@ -107,7 +107,7 @@ pub marked-read_of : (i m : ℕ) (rs : List NetRead) (a : Age) → mark_after i 
     → (m ≡ mark a) ⊎ ((h : Half) × Memᴰ (net_read a i h) rs)
 unfolding mark_after
 marked-read_of i m [] a e = inl e
-marked-read_of i m (r ∷ rs) a e = go (eqb r.slot i) refl (marked-read_of i (cond (eqb r.slot i) (mark r.age) m) rs a e)
+marked-read_of i m (r ∷ rs) a e = go (eqb r.slot i) refl (marked-read_of i (mark_after i m (r ∷ [])) rs a e)
   where
     go : (b : Bool) → eqb r.slot i ≡ b
         → (cond b (mark r.age) m ≡ mark a) ⊎ ((h : Half) × Memᴰ (net_read a i h) rs)
@@ -124,7 +124,7 @@ pub unmarked-unread : (i m : ℕ) (rs : List NetRead) → mark_after i m rs ≡ 
     → (m ≡ 0) × ((a : Age) (h : Half) → Memᴰ (net_read a i h) rs → ⊥)
 unfolding mark_after
 unmarked-unread i m [] e = (e, λ a h q. Memᴰ.not-nil q)
-unmarked-unread i m (r ∷ rs) e = go (eqb r.slot i) refl (unmarked-unread i (cond (eqb r.slot i) (mark r.age) m) rs e)
+unmarked-unread i m (r ∷ rs) e = go (eqb r.slot i) refl (unmarked-unread i (mark_after i m (r ∷ [])) rs e)
   where
     some-mark : (a : Age) → mark a ≡ 0 → ⊥
     some-mark curr z = omega arith
@@ -145,7 +145,7 @@ unmarked-unread i m (r ∷ rs) e = go (eqb r.slot i) refl (unmarked-unread i (co
 pub mark-low : (i m : ℕ) (rs : List NetRead) → m ≤ 2 → mark_after i m rs ≤ 2
 unfolding mark_after
 mark-low i m [] low = low
-mark-low i m (r ∷ rs) low = mark-low i (cond (eqb r.slot i) (mark r.age) m) rs (go (eqb r.slot i) r.age)
+mark-low i m (r ∷ rs) low = mark-low i (mark_after i m (r ∷ [])) rs (go (eqb r.slot i) r.age)
   where
     go : (b : Bool) (a : Age) → cond b (mark a) m ≤ 2
     go true curr = omega arith

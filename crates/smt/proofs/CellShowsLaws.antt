@@ -429,7 +429,7 @@ module _ (reads_past : ℕ → Bool) (b : NetBits) where
         (output-shows s width)
 
     clocked-shows : BitsShow width (clocked_bits reads_past b f (output_nets s width)) (r.clocked given)
-    clocked-shows = mux-shows (clock-shows f.clock) (loaded-shows f.reset_over_enable) (output-shows s width)
+    clocked-shows = mux-shows (clock-shows f.clock) (loaded-shows _) (output-shows s width)
 
     cleared-shows : (flag : Bool) {p : TritBits} {ts : List Trit} → BitsShow width p ts
         → BitsShow width (cleared_bits reads_past b flag f p) (cond flag (r.mux given.clear given.clear_value ts) ts)
