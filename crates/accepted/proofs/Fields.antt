@@ -8,6 +8,8 @@ use native.Mathlib.Decide.{dec_lt}
 use lib.ListN.{length, get_or}
 use lib.Dec.{ltb}
 use borrow.Author.Tests.{ltb-true}
+use Rattle.std.specs.Prelude.{Result, Ok, Err}
+use Rattle.logic.specs.declared.Fault.{Fault}
 use Rattle.logic.specs.Word.{kind_of}
 use Rattle.logic.specs.Net.{Net, constant, slot, net_of, driver_of_net}
 use Rattle.logic.specs.declared.Driver.TheVariants.{NoNet}
@@ -17,9 +19,6 @@ use Rattle.logic.specs.declared.Trit.{Trit}
 use Rattle.cell.specs.declared.Fields.{Fields}
 use Rattle.cell.specs.Each.{Each}
 use Rattle.right.specs.Nets.{Within}
-use Rattle.fields.specs.declared.Number.{Number}
-use Rattle.fields.specs.declared.Number.TheVariants as N
-use Rattle.fields.specs.declared.Scan.TheVariants as S
 use Rattle.fields.specs.Field.{on_number, known_driver, is_known, most_kind, number_at, net_at, constant_at, nets_at}
 use Rattle.fields.specs.Field.{constants_at, scan_many}
 use Rattle.fields.specs.Pattern.{alternate_at, pattern_at, patterns_at}
@@ -89,7 +88,7 @@ module _ (w : List ℕ) (total : ℕ) where
   most_kind_lem false = omega arith
 
   pub nets-read :
-      (may_invert : Bool) (end n at : ℕ) {next : ℕ} → nets_at w total may_invert end n at ≡ S.Clean next →
+      (may_invert : Bool) (end n at : ℕ) {next : ℕ} → nets_at w total may_invert end n at ≡ Ok next →
       (next ≡ at + n) × Named end at (at + n)
   nets-read may_invert end n at {next} read = (all.0, at_place)
     where
@@ -107,12 +106,12 @@ module _ (w : List ℕ) (total : ℕ) where
           record { inside = is.inside; kind = omega arith; known = is.known }
 
 module _ (w : List ℕ) (end : ℕ) where
-  pub constants-read : (n at : ℕ) {next : ℕ} → constants_at w end n at ≡ S.Clean next → next ≡ at + n
+  pub constants-read : (n at : ℕ) {next : ℕ} → constants_at w end n at ≡ Ok next → next ≡ at + n
   constants-read n at {next} read =
       (many_read (constant_at w end) (λ _. Unit {0}) (λ i next e. (constant-read w end i e, tt)) n at next read).0
 
   alternates_read :
-      (n a at : ℕ) {next : ℕ} → scan_many (alternate_at w n end) a at ≡ S.Clean next → next ≡ at + a * n
+      (n a at : ℕ) {next : ℕ} → scan_many (alternate_at w n end) a at ≡ Ok next → next ≡ at + a * n
   unfolding scan_many alternate_at
   alternates_read n zero at {next} read = let same : next ≡ at = cc in omega arith
   alternates_read n (suc a) at {next} read =
@@ -131,7 +130,7 @@ module _ (w : List ℕ) (end : ℕ) where
       omega arith
 
   pub patterns-read :
-      (n k at : ℕ) {next : ℕ} → patterns_at w n end k at ≡ S.Clean next →
+      (n k at : ℕ) {next : ℕ} → patterns_at w n end k at ≡ Ok next →
       (next ≡ at + sum_by pattern_words (patterns_in w n k at)) ×
       Each (λ (alternates : List (List Trit)). length alternates ≤ 64) (patterns_in w n k at)
   unfolding patterns_at pattern_at scan_many patterns_in sum_by
@@ -141,14 +140,14 @@ module _ (w : List ℕ) (end : ℕ) where
       go (number_at w 64 end at) refl both.first (patterns-read n k both.place both.second)
     where
       go :
-          (v : Number) → number_at w 64 end at ≡ v → {place : ℕ} →
-          on_number v S.Refused (scan_many (alternate_at w n end)) ≡ S.Clean place →
+          (v : Result (ℕ × ℕ) Fault) → number_at w 64 end at ≡ v → {place : ℕ} →
+          on_number v Err (scan_many (alternate_at w n end)) ≡ Ok place →
           (next ≡ place + sum_by pattern_words (patterns_in w n k place)) ×
           Each (λ (alternates : List (List Trit)). length alternates ≤ 64) (patterns_in w n k place) →
           (next ≡ at + sum_by pattern_words (patterns_in w n (suc k) at)) ×
           Each (λ (alternates : List (List Trit)). length alternates ≤ 64) (patterns_in w n (suc k) at)
-      go (N.Refused f) v e rest = let z : ◌≡◌ {A = ℕ} 0 1 = cc in absurd (omega arith)
-      go (N.Value a start) v {place} e rest =
+      go (Err f) v e rest = let z : ◌≡◌ {A = ℕ} 0 1 = cc in absurd (omega arith)
+      go (Ok (a, start)) v {place} e rest =
           let is = number_read w 64 end at v in
           let value : a ≡ number_in w at = is.value in
           let after : start ≡ at + 1 = is.after in

@@ -8,6 +8,7 @@ use native.Mathlib.Decide.{dec_lt}
 use lib.ListN.{length, get_or, replicate}
 use lib.Dec.{ltb}
 use borrow.Author.Tests.{lt-ltb, le-ltb, le-leb}
+use Rattle.std.specs.Prelude.{Ok}
 use Rattle.logic.specs.Net.{payload_of_net}
 use Rattle.cell.specs.declared.Mode.{Mode}
 use Rattle.cell.specs.Cell.{Cell, output_len, slots_of, standing, stands_void}
@@ -24,7 +25,6 @@ use Rattle.right.specs.Laid.{Run, CellLaid, Apart, MayReplace, Replaces, PairWit
 use Rattle.cell_reader.specs.Parse as Parse
 use Rattle.cell_reader.specs.Parse.{number_in, op_at, cell_at}
 use Rattle.cell_reader.specs.Accepted.{IsRecord}
-use Rattle.fields.specs.declared.Scan.TheVariants as S
 use Rattle.voids.specs.Voids.{voids_at}
 use Rattle.placing.specs.Slots as Slots
 use Rattle.placing.specs.Slots.{covering, nowhere, takes, at_slot}
@@ -190,7 +190,7 @@ pub record Stages (w : List ℕ) (d : Design) (replacements pairs last : ℕ) : 
   pub nets : Climb (IsPair w (total d)) (net_pair w) 0 pairs d.net_reps (length w)
   pub voids :
       voids_at w (Slots.is_void d.cells d.base) (length d.cells) (length d.cell_reps) (length d.net_reps)
-      ≡ S.Clean last
+      ≡ Ok last
 
 pub stages : {mode : Mode} {w : List ℕ} {d : Design} {r p : ℕ} (is : IsAccepted mode w d r p) →
     Stages w d r p is.last

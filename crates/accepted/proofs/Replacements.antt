@@ -1,5 +1,5 @@
 -- What a clean run of cell replacements or net replacements says of each, and of their order.
-use mathlib.Core.Path.{◌≡◌, refl, ap}
+use mathlib.Core.Path.{◌≡◌, refl, ap, sym}
 use mathlib.Core.Bool.{Bool, true, false, cond}
 use mathlib.Core.List.{List, [], ◌∷◌}
 use Prim.Native.Nat.{ℕ, zero, suc, ◌+◌, ◌-◌, ◌^◌, ◌≤◌}
@@ -7,31 +7,27 @@ use native.Mathlib.Omega.{arith}
 use lib.ListN.{length}
 use lib.Dec.{ltb, leb}
 use borrow.Author.Tests.{leb-true}
+use Rattle.std.specs.Prelude.{Result, Ok, Err}
+use Rattle.logic.specs.declared.Fault.{Fault}
 use Rattle.logic.specs.Net.{payload_of_net}
 use Rattle.logic.proofs.NetLaws.{payload_of_net_lem}
 use Rattle.cell.specs.declared.Operation.{Operation}
 use Rattle.cell.specs.Each.{Each}
 use Rattle.cell.proofs.EachLaws.{each_map}
 use Rattle.right.specs.Laid.{Ascending}
-use Rattle.fields.specs.declared.Number.{Number}
-use Rattle.fields.specs.declared.Number.TheVariants as N
-use Rattle.fields.specs.declared.Scan.{Scan}
-use Rattle.fields.specs.declared.Scan.TheVariants as S
-use Rattle.fields.specs.Field.{fault, on_number, on_scan, number_at, net_at}
+use Rattle.fields.specs.Field.{fault, on_number, on_read, number_at, net_at}
 use Rattle.fields.specs.Accepted.{IsNumber}
-use Rattle.fields.proofs.AcceptedLaws.{number_read, IsNet, net-read}
+use Rattle.fields.proofs.AcceptedLaws.{pair_parts, number_read, IsNet, net-read}
 use Rattle.cell_reader.specs.declared.Record.{Record}
-use Rattle.cell_reader.specs.declared.Record.TheVariants as R
 use Rattle.cell_reader.specs.Record.{on_record, record_at}
 use Rattle.cell_reader.specs.Parse.{number_in, net_in}
 use Rattle.cell_reader.specs.Accepted.{IsRecord}
 use Rattle.cell_reader.proofs.AcceptedLaws.{record_read}
-use Rattle.items.specs.Step.{Step, on_step}
-use Rattle.items.specs.Step as T
 use Rattle.items.specs.Items.{refuse, push, ascending, listed_number_at, listed_net_at, AtSlot, replaces}
 use Rattle.items.specs.Items.{replacement_at, pair_at}
 use Rattle.items.proofs.Laws.{IsReplaced, replaces-read}
 use Rattle.bound.specs.Costs.{sum_by}
+use Rattle.cell_reader.specs.Record.{cell_record}
 
 -- The items from a place on, up to the place `end`. R holds of what each is asked, its place, what it asks of the next,
 -- and the place after it.
@@ -48,25 +44,25 @@ module _ {A : Type 0} (R : ℕ → ℕ → ℕ → ℕ → Type 0) (item : ℕ �
     pub climb : Climb least at items end
 
   module _
-      (step : ℕ → ℕ → Step)
-      (one : (least at above next : ℕ) → step least at ≡ T.Read above next → R least at above next) where
+      (step : ℕ → ℕ → Result (ℕ × ℕ) Fault)
+      (one : (least at above next : ℕ) → step least at ≡ Ok (above, next) → R least at above next) where
     pub climb_read :
-        (k least at end : ℕ) → (ascending step item k least at).scan ≡ S.Clean end →
+        (k least at end : ℕ) → (ascending step item k least at).scan ≡ Ok end →
         IsRun k least at end (ascending step item k least at).items
     unfolding ascending
     climb_read zero least at end read = let ended : at ≡ end = cc in record { many = refl; climb = done ended }
     climb_read (suc k) least at end read = go (step least at) refl read (λ above next. climb_read k above next end)
       where
         go :
-            (s : Step) → step least at ≡ s →
-            (on_step s refuse (λ (above next : ℕ). push (item at) (ascending step item k above next))).scan
-            ≡ S.Clean end →
-            ((above next : ℕ) → (ascending step item k above next).scan ≡ S.Clean end →
+            (s : Result (ℕ × ℕ) Fault) → step least at ≡ s →
+            (on_number s refuse (λ (above next : ℕ). push (item at) (ascending step item k above next))).scan
+            ≡ Ok end →
+            ((above next : ℕ) → (ascending step item k above next).scan ≡ Ok end →
             IsRun k above next end (ascending step item k above next).items) →
             IsRun (suc k) least at end
-            (on_step s refuse (λ (above next : ℕ). push (item at) (ascending step item k above next))).items
-        go (T.Refused f) s e rest = let z : ◌≡◌ {A = ℕ} 0 1 = cc in absurd (omega arith)
-        go (T.Read above next) s e rest =
+            (on_number s refuse (λ (above next : ℕ). push (item at) (ascending step item k above next))).items
+        go (Err f) s e rest = let z : ◌≡◌ {A = ℕ} 0 1 = cc in absurd (omega arith)
+        go (Ok (above, next)) s e rest =
             let later = rest above next e in
             record { many = ap suc later.many; climb = taken (one least at above next s) later.climb }
 
@@ -100,25 +96,25 @@ module _ {A : Type 0} (R : ℕ → ℕ → ℕ → ℕ → Type 0) (item : ℕ �
       )
 
 listed-number :
-    (w : List ℕ) (at : ℕ) {n next : ℕ} → listed_number_at w at ≡ N.Value n next →
+    (w : List ℕ) (at : ℕ) {n next : ℕ} → listed_number_at w at ≡ Ok (n, next) →
     IsNumber w (2 ^ 29 - 1) (length w) at n next
 unfolding listed_number_at
 listed-number w at {n} {next} = go (ltb at (length w))
   where
     go :
-        (b : Bool) → cond b (number_at w (2 ^ 29 - 1) (length w) at) (N.Refused (fault 1 (length w))) ≡ N.Value n next →
+        (b : Bool) → cond b (number_at w (2 ^ 29 - 1) (length w) at) (Err (fault 1 (length w))) ≡ Ok (n, next) →
         IsNumber w (2 ^ 29 - 1) (length w) at n next
     go true e = number_read w _ _ at e
     go false e = let z : ◌≡◌ {A = ℕ} 0 1 = cc in absurd (omega arith)
 
 listed-net :
-    (w : List ℕ) (total at : ℕ) {next : ℕ} → listed_net_at w total at ≡ S.Clean next →
+    (w : List ℕ) (total at : ℕ) {next : ℕ} → listed_net_at w total at ≡ Ok next →
     (next ≡ at + 1) × IsNet w total false (length w) at
 unfolding listed_net_at
 listed-net w total at {next} = go (ltb at (length w))
   where
     go :
-        (b : Bool) → cond b (net_at w total false (length w) at) (S.Refused (fault 1 (length w))) ≡ S.Clean next →
+        (b : Bool) → cond b (net_at w total false (length w) at) (Err (fault 1 (length w))) ≡ Ok next →
         (next ≡ at + 1) × IsNet w total false (length w) at
     go true e = net-read w total false (length w) at e
     go false e = let z : ◌≡◌ {A = ℕ} 0 1 = cc in absurd (omega arith)
@@ -133,7 +129,7 @@ pub record IsReplacement (w : List ℕ) (total : ℕ) (stands : ℕ → AtSlot) 
 
 pub replacement-read :
     (w : List ℕ) (total : ℕ) (stands : ℕ → AtSlot) (base least at above next : ℕ) →
-    replacement_at w total (replaces stands base) least at ≡ T.Read above next →
+    replacement_at w total (replaces stands base) least at ≡ Ok (above, next) →
     IsReplacement w total stands base least at above next
 unfolding replacement_at
 replacement-read w total stands base least at above next read = slotted (listed_number_at w at) refl read
@@ -144,12 +140,13 @@ replacement-read w total stands base least at above next read = slotted (listed_
     right :
         (slot start : ℕ) → IsNumber w (2 ^ 29 - 1) (length w) at slot start → (op : Operation) (width after : ℕ) →
         IsRecord w total start op width after → (b : Bool) → replaces stands base least slot op width ≡ b →
-        cond b (T.Read (slot + 1) after) (T.Refused (fault 12 at)) ≡ T.Read above next → Goal
+        cond {A = Result (ℕ × ℕ) Fault} b (Ok (slot + 1, after)) (Err (fault 12 at)) ≡ Ok (above, next) → Goal
     right slot start is op width after new true b e =
         let value : slot ≡ number_in w at = is.value in
         let begins : start ≡ at + 1 = is.after in
-        let last : after ≡ next = cc in
-        let top : above ≡ slot + 1 = cc in
+        let parts = pair_parts e in
+        let last : after ≡ next = parts.1 in
+        let top : above ≡ slot + 1 = sym parts.0 in
         record {
           op = op;
           width = width;
@@ -160,24 +157,24 @@ replacement-read w total stands base least at above next read = slotted (listed_
     right slot start is op width after new false b e = let z : ◌≡◌ {A = ℕ} 0 1 = cc in absurd (omega arith)
 
     recorded :
-        (slot start : ℕ) → IsNumber w (2 ^ 29 - 1) (length w) at slot start → (r : Record) →
+        (slot start : ℕ) → IsNumber w (2 ^ 29 - 1) (length w) at slot start → (r : Result Record Fault) →
         record_at w total start ≡ r →
-        on_record r T.Refused (λ (op : Operation) (width after : ℕ).
-        cond (replaces stands base least slot op width) (T.Read (slot + 1) after) (T.Refused (fault 12 at)))
-        ≡ T.Read above next → Goal
-    recorded slot start is (R.Refused f) r e = let z : ◌≡◌ {A = ℕ} 0 1 = cc in absurd (omega arith)
-    recorded slot start is (R.Read op width after) r e =
-        right slot start is op width after (record_read w total start r) (replaces stands base least slot op width)
+        on_record r Err (λ (op : Operation) (width after : ℕ).
+        cond {A = Result (ℕ × ℕ) Fault} (replaces stands base least slot op width) (Ok (slot + 1, after)) (Err (fault 12 at)))
+        ≡ Ok (above, next) → Goal
+    recorded slot start is (Err f) r e = let z : ◌≡◌ {A = ℕ} 0 1 = cc in absurd (omega arith)
+    recorded slot start is (Ok x) r e =
+        right slot start is x.op x.width x.next (record_read w total start r) (replaces stands base least slot x.op x.width)
         refl e
 
     slotted :
-        (v : Number) → listed_number_at w at ≡ v →
-        on_number v T.Refused (λ (slot start : ℕ).
-        on_record (record_at w total start) T.Refused (λ (op : Operation) (width after : ℕ).
-        cond (replaces stands base least slot op width) (T.Read (slot + 1) after) (T.Refused (fault 12 at))))
-        ≡ T.Read above next → Goal
-    slotted (N.Refused f) v e = let z : ◌≡◌ {A = ℕ} 0 1 = cc in absurd (omega arith)
-    slotted (N.Value slot start) v e = recorded slot start (listed-number w at v) (record_at w total start) refl e
+        (v : Result (ℕ × ℕ) Fault) → listed_number_at w at ≡ v →
+        on_number v Err (λ (slot start : ℕ).
+        on_record (record_at w total start) Err (λ (op : Operation) (width after : ℕ).
+        cond {A = Result (ℕ × ℕ) Fault} (replaces stands base least slot op width) (Ok (slot + 1, after)) (Err (fault 12 at))))
+        ≡ Ok (above, next) → Goal
+    slotted (Err f) v e = let z : ◌≡◌ {A = ℕ} 0 1 = cc in absurd (omega arith)
+    slotted (Ok (slot, start)) v e = recorded slot start (listed-number w at v) (record_at w total start) refl e
 
 -- A net replacement that was read.
 pub record IsPair (w : List ℕ) (total least at above next : ℕ) : Type 0 where
@@ -188,7 +185,7 @@ pub record IsPair (w : List ℕ) (total least at above next : ℕ) : Type 0 wher
   pub after : next ≡ at + 2
 
 pub pair_read :
-    (w : List ℕ) (total least at above next : ℕ) → pair_at w total least at ≡ T.Read above next →
+    (w : List ℕ) (total least at above next : ℕ) → pair_at w total least at ≡ Ok (above, next) →
     IsPair w total least at above next
 unfolding pair_at
 pair_read w total least at above next read = first (listed_net_at w total at) refl read
@@ -199,34 +196,35 @@ pair_read w total least at above next read = first (listed_net_at w total at) re
     right :
         IsNet w total false (length w) at → IsNet w total false (length w) (at + 1) → (after : ℕ) → after ≡ at + 1 + 1 →
         (b : Bool) → leb least (number_in w at) ≡ b →
-        cond b (T.Read (number_in w at + 1) after) (T.Refused (fault 13 at)) ≡ T.Read above next → Goal
+        cond {A = Result (ℕ × ℕ) Fault} b (Ok (number_in w at + 1, after)) (Err (fault 13 at)) ≡ Ok (above, next) → Goal
     right from to after place false b e = let z : ◌≡◌ {A = ℕ} 0 1 = cc in absurd (omega arith)
     right from to after place true b e =
         let low : least ≤ number_in w at = leb-true _ _ b in
         let same : payload_of_net (net_in w at) ≡ number_in w at = payload_of_net_lem (number_in w at) in
-        let top : above ≡ number_in w at + 1 = cc in
-        let last : next ≡ after = cc in
+        let parts = pair_parts e in
+        let top : above ≡ number_in w at + 1 = sym parts.0 in
+        let last : next ≡ after = sym parts.1 in
         record { from_is = from; to_is = to; low = omega arith; up = omega arith; after = omega arith }
 
     second :
-        IsNet w total false (length w) at → (s : Scan) → listed_net_at w total (at + 1) ≡ s →
-        on_scan s T.Refused (λ (after : ℕ).
-        cond (leb least (number_in w at)) (T.Read (number_in w at + 1) after) (T.Refused (fault 13 at)))
-        ≡ T.Read above next →
+        IsNet w total false (length w) at → (s : Result ℕ Fault) → listed_net_at w total (at + 1) ≡ s →
+        on_read s Err (λ (after : ℕ).
+        cond {A = Result (ℕ × ℕ) Fault} (leb least (number_in w at)) (Ok (number_in w at + 1, after)) (Err (fault 13 at)))
+        ≡ Ok (above, next) →
         Goal
-    second from (S.Refused f) s e = let z : ◌≡◌ {A = ℕ} 0 1 = cc in absurd (omega arith)
-    second from (S.Clean after) s e =
+    second from (Err f) s e = let z : ◌≡◌ {A = ℕ} 0 1 = cc in absurd (omega arith)
+    second from (Ok after) s e =
         let is = listed-net w total (at + 1) s in right from is.1 after is.0 (leb least (number_in w at)) refl e
 
     first :
-        (s : Scan) → listed_net_at w total at ≡ s →
-        on_scan s T.Refused (λ (to : ℕ).
-        on_scan (listed_net_at w total to) T.Refused (λ (after : ℕ).
-        cond (leb least (number_in w at)) (T.Read (number_in w at + 1) after) (T.Refused (fault 13 at))))
-        ≡ T.Read above next →
+        (s : Result ℕ Fault) → listed_net_at w total at ≡ s →
+        on_read s Err (λ (to : ℕ).
+        on_read (listed_net_at w total to) Err (λ (after : ℕ).
+        cond {A = Result (ℕ × ℕ) Fault} (leb least (number_in w at)) (Ok (number_in w at + 1, after)) (Err (fault 13 at))))
+        ≡ Ok (above, next) →
         Goal
-    first (S.Refused f) s e = let z : ◌≡◌ {A = ℕ} 0 1 = cc in absurd (omega arith)
-    first (S.Clean to) s e =
+    first (Err f) s e = let z : ◌≡◌ {A = ℕ} 0 1 = cc in absurd (omega arith)
+    first (Ok to) s e =
         let is = listed-net w total at s in
         let place : to ≡ at + 1 = is.0 in
         second is.1 (listed_net_at w total (at + 1)) refl (rw place at e)

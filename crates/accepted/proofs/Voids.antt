@@ -6,6 +6,8 @@ use Prim.Native.Nat.{ℕ, ◌+◌, ◌-◌, ◌/◌, ◌≤◌, ◌<◌}
 use native.Mathlib.Omega.{arith}
 use lib.ListN.{length, get_or}
 use borrow.Author.Tests.{lt-ltb, le-leb, ne_eqb}
+use Rattle.std.specs.Prelude.{Result, Ok, Err}
+use Rattle.logic.specs.declared.Fault.{Fault}
 use Rattle.logic.specs.Word.{kind_of}
 use Rattle.logic.specs.Net.{Net, constant, slot, driver_of_net}
 use Rattle.logic.proofs.NetLaws.{driver_of_payload}
@@ -21,8 +23,6 @@ use Rattle.cell.proofs.EachLaws.{each_map}
 use Rattle.right.specs.Nets.{nets_of}
 use Rattle.right.specs.Voids.{nets_beside_clock, NoVoid, VoidsUnread}
 use Rattle.right.specs.Laid.{Run}
-use Rattle.fields.specs.declared.Scan.{Scan}
-use Rattle.fields.specs.declared.Scan.TheVariants as S
 use Rattle.fields.specs.Field.{fault, scan_many}
 use Rattle.fields.proofs.AcceptedLaws.{many_read, both_read}
 use Rattle.cell_reader.specs.Parse.{number_in, net_in, cell_in, op_at, end_at, cell_at}
@@ -31,8 +31,7 @@ use Rattle.placing.specs.Slots.{takes}
 use Rattle.placing.specs.Slots as Slots
 use Rattle.items.specs.Items.{AtSlot, new_cell}
 use Rattle.voids.specs.Voids.{void_driver, names_void, offends, void_at, clock_at, record_voids_at, replacement_voids_at}
-use Rattle.voids.specs.Voids.{pair_voids_at, item_voids_at, voids_at}
-use Rattle.voids.specs.declared.Item.TheVariants as I
+use Rattle.voids.specs.Voids.{pair_voids_at, voids_at}
 use Rattle.placing.specs.Cover as Cover
 use Rattle.placing.specs.Cover.{Walk, placed}
 use Rattle.design_list.specs.Read.{read, accepted}
@@ -67,19 +66,19 @@ module _ (w : List ℕ) (d : Design) (run : Run 0 d.cells (total d)) where
   Clean clock from to = (at : ℕ) → from ≤ at → at < to → offends w void clock at ≡ false
 
   void-read :
-      (clock at next : ℕ) → void_at w void clock at ≡ S.Clean next → (next ≡ at + 1) × (offends w void clock at ≡ false)
+      (clock at next : ℕ) → void_at w void clock at ≡ Ok next → (next ≡ at + 1) × (offends w void clock at ≡ false)
   unfolding void_at
   void-read clock at next = go (offends w void clock at) refl
     where
       go :
           (b : Bool) → offends w void clock at ≡ b →
-          cond b (S.Refused (fault 10 at)) (S.Clean (at + 1)) ≡ S.Clean next →
+          cond b (Err (fault 10 at)) (Ok (at + 1)) ≡ Ok next →
           (next ≡ at + 1) × (offends w void clock at ≡ false)
       go true b e = let z : ◌≡◌ {A = ℕ} 0 1 = cc in absurd (omega arith)
       go false b e = (cc, b)
 
   record_clean :
-      (at : ℕ) {next : ℕ} → at < length w → record_voids_at w void at ≡ S.Clean next →
+      (at : ℕ) {next : ℕ} → at < length w → record_voids_at w void at ≡ Ok next →
       (next ≡ end_at w at) × Clean (clock_at w at) (at + 1) (end_at w at)
   unfolding record_voids_at Clean
   record_clean at {next} inside clean =
@@ -156,7 +155,7 @@ module _ (w : List ℕ) (d : Design) (run : Run 0 d.cells (total d)) where
 
   record_avoids :
       {at : ℕ} {op : Operation} {width next after : ℕ} → IsRecord w (total d) at op width next →
-      record_voids_at w void at ≡ S.Clean after →
+      record_voids_at w void at ≡ Ok after →
       (after ≡ next) × Each (NoVoid d) (nets_beside_clock (cell_at w at))
   unfolding cell_at clock_at
   record_avoids {at} {op} {width} {next} is read =
@@ -176,7 +175,7 @@ module _ (w : List ℕ) (d : Design) (run : Run 0 d.cells (total d)) where
 
   walk_avoids :
       {base slot at end next : ℕ} {cells : List Placed} → Walk w base (total d) slot at cells end →
-      scan_many (item_voids_at w void I.Cell) (length cells) at ≡ S.Clean next → (next ≡ end) × Each Avoiding cells
+      scan_many (record_voids_at w void) (length cells) at ≡ Ok next → (next ≡ end) × Each Avoiding cells
   unfolding scan_many Avoiding
   walk_avoids {at = at} {next = next} (Cover.done full ended) read = let same : next ≡ at = cc in (omega arith, tt)
   walk_avoids (placed {at = at} inside is rest) read =
@@ -188,14 +187,14 @@ module _ (w : List ℕ) (d : Design) (run : Run 0 d.cells (total d)) where
   replacement_avoids :
       {stands : ℕ → AtSlot} {base : ℕ} (least at above next after : ℕ) →
       IsReplacement w (total d) stands base least at above next →
-      replacement_voids_at w void at ≡ S.Clean after → (after ≡ next) × Avoiding (new_cell w at)
+      replacement_voids_at w void at ≡ Ok after → (after ≡ next) × Avoiding (new_cell w at)
   unfolding replacement_voids_at Avoiding
   replacement_avoids least at above next after is read =
       let inside = is.record_is.inside in
       record_avoids is.record_is (rw (lt-ltb at (length w) (omega arith)) at read)
 
   pair_avoids :
-      (least at above next after : ℕ) → IsPair w (total d) least at above next → pair_voids_at w void at ≡ S.Clean after →
+      (least at above next after : ℕ) → IsPair w (total d) least at above next → pair_voids_at w void at ≡ Ok after →
       (after ≡ next) × NoVoid d (net_in w (at + 1))
   unfolding pair_voids_at
   pair_avoids least at above next after is read =
@@ -207,11 +206,11 @@ module _ (w : List ℕ) (d : Design) (run : Run 0 d.cells (total d)) where
 
 -- A run of replacements, visited once more: the visit of each ends where its reading did.
 climb_scan :
-    {A : Type 0} (R : ℕ → ℕ → ℕ → ℕ → Type 0) (item : ℕ → A) (visit : ℕ → Scan) (Q : A → Type 0) →
-    ((least at above next after : ℕ) → R least at above next → visit at ≡ S.Clean after → (after ≡ next) × Q (item at))
+    {A : Type 0} (R : ℕ → ℕ → ℕ → ℕ → Type 0) (item : ℕ → A) (visit : ℕ → Result ℕ Fault) (Q : A → Type 0) →
+    ((least at above next after : ℕ) → R least at above next → visit at ≡ Ok after → (after ≡ next) × Q (item at))
     →
     {least at : ℕ} {items : List A} {end next : ℕ} → Climb R item least at items end →
-    scan_many visit (length items) at ≡ S.Clean next →
+    scan_many visit (length items) at ≡ Ok next →
     (next ≡ end) × Each Q items
 unfolding scan_many
 climb_scan R item visit Q one {at = at} {next = next} (done ended) read = let same : next ≡ at = cc in (omega arith, tt)
@@ -229,10 +228,10 @@ accepted-voids mode w {d} {r} {p} e = pass (stages (accepted-read mode w e))
     pass : {last : ℕ} → Stages w d r p last → VoidsUnread d
     pass all =
         let run = walk-run all.walk in
-        let first = both_read (scan_many (item_voids_at w (void w d run) I.Cell) (length d.cells) 4) _ all.voids in
+        let first = both_read (scan_many (record_voids_at w (void w d run)) (length d.cells) 4) _ all.voids in
         let cells = walk_avoids w d run all.walk first.first in
         let second =
-        both_read (scan_many (item_voids_at w (void w d run) I.Replacement) (length d.cell_reps) r) _
+        both_read (scan_many (replacement_voids_at w (void w d run)) (length d.cell_reps) r) _
         (rw cells.0 at first.second) in
         let reps = climb_scan _ _ _ (Avoiding w d run) (replacement_avoids w d run) all.reps second.first in
         let pairs =

@@ -44,11 +44,9 @@ fn carry_x(
         term: carry,
         counts: c,
     };
-    let mut index: u32 = 0;
-    while index < n {
+    for index in 0..n {
         last = carry_one(calls, last.counts, a, b, index, last.term);
         logic::put(xs, index as usize, last.term.0);
-        index += 1;
     }
     logic::put(xs, n as usize, last.term.0);
     last.counts

@@ -55,8 +55,7 @@ fn position(
 {
     match mask {
         Trit::Undef => prd,
-        Trit::Zero => compared(fields, index, Trit::Zero, table, calls, names, marks, prd),
-        Trit::One => compared(fields, index, Trit::One, table, calls, names, marks, prd),
+        Trit::Zero | Trit::One => compared(fields, index, mask, table, calls, names, marks, prd),
     }
 }
 
@@ -78,11 +77,9 @@ fn product(
         calls.new names.new marks.new result }
 {
     let mut result = prd;
-    let mut index: u32 = 0;
-    while index < n {
+    for index in 0..n {
         let mask = operands::trit_at(fields, at as usize + index as usize);
         result = position(fields, index, mask, table, calls, names, marks, result);
-        index += 1;
     }
     result
 }
@@ -92,11 +89,7 @@ fn product(
 pub fn alternate_at(at: u32, i: u32, n: u32) -> u32
     ensures { result ≡ min (at + 1 + i * n) 4294967295 }
 {
-    let place = at as u64 + 1 + (i as u64) * (n as u64);
-    if place < 4294967296 {
-        return place as u32;
-    }
-    4294967295
+    (at as u64 + 1 + (i as u64) * (n as u64)).min(4294967295) as u32
 }
 
 // The sum over the alternates of the pattern at a place.
@@ -119,13 +112,11 @@ pub fn sum(
 {
     let alternates = logic::payload(logic::word_at(fields, at as usize));
     let mut sum = nets::trit_lit(calls, c, Trit::Zero);
-    let mut i: u32 = 0;
-    while i < alternates {
+    for i in 0..alternates {
         let place = alternate_at(at, i, n);
         let one = nets::trit_lit(calls, sum.counts, Trit::One);
         let prd = product(fields, place, n, table, calls, names, marks, one);
         sum = gates::tv_or(calls, prd.counts, sum.value, prd.value, 1);
-        i += 1;
     }
     sum
 }

@@ -2,6 +2,7 @@
 use mathlib.Core.Path.{◌≡◌, refl}
 use mathlib.Core.Bool.{Bool, true, false}
 use mathlib.Core.List.{List, [], ◌∷◌}
+use Rattle.std.specs.Prelude.{Some}
 use Prim.Native.Nat.{ℕ, suc, ◌+◌, ◌<◌, ◌≤◌}
 use native.Mathlib.Numerals.{add-one}
 use native.Mathlib.Omega.{arith}
@@ -9,7 +10,6 @@ use lib.Dec.{eqb}
 use lib.ListN.{length, drop, get_or, set, drop_of_length-le}
 use lib.Seq.{drop-cons}
 use Rattle.logic.specs.Trit.{shows, readback_number}
-use Rattle.logic.specs.declared.Readback.TheVariants.{Shown}
 use Rattle.logic.specs.declared.Fault.{Fault}
 use Rattle.engine.specs.Emit.{overwrite}
 use Rattle.text.proofs.Write.{overwrite-none, overwrite-more}
@@ -90,7 +90,7 @@ whole slot (mark ∷ marks) tokens {numbers} e =
 both : (rx : Result Bool) (ry : List Token → Result Bool) (numbers : Reader (List ℕ)) (bits : Reader (List Bool))
     (tabled : List Bool → List ℕ) →
     ((tokens : List Token) → numbers tokens ≡ on_got (bits tokens) (λ b. return (tabled b)))
-    → on_got (on_got rx (λ x t. on_got (ry t) (λ y. return (readback_number (Shown (shows x y))))))
+    → on_got (on_got rx (λ x t. on_got (ry t) (λ y. return (readback_number (Some (shows x y))))))
     (λ n t. on_got (numbers t) (λ ns. return (n ∷ ns)))
     ≡ on_got (on_got rx (λ x t. on_got (on_got (ry t) (λ y u. on_got (bits u) (λ b. return (y ∷ b)))) (λ b. return (x ∷ b))))
     (λ b. return (shown_first b tabled))
@@ -98,13 +98,13 @@ both (refused e) ry numbers bits tabled same = refl
 both (got x t) ry numbers bits tabled same = second (ry t)
   where
     last : (x y : Bool) (r : Result (List Bool))
-        → on_got (on_got r (λ b. return (tabled b))) (λ ns. return (readback_number (Shown (shows x y)) ∷ ns))
+        → on_got (on_got r (λ b. return (tabled b))) (λ ns. return (readback_number (Some (shows x y)) ∷ ns))
         ≡ on_got (on_got (on_got r (λ b. return (y ∷ b))) (λ b. return (x ∷ b))) (λ b. return (shown_first b tabled))
     last x y (got b u) = refl
     last x y (refused e) = refl
 
     second : (r : Result Bool)
-        → on_got (on_got r (λ y. return (readback_number (Shown (shows x y)))))
+        → on_got (on_got r (λ y. return (readback_number (Some (shows x y)))))
         (λ n t. on_got (numbers t) (λ ns. return (n ∷ ns)))
         ≡ on_got (on_got (on_got r (λ y u. on_got (bits u) (λ b. return (y ∷ b)))) (λ b. return (x ∷ b)))
         (λ b. return (shown_first b tabled))

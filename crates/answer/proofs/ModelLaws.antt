@@ -1,57 +1,51 @@
 -- Laws of the definitions of Model.
-use mathlib.Core.Path.{◌≡◌, refl, ◌∙◌}
-use mathlib.Core.Bool.{Bool, true, false}
+use mathlib.Core.Path.{◌≡◌, refl, ap, ◌∙◌}
+use mathlib.Core.Bool.{Bool, true, false, cond, not, ◌&&◌}
 use mathlib.Core.List.{List, [], ◌∷◌, ◌++◌}
-use Prim.Native.Nat.{ℕ, ◌+◌, ◌<◌, ◌≤◌}
+use Rattle.std.specs.Prelude.{Some, None}
+use Rattle.std.specs.List.{list_all, position_from}
+use lib.Dec.{ltb, eqb}
+use Prim.Native.Nat.{ℕ, suc, ◌<◌, ◌≤◌}
 use native.Mathlib.Numerals.{add-one}
 use native.Mathlib.Omega.{arith}
-use lib.ListN.{length, drop, get_or, drop_of_length-le}
-use lib.Seq.{drop-cons}
-use borrow.Author.Tests.{lt-ltb, le-ltb, eq-eqb, ne_eqb}
+use lib.ListN.{length, drop}
+use borrow.Author.Tests.{lt-ltb, le-ltb}
 use Rattle.logic.specs.declared.Fault.{Fault}
 use Rattle.engine.specs.Call.{Name}
 use Rattle.text.specs.Names.{asked_from, asked_names}
 use Rattle.engine.specs.Emit.{overwrite}
 use Rattle.text.proofs.Write.{overwrite-fits}
-use Rattle.answer.specs.declared.Mark.TheVariants.{Fine, Bad}
 use Rattle.tokens.specs.Token.{Token, tokens_of}
 use Rattle.reply.specs.Reply.{Result, Reader, Reply, got, refused, return}
 use Rattle.reply.specs.Reply.{on_got, pairs, expect, ended, model, refuse, reply}
 use Rattle.answer.specs.Reply.{table, bad_mark, reply_to, table_after, answer_of, Read}
 use Rattle.answer.specs.Entries.{entries, entries_written, forget, nothing}
-use Rattle.answer.proofs.EntriesLaws.{entries-table, whole}
+use Rattle.answer.proofs.EntriesLaws.{entries-table, whole, entries_turn, entries-fault, entries-done, put_turn}
+use Rattle.answer.proofs.EntriesLaws.{put_fault, put_done}
 use Rattle.answer.specs.Model.{listed}
 
-module _ (marks : List ℕ) (i : ℕ) (inside : i < length marks) where
-  pub mark-bad : 2 < get_or marks i 0 → bad_mark i (drop i marks) ≡ Bad i
-  unfolding bad_mark
-  mark-bad above = rw (drop-cons marks i 0 inside, lt-ltb _ _ above)
+-- The first bad mark is the first that a test finds.
+pub bad_mark_position : (slot : ℕ) (marks : List ℕ) → bad_mark slot marks ≡ position_from (ltb 2) slot marks
+unfolding bad_mark
+bad_mark_position slot [] = refl
+bad_mark_position slot (mark ∷ marks) =
+    rw (add-one slot) (ap (cond (ltb 2 mark) (Some slot)) (bad_mark_position (suc slot) marks))
 
-  pub mark_fine : get_or marks i 0 ≤ 2 → bad_mark i (drop i marks) ≡ bad_mark (i + 1) (drop (i + 1) marks)
-  unfolding bad_mark
-  mark_fine low = rw (drop-cons marks i 0 inside, le-ltb _ _ low, add-one i)
+-- Nothing is asked where each mark is neither 1 nor 2.
+abbrev pub unasked : ℕ → Bool
+unasked mark = not (eqb mark 1) && not (eqb mark 2)
 
-  pub asked-one : get_or marks i 0 ≡ 1 → nothing (asked_from i (drop i marks)) ≡ false
-  unfolding asked_from
-  asked-one e = rw (drop-cons marks i 0 inside, eq-eqb _ _ e)
-
-  pub asked_two : (get_or marks i 0 ≡ 1 → ⊥) → get_or marks i 0 ≡ 2 → nothing (asked_from i (drop i marks)) ≡ false
-  unfolding asked_from
-  asked_two other e = rw (drop-cons marks i 0 inside, ne_eqb _ _ other, eq-eqb _ _ e)
-
-  pub asked-none : (get_or marks i 0 ≡ 1 → ⊥) → (get_or marks i 0 ≡ 2 → ⊥)
-      → asked_from i (drop i marks) ≡ asked_from (i + 1) (drop (i + 1) marks)
-  unfolding asked_from
-  asked-none one two = rw (drop-cons marks i 0 inside, ne_eqb _ _ one, ne_eqb _ _ two, add-one i)
-
-module _ (marks : List ℕ) (i : ℕ) (past : length marks ≤ i) where
-  pub marks-done : bad_mark i (drop i marks) ≡ Fine
-  unfolding bad_mark
-  marks-done = rw (drop_of_length-le marks past)
-
-  pub asked-done : asked_from i (drop i marks) ≡ []
-  unfolding asked_from
-  asked-done = rw (drop_of_length-le marks past)
+pub nothing_all : (slot : ℕ) (marks : List ℕ) → nothing (asked_from slot marks) ≡ list_all unasked marks
+unfolding asked_from
+nothing_all slot [] = refl
+nothing_all slot (mark ∷ marks) = go (eqb mark 1) refl (eqb mark 2) refl (nothing_all (suc slot) marks)
+  where
+    go : (one : Bool) → eqb mark 1 ≡ one → (two : Bool) → eqb mark 2 ≡ two
+        → nothing (asked_from (suc slot) marks) ≡ list_all unasked marks
+        → nothing (asked_from slot (mark ∷ marks)) ≡ list_all unasked (mark ∷ marks)
+    go true e two f same = rw e
+    go false e true f same = rw (e, f)
+    go false e false f same = rw (e, f) same
 
 -- Reading in turn, taken together in either way.
 regroup : {A B C : Type 0} (r : Result A) (f : A → Reader B) (g : B → Reader C)
@@ -114,15 +108,15 @@ nothing-table marks tokens e = rw (entries-table 0 marks tokens, empty (asked_na
 
 -- Marks first, then room, then the text.
 module _ (text marks : List ℕ) (room : ℕ) where
-  pub reply-marks : {slot : ℕ} → bad_mark 0 marks ≡ Bad slot → reply_to text marks room ≡ refuse 2 slot
+  pub reply-marks : {slot : ℕ} → bad_mark 0 marks ≡ Some slot → reply_to text marks room ≡ refuse 2 slot
   unfolding reply_to
   reply-marks e = rw e
 
-  pub reply-room : bad_mark 0 marks ≡ Fine → room < length marks → reply_to text marks room ≡ refuse 15 (length marks)
+  pub reply-room : bad_mark 0 marks ≡ None → room < length marks → reply_to text marks room ≡ refuse 15 (length marks)
   unfolding reply_to
   reply-room e short = rw (e, lt-ltb _ _ short)
 
-  pub reply-text : bad_mark 0 marks ≡ Fine → length marks ≤ room → reply_to text marks room
+  pub reply-text : bad_mark 0 marks ≡ None → length marks ≤ room → reply_to text marks room
       ≡ reply (asked_names marks) (tokens_of text)
   unfolding reply_to
   reply-text e fits = rw (e, le-ltb _ _ fits)
@@ -144,3 +138,22 @@ table-written marks before tokens bits room e w =
     let all = whole 0 marks tokens e in
     let fits : length (table marks bits) ≤ length before = rw all.each room in
     w ∙ rw (all.all, overwrite-fits before (table marks bits) fits, all.each)
+
+-- What a step of the code goes by.
+pub ruleset steps = (
+  entries_turn,
+  entries-fault,
+  entries-done,
+  put_turn,
+  put_fault,
+  put_done,
+  model-none,
+  nothing-table,
+  scanned,
+  scanned_fault,
+  reply-marks,
+  reply-room,
+  reply-text,
+  read_as,
+  table-written,
+)

@@ -2,6 +2,7 @@
 use mathlib.Core.Path.{◌≡◌, refl, ap, ◌∙◌}
 use mathlib.Core.Bool.{Bool, true, false, ◌||◌}
 use mathlib.Core.List.{List, [], ◌∷◌, ◌++◌, append_assoc}
+use Rattle.std.specs.Prelude.{None, Ok}
 use Prim.Native.Nat.{ℕ, zero, suc, ◌+◌, ◌<◌, ◌≤◌, ◌%◌, ◌/◌}
 use native.Mathlib.Nat.{suc_inj}
 use native.Mathlib.Omega.{arith}
@@ -17,7 +18,6 @@ use Rattle.text.specs.Bytes.{ascii, decimal}
 use Rattle.text.proofs.BytesLaws.{decimal_digit, decimal-more}
 use Rattle.text.specs.Names.{name_text, letter_text, suffix_text, asked_names, asked_from}
 use Rattle.answer.specs.declared.Answer.TheVariants.{Sat}
-use Rattle.answer.specs.declared.Mark.TheVariants.{Fine}
 use Rattle.tokens.specs.Token.{tokens, tokens_of, run, white, parenthesis}
 use Rattle.reply.specs.Reply.{got, same, expect, expect_name, value, pair_spelled}
 use Rattle.reply.specs.Reply.{pair, pairs, model, ended, reply, sat, satisfied}
@@ -233,7 +233,7 @@ module _ (hidden : ℕ → Bool) where
   bits-table (current t f) slot = let b = trit-bits (hidden slot) t in rw (b.1, b.2, bits-table f (suc slot))
   bits-table (past t f) slot = let b = trit-bits (hidden slot) t in rw (b.1, b.2, bits-table f (suc slot))
 
-marks_fine : {marks entries : List ℕ} → Fits marks entries → (slot : ℕ) → bad_mark slot marks ≡ Fine
+marks_fine : {marks entries : List ℕ} → Fits marks entries → (slot : ℕ) → bad_mark slot marks ≡ None
 unfolding bad_mark
 marks_fine none slot = refl
 marks_fine (absent f) slot = marks_fine f (suc slot)
@@ -245,7 +245,7 @@ marks_fine (past t f) slot = marks_fine f (suc slot)
 pub reads_back : {marks entries : List ℕ} → Fits marks entries → (hidden : ℕ → Bool) (gap : List ℕ) → All white true gap
     → (before : List ℕ) → length marks ≤ length before
     → Read (printed gap (asked_names marks) (bits_of_table hidden 0 entries)) marks before
-    (entries ++ drop (length marks) before) Sat
+    (entries ++ drop (length marks) before) (Ok Sat)
 reads_back {marks} {entries} fits hidden gap blank before room =
     let bits = bits_of_table hidden 0 entries in
     let said = model-reads gap blank (asked_names marks) bits (bits-length hidden fits 0) in

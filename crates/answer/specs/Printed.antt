@@ -6,7 +6,6 @@ use Rattle.logic.specs.declared.Trit.{Trit}
 use Rattle.engine.specs.Call.{Name}
 use Rattle.text.specs.Bytes.{ascii}
 use Rattle.text.specs.Names.{name_text}
-use Rattle.answer.specs.Reply.{table}
 
 -- A table that fits recorded marks: 3 where the mark is 0, the number of a trit where it is 1 or 2.
 pub data Fits : List ℕ → List ℕ → Type 0 where

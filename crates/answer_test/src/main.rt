@@ -6,49 +6,44 @@
 ghost use Rattle.std.specs.Prelude.{◌≤◌, length};
 
 use answer::Answer;
+use logic::Fault;
 
 // The first place from `start` on where a byte stands, or the end.
 fn find(input: &[u8], start: usize, byte: u8) -> usize
     requires { start ≤ length input.now }
     ensures { (start ≤ result) × (result ≤ length input.now) }
 {
-    let mut at = start;
-    while at < input.len() {
+    for at in start..input.len() {
         if input[at] == byte {
             return at;
         }
-        at += 1;
     }
-    at
+    input.len()
 }
 
-fn print_entries(trits: &[u8], n: usize) {
-    let mut i = 0;
-    while i < n {
-        io::print_decimal(1, text::byte_at(trits, i) as u64);
-        i += 1;
+fn print_entries(trits: &[u8]) {
+    for entry in trits {
+        io::print_decimal(1, *entry as u64);
     }
 }
 
-fn print_answer(given: Answer, trits: &[u8], n: usize) {
+fn print_answer(given: Result<Answer, Fault>, trits: &[u8]) {
     match given {
-        Answer::Unsat => {
+        Ok(Answer::Unsat) => {
             io::write_all(1, b"unsat ");
-            print_entries(trits, n);
         }
-        Answer::Sat => {
+        Ok(Answer::Sat) => {
             io::write_all(1, b"sat ");
-            print_entries(trits, n);
         }
-        Answer::Refused(fault) => {
+        Err(fault) => {
             io::write_all(1, b"refused ");
             io::print_decimal(1, fault.number as u64);
             io::write_all(1, b" at ");
             io::print_decimal(1, fault.place as u64);
             io::write_all(1, b" ");
-            print_entries(trits, n);
         }
     }
+    print_entries(trits);
     io::write_all(1, b"\n");
 }
 
@@ -60,7 +55,7 @@ fn digit(byte: u8) -> u8 {
 fn read(text: &[u8], marks: &[u8]) {
     let mut trits = [9u8; 8];
     let given = answer::read_answer(text, marks, &mut trits);
-    print_answer(given, &trits, 8);
+    print_answer(given, &trits);
 }
 
 // A case whose marks end at a place.
@@ -68,13 +63,11 @@ fn case(input: &[u8], end: usize)
     requires { end ≤ length input.now }
 {
     let mut marks = [0u8; 16];
-    let mut n = 0;
-    while n < end {
-        text::set_byte(&mut marks, n, digit(text::byte_at(input, n)));
-        n += 1;
+    for (slot, byte) in input[..end].iter().enumerate() {
+        text::set_byte(&mut marks, slot, digit(*byte));
     }
-    if n <= 16 {
-        read(&input[end..], &marks[..n]);
+    if end <= 16 {
+        read(&input[end..], &marks[..end]);
     }
 }
 

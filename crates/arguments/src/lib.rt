@@ -14,27 +14,19 @@ use engine::Argument;
 pub fn number_at_most(word: u32, bound: u32) -> bool
     ensures { result ≡ (is_number word && leb (payload_of word) bound) }
 {
-    if logic::kind(word) == 3 {
-        logic::payload(word) <= bound
-    } else {
-        false
-    }
+    logic::kind(word) == 3 && logic::payload(word) <= bound
 }
 
 pub fn is_vector(sort: u32) -> bool
     ensures { result ≡ is_vector sort }
 {
-    if 1 <= sort { sort <= 64 } else { false }
+    1 <= sort && sort <= 64
 }
 
 pub fn is_width(word: u32) -> bool
     ensures { result ≡ is_width word }
 {
-    if logic::kind(word) == 3 {
-        is_vector(logic::payload(word))
-    } else {
-        false
-    }
+    logic::kind(word) == 3 && is_vector(logic::payload(word))
 }
 
 // Whether a literal has as many numbers as its width asks.
@@ -44,7 +36,7 @@ fn literal_count(n: u32, width: u32) -> bool
     if is_width(width) {
         n == 1 + (logic::payload(width) + 15) / 16
     } else {
-        if 2 <= n { n <= 5 } else { false }
+        2 <= n && n <= 5
     }
 }
 
@@ -173,28 +165,20 @@ fn digit_bound(width: u32, j: usize) -> u32
 fn is_digit(width: u32, j: usize, word: u32) -> bool
     ensures { result ≡ (is_number word && ltb (payload_of word) (2 ^ min 16 (payload_of width - 16 * j))) }
 {
-    if logic::kind(word) == 3 {
-        logic::payload(word) < digit_bound(logic::payload(width), j)
-    } else {
-        false
-    }
+    logic::kind(word) == 3 && logic::payload(word) < digit_bound(logic::payload(width), j)
 }
 
 // Sorts that two vectors can be joined at, and that has an index.
 fn joins(before: u32, sort: u32) -> bool
     ensures { result ≡ (leb 1 sort && leb (before + sort) 64) }
 {
-    if 1 <= sort {
-        before as u64 + sort as u64 <= 64
-    } else {
-        false
-    }
+    1 <= sort && before as u64 + sort as u64 <= 64
 }
 
 fn holds_index(high: u32, sort: u32) -> bool
     ensures { result ≡ (ltb high sort && leb sort 64) }
 {
-    if high < sort { sort <= 64 } else { false }
+    high < sort && sort <= 64
 }
 
 // Whether a word may stand as an argument after the record's first argument and the word before, with the sorts of the

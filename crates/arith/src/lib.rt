@@ -43,7 +43,7 @@ pub fn amount_times(calls: &mut [u32], c: Counts, width: u32, amount: TritVec, s
 fn highest(n: u32) -> u32
     ensures { result ≡ n - 1 }
 {
-    if 0 < n { n - 1 } else { 0 }
+    n.saturating_sub(1)
 }
 
 // A shift of a value of n bits, by the operations on its x and on its y.

@@ -21,7 +21,7 @@ use Rattle.name_table.specs.Names.{name_entry, by_search}
 use Rattle.name_table.specs.Named.{is_name, named, NamesTo}
 use Rattle.call_list.specs.Operations.{is_declare}
 use Rattle.pieces.specs.Shape.{name_of}
-use Rattle.asked.specs.declared.Mark.TheVariants.{Fine, Bad}
+use Rattle.std.specs.Prelude.{Some, None}
 use Rattle.asked.specs.Marks.{any, declares_name, all_declared, mark_stands, bad_mark, low_number, declared_by, pair_by}
 use Rattle.asked.specs.Marks.{stands_by, bad_by}
 
@@ -87,11 +87,11 @@ module _ (calls : List Call) (marks : List ℕ) (i : ℕ) where
   unfolding bad_mark
   mark_fine inside e = rw (drop-cons marks i 0 inside, e, add-one i)
 
-  pub mark-bad : i < length marks → mark_stands calls i (get_or marks i 0) ≡ false → bad_mark calls i (drop i marks) ≡ Bad i
+  pub mark-bad : i < length marks → mark_stands calls i (get_or marks i 0) ≡ false → bad_mark calls i (drop i marks) ≡ Some i
   unfolding bad_mark
   mark-bad inside e = rw (drop-cons marks i 0 inside, e)
 
-  pub marks-done : length marks ≤ i → bad_mark calls i (drop i marks) ≡ Fine
+  pub marks-done : length marks ≤ i → bad_mark calls i (drop i marks) ≡ None
   unfolding bad_mark
   marks-done past = rw (drop_of_length-le marks past)
 
@@ -101,11 +101,11 @@ module _ (stands : ℕ → ℕ → Bool) (marks : List ℕ) (i : ℕ) where
   unfolding bad_by
   by_fine inside e = rw (drop-cons marks i 0 inside, e, add-one i)
 
-  pub by_bad : i < length marks → stands i (get_or marks i 0) ≡ false → bad_by stands i (drop i marks) ≡ Bad i
+  pub by_bad : i < length marks → stands i (get_or marks i 0) ≡ false → bad_by stands i (drop i marks) ≡ Some i
   unfolding bad_by
   by_bad inside e = rw (drop-cons marks i 0 inside, e)
 
-  pub by_done : length marks ≤ i → bad_by stands i (drop i marks) ≡ Fine
+  pub by_done : length marks ≤ i → bad_by stands i (drop i marks) ≡ None
   unfolding bad_by
   by_done past = rw (drop_of_length-le marks past)
 

@@ -1,13 +1,11 @@
 -- Document 01, fault 2 in the writer: a recorded mark above 2, or one whose names the calls do not declare.
-use Rattle.std.specs.Prelude.{Bool, true, false, cond, ◌&&◌, ◌||◌, List, [], ◌∷◌, ℕ, suc, eqb, ltb}
+use Rattle.std.specs.Prelude.{Bool, true, false, cond, ◌&&◌, ◌||◌, List, [], ◌∷◌, ℕ, suc, eqb, ltb, Option, Some, None}
 use Rattle.engine.specs.Call.{Name, Call}
 use Rattle.engine.specs.Call as c
 use Rattle.engine.specs.Encode.{letter_number, suffix_number}
 use Rattle.text.specs.Names.{names_of_mark}
 use Rattle.name_table.specs.Names.{name_entry, by_search}
 use Rattle.name_table.specs.Named.{is_name}
-use Rattle.asked.specs.declared.Mark.{Mark}
-use Rattle.asked.specs.declared.Mark.TheVariants.{Fine, Bad}
 
 -- Whether some call of a list is of a kind.
 unfoldable pub any : (Call → Bool) → List Call → Bool
@@ -33,9 +31,9 @@ abbrev pub mark_stands : List Call → ℕ → ℕ → Bool
 mark_stands calls slot mark = cond (ltb 2 mark) false (all_declared calls (names_of_mark slot mark))
 
 -- The first mark that does not stand; the first mark is the slot's.
-unfoldable pub bad_mark : List Call → ℕ → List ℕ → Mark
-bad_mark calls slot [] = Fine
-bad_mark calls slot (mark ∷ marks) = cond (mark_stands calls slot mark) (bad_mark calls (suc slot) marks) (Bad slot)
+unfoldable pub bad_mark : List Call → ℕ → List ℕ → Option ℕ
+bad_mark calls slot [] = None
+bad_mark calls slot (mark ∷ marks) = cond (mark_stands calls slot mark) (bad_mark calls (suc slot) marks) (Some slot)
 
 -- The number of a letter or a suffix, as a word has it.
 abbrev pub low_number : ℕ → ℕ
@@ -57,6 +55,6 @@ stands_by declares slot mark =
     cond (eqb mark 1) (pair_by declares 0 slot) (cond (eqb mark 2) (pair_by declares 1 slot) (eqb mark 0))
 
 -- The first mark of which a test fails.
-unfoldable pub bad_by : (ℕ → ℕ → Bool) → ℕ → List ℕ → Mark
-bad_by stands slot [] = Fine
-bad_by stands slot (mark ∷ marks) = cond (stands slot mark) (bad_by stands (suc slot) marks) (Bad slot)
+unfoldable pub bad_by : (ℕ → ℕ → Bool) → ℕ → List ℕ → Option ℕ
+bad_by stands slot [] = None
+bad_by stands slot (mark ∷ marks) = cond (stands slot mark) (bad_by stands (suc slot) marks) (Some slot)

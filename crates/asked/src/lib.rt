@@ -15,23 +15,14 @@ ghost use Rattle.asked.specs.Marks.{any, low_number, declares_name, declared_by,
 
 use pieces::Line;
 
-// The first recorded mark that does not stand, if there is one.
-#[derive(Clone, Copy)]
-pub enum Mark {
-    Fine,
-    Bad(usize),
-}
-
 // Whether the record at a place is a check.
 fn checks_here(calls: &[u32], head: usize) -> bool
     ensures { result ≡ checks (call_at calls.now head) }
 {
-    match pieces::line_of(call_list::operation_at(calls, head)) {
-        Line::Define => false,
-        Line::Declare => false,
-        Line::Assert => false,
-        Line::Check => true,
-    }
+    matches!(
+        pieces::line_of(call_list::operation_at(calls, head)),
+        Line::Check
+    )
 }
 
 // Whether a call list has a check.
@@ -79,13 +70,11 @@ fn put_mark_names(text: &mut [u8], at: usize, slot: usize, mark: u8) -> usize
     ensures { Wrote text.old at
         (spaced (map name_text (names_of_mark slot mark))) text.new result }
 {
-    if mark == 1 {
-        return put_spaced_pair(text, at, b'n', slot);
+    match mark {
+        1 => put_spaced_pair(text, at, b'n', slot),
+        2 => put_spaced_pair(text, at, b'p', slot),
+        _ => at,
     }
-    if mark == 2 {
-        return put_spaced_pair(text, at, b'p', slot);
-    }
-    at
 }
 
 // Writes the names that the marks from a slot on ask for, each after a space.
@@ -93,10 +82,8 @@ fn put_names(text: &mut [u8], start: usize, recorded: &[u8], first: usize) -> us
     ensures { Wrote text.old start (names_from recorded.now first) text.new result }
 {
     let mut at = start;
-    let mut slot = first;
-    while slot < recorded.len() {
+    for slot in first..recorded.len() {
         at = put_mark_names(text, at, slot, recorded[slot]);
-        slot += 1;
     }
     at
 }
@@ -105,18 +92,12 @@ fn put_names(text: &mut [u8], start: usize, recorded: &[u8], first: usize) -> us
 fn first_asked(recorded: &[u8]) -> usize
     ensures { FirstAsked recorded.now result }
 {
-    let mut slot = 0;
-    while slot < recorded.len() {
-        let mark = recorded[slot];
-        if mark == 1 {
+    for (slot, mark) in recorded.iter().enumerate() {
+        if *mark == 1 || *mark == 2 {
             return slot;
         }
-        if mark == 2 {
-            return slot;
-        }
-        slot += 1;
     }
-    slot
+    recorded.len()
 }
 
 // Writes the line that asks for values, from the first slot that is asked for.
@@ -162,29 +143,21 @@ pub fn put_ending(text: &mut [u8], at: usize, calls: &[u32], recorded: &[u8]) ->
 fn low_number(number: u32) -> u32
     ensures { result ≡ low_number number }
 {
-    if number == 1 {
-        return 1;
+    match number {
+        1 => 1,
+        2 => 2,
+        _ => 0,
     }
-    if number == 2 {
-        return 2;
-    }
-    0
 }
 
 // Whether the record at a place declares a name, by the numbers of its letter and suffix.
 fn declares_here(calls: &[u32], head: usize, letter: u32, index: usize, suffix: u32) -> bool
     ensures { result ≡ declares_name letter index suffix (call_at calls.now head) }
 {
-    if !call_list::is_declare(call_list::operation_at(calls, head)) {
-        return false;
-    }
-    if letter != low_number(call_list::argument_at(calls, head, 0)) {
-        return false;
-    }
-    if index != call_list::argument_at(calls, head, 1) as usize {
-        return false;
-    }
-    suffix == low_number(call_list::argument_at(calls, head, 2))
+    call_list::is_declare(call_list::operation_at(calls, head))
+        && letter == low_number(call_list::argument_at(calls, head, 0))
+        && index == call_list::argument_at(calls, head, 1) as usize
+        && suffix == low_number(call_list::argument_at(calls, head, 2))
 }
 
 // Whether a call list declares a name, by its records.
@@ -207,44 +180,39 @@ fn is_known(calls: &[u32], names: &[u8], letter: u32, index: usize, suffix: u32)
 {
     let noted = name_table::name_entry(names, letter, index, suffix);
     if noted == 2 {
-        return is_declared(calls, letter, index, suffix);
+        is_declared(calls, letter, index, suffix)
+    } else {
+        noted == 1
     }
-    noted == 1
 }
 
 // Whether a call list declares both names of a slot.
 fn is_pair_declared(calls: &[u32], names: &[u8], letter: u32, slot: usize) -> bool
     ensures { result ≡ pair_by (declared_by names.now (decode calls.now)) letter slot }
 {
-    if is_known(calls, names, letter, slot, 1) {
-        return is_known(calls, names, letter, slot, 2);
-    }
-    false
+    is_known(calls, names, letter, slot, 1) && is_known(calls, names, letter, slot, 2)
 }
 
 // Whether a mark is none, or asks for names that the calls declare.
 fn mark_stands(calls: &[u32], names: &[u8], slot: usize, mark: u8) -> bool
     ensures { result ≡ stands_by (declared_by names.now (decode calls.now)) slot mark }
 {
-    if mark == 1 {
-        return is_pair_declared(calls, names, 0, slot);
+    match mark {
+        0 => true,
+        1 => is_pair_declared(calls, names, 0, slot),
+        2 => is_pair_declared(calls, names, 1, slot),
+        _ => false,
     }
-    if mark == 2 {
-        return is_pair_declared(calls, names, 1, slot);
-    }
-    mark == 0
 }
 
 // The first mark that does not stand, with a table of the names that the calls declare.
-pub fn bad_mark(calls: &[u32], names: &[u8], recorded: &[u8]) -> Mark
+pub fn bad_mark(calls: &[u32], names: &[u8], recorded: &[u8]) -> Option<usize>
     ensures { result ≡ bad_by (stands_by (declared_by names.now (decode calls.now))) 0 recorded.now }
 {
-    let mut slot = 0;
-    while slot < recorded.len() {
-        if !mark_stands(calls, names, slot, recorded[slot]) {
-            return Mark::Bad(slot);
+    for (slot, mark) in recorded.iter().enumerate() {
+        if !mark_stands(calls, names, slot, *mark) {
+            return Some(slot);
         }
-        slot += 1;
     }
-    Mark::Fine
+    None
 }

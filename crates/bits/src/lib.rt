@@ -61,9 +61,10 @@ pub fn bv_bind(calls: &mut [u32], c: Counts, value: Term, width: u32) -> Built
     let temp = declare_temporary(calls, c, Suffix::None, width);
     let next = next_temporary(temp.counts);
     let equal = assert_eq(calls, next, temp.term, value);
-    let term = temp.term;
-    let counts = equal.counts;
-    Built { term, counts }
+    Built {
+        term: temp.term,
+        counts: equal.counts,
+    }
 }
 
 pub fn bv_is_zero(calls: &mut [u32], c: Counts, value: Term, width: u32) -> Built

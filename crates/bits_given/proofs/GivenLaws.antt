@@ -2,7 +2,7 @@
 use mathlib.Core.Path.{◌≡◌, refl, ap, ◌∙◌}
 use mathlib.Core.Bool.{Bool, true, false, not, cond, true≢false}
 use mathlib.Core.List.{List, ◌∷◌}
-use mathlib.Core.Option.{Option, some, none}
+use Rattle.std.specs.Prelude.{Option, Some, None}
 use Prim.Native.Nat.{ℕ, suc, ◌+◌, ◌-◌, ◌^◌, ◌≤◌, ◌<◌}
 use native.Mathlib.Nat.{add-zero}
 use native.Mathlib.Numerals.{add-one}
@@ -25,13 +25,13 @@ use Rattle.bits_given.specs.Given.{bits_fault, bits_wrong, wrong_bits}
 
 declare-fault : (k : ℕ) (n : Name) (w : ℕ) (cs : List Call) (l : List ℕ) (d : ℕ)
     → bits_fault k (c.declare n w ∷ cs) (drop d l)
-    ≡ cond (bits_wrong l d w) (some k) (bits_fault (suc k) cs (drop (suc d) l))
+    ≡ cond (bits_wrong l d w) (Some k) (bits_fault (suc k) cs (drop (suc d) l))
 unfolding bits_fault
 declare-fault k n w cs l d = go (ltb d (length l)) refl (ltb (get_or l d 0) (2 ^ w)) refl
   where
     go : (a : Bool) → ltb d (length l) ≡ a → (b : Bool) → ltb (get_or l d 0) (2 ^ w) ≡ b
         → bits_fault k (c.declare n w ∷ cs) (drop d l)
-        ≡ cond (cond a (not b) true) (some k) (bits_fault (suc k) cs (drop (suc d) l))
+        ≡ cond (cond a (not b) true) (Some k) (bits_fault (suc k) cs (drop (suc d) l))
     go true p true q = rw (drop-cons l d 0 (ltb-true d (length l) p), q)
     go true p false q = rw (drop-cons l d 0 (ltb-true d (length l) p), q)
     go false p b q = rw (drop_of_length-le l (ltb-false d (length l) p))
@@ -42,7 +42,7 @@ name_of p = record { letter = get_or o.letters (p 0) c.n; index = p 1; suffix = 
 
 fault-op : (op : Op) (m : ℕ) (p : ℕ → ℕ) (cs : List Call) (l : List ℕ) (k d : ℕ)
     → bits_fault k (call_of op m p ∷ cs) (drop d l)
-    ≡ cond (cond (is_declare op) (bits_wrong l d (p 3)) false) (some k)
+    ≡ cond (cond (is_declare op) (bits_wrong l d (p 3)) false) (Some k)
     (bits_fault (k + bit (makes_term op)) cs (drop (d + bit (is_declare op)) l))
 unfolding bits_fault
 fault-op (o.term op) m p cs l k d = rw (add-one k, add-zero d)
@@ -54,7 +54,7 @@ fault-op o.unknown m p cs l k d = rw (add-zero k, add-zero d)
 module _ (w bits : List ℕ) (at terms declared : ℕ) (inside : at < length w) where
   -- At a record, the fault of the bits is there, or what remains says it.
   pub fault-step : (n : ℕ) → bits_fault terms (calls_from (suc n) w at) (drop declared bits)
-      ≡ cond (wrong_bits w bits declared at) (some terms)
+      ≡ cond (wrong_bits w bits declared at) (Some terms)
       (bits_fault (terms + bit (makes_term (operation_at w at))) (calls_from n w (next_at bare w at))
       (drop (declared + bit (is_declare (operation_at w at))) bits))
   fault-step n =
@@ -64,7 +64,7 @@ module _ (w bits : List ℕ) (at terms declared : ℕ) (inside : at < length w) 
 
   -- The same, where as many records may be read as words are left.
   fault_turn : bits_fault terms (calls_from (length w - at) w at) (drop declared bits)
-      ≡ cond (wrong_bits w bits declared at) (some terms)
+      ≡ cond (wrong_bits w bits declared at) (Some terms)
       (bits_fault (terms + bit (makes_term (operation_at w at)))
       (calls_from (length w - next_at bare w at) w (next_at bare w at))
       (drop (declared + bit (is_declare (operation_at w at))) bits))
@@ -94,7 +94,7 @@ bits-start w bits = record {
 
 module _ {w bits : List ℕ} {done : Cursor} (k : BitsTo w bits done) where
   pub bits-here : done.at < length w → wrong_bits w bits done.declared done.at ≡ true
-      → bits_fault 0 (decode w) bits ≡ some done.terms
+      → bits_fault 0 (decode w) bits ≡ Some done.terms
   bits-here inside wrong = k.left ∙ fault_turn w bits done.at done.terms done.declared inside ∙ rw wrong
 
   pub bits-next : done.at < length w → wrong_bits w bits done.declared done.at ≡ false
@@ -105,12 +105,12 @@ module _ {w bits : List ℕ} {done : Cursor} (k : BitsTo w bits done) where
     left = k.left ∙ fault_turn w bits done.at done.terms done.declared inside ∙ rw right;
   }
 
-  pub bits-end : length w ≤ done.at → bits_fault 0 (decode w) bits ≡ none
+  pub bits-end : length w ≤ done.at → bits_fault 0 (decode w) bits ≡ None
   unfolding bits_fault
   bits-end past = k.left ∙ rw (calls-end (length w - done.at) w done.at past)
 
 -- The bits fit where no fault of them is found.
-pub no_fault : (b : Bool) (k : ℕ) (later : Option ℕ) → cond b (some k) later ≡ none → (b ≡ false) × (later ≡ none)
+pub no_fault : (b : Bool) (k : ℕ) (later : Option ℕ) → cond b (Some k) later ≡ None → (b ≡ false) × (later ≡ None)
 no_fault true k later e = let z : ◌≡◌ {A = ℕ} 0 1 = cc in absurd (omega arith)
 no_fault false k later e = (refl, e)
 

@@ -1,6 +1,5 @@
 -- Document 01, fault 20 of the bits that the declared names are given, in the order of their declarations.
-use Rattle.std.specs.Prelude.{Bool, true, false, not, cond, List, [], ◌∷◌, ℕ, suc, ◌^◌, length, get_or, ltb}
-use Rattle.std.proofs.Math.Option.{Option, some, none}
+use Rattle.std.specs.Prelude.{Bool, true, false, not, cond, List, [], ◌∷◌, ℕ, suc, ◌^◌, length, get_or, ltb, Option, Some, None}
 use Rattle.engine.specs.Call.{Call}
 use Rattle.engine.specs.Call as c
 use Rattle.engine.specs.Encode.{operation_at}
@@ -9,10 +8,10 @@ use Rattle.call_list.specs.Literal.{payloads}
 
 -- The term number of the first declaration whose bits are missing or above its width.
 unfoldable pub bits_fault : ℕ → List Call → List ℕ → Option ℕ
-bits_fault k [] given = none
+bits_fault k [] given = None
 bits_fault k (c.term t ∷ cs) given = bits_fault (suc k) cs given
-bits_fault k (c.declare n w ∷ cs) [] = some k
-bits_fault k (c.declare n w ∷ cs) (b ∷ given) = cond (ltb b (2 ^ w)) (bits_fault (suc k) cs given) (some k)
+bits_fault k (c.declare n w ∷ cs) [] = Some k
+bits_fault k (c.declare n w ∷ cs) (b ∷ given) = cond (ltb b (2 ^ w)) (bits_fault (suc k) cs given) (Some k)
 bits_fault k (c.assert a ∷ cs) given = bits_fault k cs given
 bits_fault k (c.check ∷ cs) given = bits_fault k cs given
 

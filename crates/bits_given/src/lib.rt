@@ -3,42 +3,29 @@
 
 ghost use Rattle.std.specs.Prelude.{◌≡◌, ◌^◌, ltb};
 ghost use Rattle.engine.specs.Encode.{decode};
-ghost use Rattle.record_faults.specs.Faults.{wrong_as};
 ghost use Rattle.bits_given.specs.Given.{bits_fault, wrong_bits};
 
 use call_list::Cursor;
-use record_faults::Wrong;
 
 // Whether a number fits a width.
 fn fits_width(number: u64, width: u32) -> bool
     ensures { result ≡ ltb number (2 ^ width) }
 {
-    if width < 64 {
-        number < 1 << width
-    } else {
-        true
-    }
+    64 <= width || number < 1 << width
 }
 
 // Whether the record at a place declares a name whose bits are missing or above its width.
 fn wrong_bits(calls: &[u32], bits: &[u64], declared: usize, at: usize) -> bool
     ensures { result ≡ wrong_bits calls.now bits.now declared at }
 {
-    if call_list::is_declare(call_list::operation_at(calls, at)) {
-        if declared < bits.len() {
-            if fits_width(bits[declared], call_list::argument_at(calls, at, 3)) {
-                return false;
-            }
-            return true;
-        }
-        return true;
-    }
-    false
+    call_list::is_declare(call_list::operation_at(calls, at))
+        && !(declared < bits.len()
+            && fits_width(bits[declared], call_list::argument_at(calls, at, 3)))
 }
 
 // The term number of the first declaration whose bits are missing or above its width (fault 20).
-pub fn bits_fault(calls: &[u32], bits: &[u64]) -> Wrong
-    ensures { result ≡ wrong_as (bits_fault 0 (decode calls.now) bits.now) }
+pub fn bits_fault(calls: &[u32], bits: &[u64]) -> Option<usize>
+    ensures { result ≡ bits_fault 0 (decode calls.now) bits.now }
 {
     let mut seen = Cursor {
         at: 0,
@@ -47,9 +34,9 @@ pub fn bits_fault(calls: &[u32], bits: &[u64]) -> Wrong
     };
     while seen.at < calls.len() {
         if wrong_bits(calls, bits, seen.declared, seen.at) {
-            return Wrong::At(seen.terms);
+            return Some(seen.terms);
         }
         seen = call_list::next(calls, seen);
     }
-    Wrong::None
+    None
 }

@@ -185,13 +185,11 @@ fn wrapping_mul(width: u32, s: u64, t: u64) -> u64
     ensures { result % 2 ^ width ≡ partial s t width width }
 {
     let mut sum: u64 = 0;
-    let mut j: u32 = 0;
-    while j < width {
+    for j in 0..width {
         sum = std::num::wrapping_add_u64(sum, sum);
         if (t >> (width - 1 - j)) % 2 == 1 {
             sum = std::num::wrapping_add_u64(sum, s);
         }
-        j += 1;
     }
     sum
 }

@@ -48,7 +48,7 @@ pub struct BuiltTrits {
 pub fn following(n: u32) -> u32
     ensures { result ≡ following n }
 {
-    if n < 4294967295 { n + 1 } else { n }
+    n.saturating_add(1)
 }
 
 // The term of a call, after which the words have this count.

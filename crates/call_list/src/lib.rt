@@ -42,6 +42,7 @@ pub enum Operation {
 }
 
 // The operation of a number.
+#[tactic(auto, unfolding(engine::specs::Encode::op_of))]
 pub fn operation_of(number: u32) -> Operation
     ensures { op_from result ≡ op_of number }
 {
@@ -103,26 +104,14 @@ pub fn count_at(calls: &[u32], at: usize) -> u32
 pub fn makes_term(operation: Operation) -> bool
     ensures { result ≡ makes_term (op_from operation) }
 {
-    match operation {
-        Operation::Term(_) => true,
-        Operation::Declare => true,
-        Operation::Assert => false,
-        Operation::Check => false,
-        Operation::Unknown => false,
-    }
+    matches!(operation, Operation::Term(_) | Operation::Declare)
 }
 
 // Whether an operation declares a name.
 pub fn is_declare(operation: Operation) -> bool
     ensures { result ≡ is_declare (op_from operation) }
 {
-    match operation {
-        Operation::Term(_) => false,
-        Operation::Declare => true,
-        Operation::Assert => false,
-        Operation::Check => false,
-        Operation::Unknown => false,
-    }
+    matches!(operation, Operation::Declare)
 }
 
 // Where argument i of the record at a place stands; the largest place stays.
@@ -197,10 +186,8 @@ pub fn place_from(calls: &[u32], from: usize, left: u32) -> usize
                 return at;
             }
             more -= 1;
-            at = next_record(calls, at);
-        } else {
-            at = next_record(calls, at);
         }
+        at = next_record(calls, at);
     }
     at
 }

@@ -6,16 +6,15 @@ use Prim.Native.Nat.{ℕ, zero, suc, ◌<◌}
 use native.Mathlib.Omega.{arith}
 use native.Mathlib.Decide.{dec_lt}
 use lib.ListN.{length, get_or, get_or-map, get_or-eq_default}
+use Rattle.std.specs.Prelude.{Option, Some, None}
 use Rattle.logic.specs.Table.{tab}
 use Rattle.cell.specs.Cell as C
 use Rattle.cell.specs.Operation.{operations, operation_of, number_of}
 use Rattle.cell.specs.declared.Operation.{Operation}
 use Rattle.cell.specs.declared.Operation.TheVariants as O
-use Rattle.cell.specs.declared.Decoded.{Decoded}
-use Rattle.cell.specs.declared.Decoded.TheVariants as D
 
 -- An operation's number stands for it, and leaves room for the count in a head.
-pub number_operation : (op : Operation) → (operation_of (number_of op) ≡ D.Known op) × (number_of op < 32)
+pub number_operation : (op : Operation) → (operation_of (number_of op) ≡ Some op) × (number_of op < 32)
 number_operation O.Void = (refl, omega arith)
 number_operation (O.Unary C.buf) = (refl, omega arith)
 number_operation (O.Unary C.inverter) = (refl, omega arith)
@@ -44,9 +43,9 @@ number_operation (O.Binary C.umod) = (refl, omega arith)
 number_operation (O.Binary C.sdiv_trunc) = (refl, omega arith)
 number_operation (O.Binary C.smod_trunc) = (refl, omega arith)
 
-abbrev number_of_decoded : Decoded → ℕ
-number_of_decoded (D.Known op) = number_of op
-number_of_decoded D.Unknown = length operations
+abbrev number_of_decoded : Option Operation → ℕ
+number_of_decoded (Some op) = number_of op
+number_of_decoded None = length operations
 
 get_d_tab : {A : Type 0} (n : ℕ) (f : ℕ → A) (d : A) (i : ℕ) → i < n → get_or (tab n f) i d ≡ f i
 unfolding tab
@@ -54,20 +53,20 @@ get_d_tab zero f d i low = absurd (omega arith)
 get_d_tab (suc n) f d zero low = refl
 get_d_tab (suc n) f d (suc i) low = get_d_tab n (λ j. f (suc j)) d i (omega arith)
 
-numbers_in_order : map number_of_decoded (map D.Known operations) ≡ tab (length operations) (λ i. i)
+numbers_in_order : map number_of_decoded (map Some operations) ≡ tab (length operations) (λ i. i)
 unfolding tab
 numbers_in_order = refl
 
 -- What is decoded from a number is the operation of that number.
-pub decoded_number : (k : ℕ) (op : Operation) → operation_of k ≡ D.Known op → k ≡ number_of op
+pub decoded_number : (k : ℕ) (op : Operation) → operation_of k ≡ Some op → k ≡ number_of op
 decoded_number k op e = go (dec_lt k (length operations))
   where
     go : Dec (k < length operations) → k ≡ number_of op
     go (yes low) =
         sym (get_d_tab (length operations) (λ i. i) (length operations) k low) ∙
         ap (λ (l : List ℕ). get_or l k (length operations)) (sym numbers_in_order) ∙
-        get_or-map number_of_decoded (map D.Known operations) k D.Unknown ∙ ap number_of_decoded e
+        get_or-map number_of_decoded (map Some operations) k None ∙ ap number_of_decoded e
     go (no high) =
-        let past : operation_of k ≡ D.Unknown =
-        get_or-eq_default (map D.Known operations) D.Unknown {n = k} (omega arith) in
+        let past : operation_of k ≡ None =
+        get_or-eq_default (map Some operations) None {n = k} (omega arith) in
         let z : ◌≡◌ {A = ℕ} 0 1 = cc in absurd (omega arith)

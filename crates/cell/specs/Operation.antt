@@ -2,7 +2,7 @@
 -- each is laid out, and its output width. Every body is a few numbers, then controls, then nets, then constants, then
 -- patterns, as its layout says. Operations of one layout are told apart by their operator (`operators`): a new one of
 -- them is a row of `operations` and `number_of` here, and of the tables there.
-use Rattle.std.specs.Prelude.{ℕ, ◌+◌, Bool, true, false, List, [], ◌∷◌, map, get_or}
+use Rattle.std.specs.Prelude.{ℕ, ◌+◌, Bool, true, false, List, [], ◌∷◌, map, get_or, Option, Some, None}
 use Rattle.operators.specs.Operators.{binary_least, shift_least}
 use Rattle.cell.specs.Cell.{binary_width}
 use Rattle.cell.specs.Cell as C
@@ -10,8 +10,6 @@ use Rattle.cell.specs.declared.Operation.{Operation}
 use Rattle.cell.specs.declared.Operation.TheVariants as O
 use Rattle.cell.specs.declared.Layout.{Layout}
 use Rattle.cell.specs.declared.Layout.TheVariants as L
-use Rattle.cell.specs.declared.Decoded.{Decoded}
-use Rattle.cell.specs.declared.Decoded.TheVariants.{Known, Unknown}
 use Rattle.cell.specs.declared.Numbers.{Numbers}
 use Rattle.cell.specs.declared.Fields.{Fields}
 use Rattle.cell.specs.declared.Standing.{Standing}
@@ -25,8 +23,8 @@ operations =
     O.Binary C.mul ∷ O.Match ∷ O.Assign ∷ O.Dff ∷ O.IoBuf ∷ O.Input ∷ O.Note ∷ O.Binary C.udiv ∷
     O.Binary C.umod ∷ O.Binary C.sdiv_trunc ∷ O.Binary C.smod_trunc ∷ []
 
-abbrev pub operation_of : ℕ → Decoded
-operation_of number = get_or (map Known operations) number Unknown
+abbrev pub operation_of : ℕ → Option Operation
+operation_of number = get_or (map Some operations) number None
 
 -- "0 Void, empty; 1 Buf, 2 Not: #n n*; 3 And, 4 Or, 5 Xor, 9 Eq, 10 ULt, 11 SLt, 16 Mul .. 22 Note"; UDiv,
 -- UMod, SDivTrunc and SModTrunc "as operations 23 to 26, laid out like Mul".

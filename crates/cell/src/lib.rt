@@ -17,13 +17,6 @@ pub enum Mode {
     Inductive,
 }
 
-// What a caller's number chooses.
-#[derive(Clone, Copy)]
-pub enum Chosen {
-    Known(Mode),
-    Unknown,
-}
-
 // The operations; those on one vector, those on two and the shifts are told apart by their operator.
 #[derive(Clone, Copy)]
 pub enum Operation {
@@ -66,13 +59,6 @@ pub enum Layout {
     Dff,
 }
 
-// What an operation's number names.
-#[derive(Clone, Copy)]
-pub enum Decoded {
-    Known(Operation),
-    Unknown,
-}
-
 // The numbers that lead a body: how many, the least that the first may be, the bound of the second, and whether the
 // third is an offset at which as many nets as the second says must fit within as many as the first says.
 #[derive(Clone, Copy)]
@@ -93,50 +79,50 @@ pub struct Fields {
     pub width: usize,
 }
 
-// The mode of a number.
-pub fn mode_of(number: u32) -> Chosen
+// The mode that a caller's number chooses.
+pub fn mode_of(number: u32) -> Option<Mode>
     ensures { result ≡ mode_of number }
 {
     match number {
-        0 => Chosen::Known(Mode::Ported),
-        1 => Chosen::Known(Mode::Inductive),
-        _ => Chosen::Unknown,
+        0 => Some(Mode::Ported),
+        1 => Some(Mode::Inductive),
+        2.. => None,
     }
 }
 
-// The operation of a number.
-pub fn operation_of(number: u32) -> Decoded
+// The operation that a number names.
+pub fn operation_of(number: u32) -> Option<Operation>
     ensures { result ≡ operation_of number }
 {
     match number {
-        0 => Decoded::Known(Operation::Void),
-        1 => Decoded::Known(Operation::Unary(Unary::Buf)),
-        2 => Decoded::Known(Operation::Unary(Unary::Not)),
-        3 => Decoded::Known(Operation::Binary(Binary::And)),
-        4 => Decoded::Known(Operation::Binary(Binary::Or)),
-        5 => Decoded::Known(Operation::Binary(Binary::Xor)),
-        6 => Decoded::Known(Operation::Mux),
-        7 => Decoded::Known(Operation::Adc),
-        8 => Decoded::Known(Operation::Aig),
-        9 => Decoded::Known(Operation::Binary(Binary::Eq)),
-        10 => Decoded::Known(Operation::Binary(Binary::ULt)),
-        11 => Decoded::Known(Operation::Binary(Binary::SLt)),
-        12 => Decoded::Known(Operation::Shift(Shift::Shl)),
-        13 => Decoded::Known(Operation::Shift(Shift::UShr)),
-        14 => Decoded::Known(Operation::Shift(Shift::SShr)),
-        15 => Decoded::Known(Operation::Shift(Shift::XShr)),
-        16 => Decoded::Known(Operation::Binary(Binary::Mul)),
-        17 => Decoded::Known(Operation::Match),
-        18 => Decoded::Known(Operation::Assign),
-        19 => Decoded::Known(Operation::Dff),
-        20 => Decoded::Known(Operation::IoBuf),
-        21 => Decoded::Known(Operation::Input),
-        22 => Decoded::Known(Operation::Note),
-        23 => Decoded::Known(Operation::Binary(Binary::UDiv)),
-        24 => Decoded::Known(Operation::Binary(Binary::UMod)),
-        25 => Decoded::Known(Operation::Binary(Binary::SDivTrunc)),
-        26 => Decoded::Known(Operation::Binary(Binary::SModTrunc)),
-        _ => Decoded::Unknown,
+        0 => Some(Operation::Void),
+        1 => Some(Operation::Unary(Unary::Buf)),
+        2 => Some(Operation::Unary(Unary::Not)),
+        3 => Some(Operation::Binary(Binary::And)),
+        4 => Some(Operation::Binary(Binary::Or)),
+        5 => Some(Operation::Binary(Binary::Xor)),
+        6 => Some(Operation::Mux),
+        7 => Some(Operation::Adc),
+        8 => Some(Operation::Aig),
+        9 => Some(Operation::Binary(Binary::Eq)),
+        10 => Some(Operation::Binary(Binary::ULt)),
+        11 => Some(Operation::Binary(Binary::SLt)),
+        12 => Some(Operation::Shift(Shift::Shl)),
+        13 => Some(Operation::Shift(Shift::UShr)),
+        14 => Some(Operation::Shift(Shift::SShr)),
+        15 => Some(Operation::Shift(Shift::XShr)),
+        16 => Some(Operation::Binary(Binary::Mul)),
+        17 => Some(Operation::Match),
+        18 => Some(Operation::Assign),
+        19 => Some(Operation::Dff),
+        20 => Some(Operation::IoBuf),
+        21 => Some(Operation::Input),
+        22 => Some(Operation::Note),
+        23 => Some(Operation::Binary(Binary::UDiv)),
+        24 => Some(Operation::Binary(Binary::UMod)),
+        25 => Some(Operation::Binary(Binary::SDivTrunc)),
+        26 => Some(Operation::Binary(Binary::SModTrunc)),
+        _ => None,
     }
 }
 
@@ -258,18 +244,8 @@ pub fn standing_of(op: Operation) -> Standing
 {
     match op {
         Operation::Void => Standing::Void,
-        Operation::Note => Standing::Other,
-        Operation::IoBuf => Standing::Other,
-        Operation::Input => Standing::Other,
-        Operation::Unary(_) => Standing::Other,
-        Operation::Binary(_) => Standing::Other,
-        Operation::Mux => Standing::Other,
-        Operation::Adc => Standing::Other,
-        Operation::Aig => Standing::Other,
-        Operation::Shift(_) => Standing::Other,
-        Operation::Match => Standing::Other,
-        Operation::Assign => Standing::Other,
         Operation::Dff => Standing::Dff,
+        _ => Standing::Other,
     }
 }
 
@@ -277,19 +253,5 @@ pub fn standing_of(op: Operation) -> Standing
 pub fn may_replace(op: Operation) -> bool
     ensures { result ≡ may_replace op }
 {
-    match op {
-        Operation::Void => false,
-        Operation::Note => false,
-        Operation::IoBuf => true,
-        Operation::Input => false,
-        Operation::Unary(_) => true,
-        Operation::Binary(_) => true,
-        Operation::Mux => true,
-        Operation::Adc => true,
-        Operation::Aig => true,
-        Operation::Shift(_) => true,
-        Operation::Match => true,
-        Operation::Assign => true,
-        Operation::Dff => true,
-    }
+    !matches!(op, Operation::Void | Operation::Note | Operation::Input)
 }

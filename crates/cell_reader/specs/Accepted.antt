@@ -1,12 +1,11 @@
 -- Document 01, "Words": a design list. What is known of a record that was read: its numbers, its fields and its end.
-use Rattle.std.specs.Prelude.{ℕ, ◌+◌, ◌<◌, ◌≤◌, ◌≡◌, List, true, false, get_or, length}
+use Rattle.std.specs.Prelude.{ℕ, ◌+◌, ◌<◌, ◌≤◌, ◌≡◌, List, true, false, get_or, length, Ok}
 use Rattle.logic.specs.Word.{kind_of}
 use Rattle.cell.specs.Cell.{output_len}
 use Rattle.cell.specs.Operation.{numbers_of, fields_of}
 use Rattle.cell.specs.declared.Operation.{Operation}
 use Rattle.cell.specs.declared.Numbers.{Numbers}
 use Rattle.cell.specs.declared.Fields.{Fields}
-use Rattle.fields.specs.declared.Scan.TheVariants as S
 use Rattle.fields.specs.Field.{nets_at, constants_at}
 use Rattle.fields.specs.Pattern.{patterns_at}
 use Rattle.fields.specs.Accepted.{IsNumber}
@@ -28,10 +27,10 @@ pub record IsBody (w : List ℕ) (total : ℕ) (layout : Fields) (n end at : ℕ
   pub nets : ℕ
   pub constants : ℕ
   pub patterns : ℕ
-  pub controls-read : nets_at w total true end layout.controls at ≡ S.Clean nets
-  pub nets-read : nets_at w total false end layout.nets nets ≡ S.Clean constants
-  pub constants-read : constants_at w end layout.constants constants ≡ S.Clean patterns
-  pub patterns-read : patterns_at w n end layout.patterns patterns ≡ S.Clean end
+  pub controls-read : nets_at w total true end layout.controls at ≡ Ok nets
+  pub nets-read : nets_at w total false end layout.nets nets ≡ Ok constants
+  pub constants-read : constants_at w end layout.constants constants ≡ Ok patterns
+  pub patterns-read : patterns_at w n end layout.patterns patterns ≡ Ok end
 
 -- A record was read: all that the layers above go by.
 pub record IsRecord (w : List ℕ) (total at : ℕ) (op : Operation) (width next : ℕ) : Type 0 where

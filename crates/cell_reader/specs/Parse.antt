@@ -1,5 +1,5 @@
 -- Document 01, "Words", "Operations and bodies": the cell that the words of a record without a fault stand for.
-use Rattle.std.specs.Prelude.{ℕ, zero, suc, ◌+◌, ◌*◌, ◌/◌, ◌%◌, List, [], ◌∷◌, get_or, eqb}
+use Rattle.std.specs.Prelude.{ℕ, zero, suc, ◌+◌, ◌*◌, ◌/◌, ◌%◌, List, [], ◌∷◌, get_or, eqb, Option, Some, None}
 use Rattle.logic.specs.Word.{kind_of, payload_of}
 use Rattle.logic.specs.Net.{Net, constant, slot, net_of}
 use Rattle.logic.specs.Table.{tab}
@@ -8,8 +8,6 @@ use Rattle.logic.specs.declared.Trit.TheVariants.{Undef}
 use Rattle.cell.specs.Cell as C
 use Rattle.cell.specs.Cell.{Cell, Control}
 use Rattle.cell.specs.Operation.{operation_of}
-use Rattle.cell.specs.declared.Decoded.{Decoded}
-use Rattle.cell.specs.declared.Decoded.TheVariants.{Known, Unknown}
 use Rattle.cell.specs.declared.Operation.{Operation}
 use Rattle.cell.specs.declared.Operation.TheVariants as O
 
@@ -91,9 +89,9 @@ cell_in w O.Dff at =
     }
 
 -- A head's payload is the operation + 32 × the count of following words.
-abbrev known_or : Operation → Decoded → Operation
-known_or default (Known op) = op
-known_or default Unknown = default
+abbrev known_or : Operation → Option Operation → Operation
+known_or default (Some op) = op
+known_or default None = default
 
 abbrev pub op_at : List ℕ → ℕ → Operation
 op_at w at = known_or O.Note (operation_of (number_in w at % 32))

@@ -1,9 +1,9 @@
 -- Laws of the words of reads, those of one list of reads added after those of another. Assumes nothing.
 use mathlib.Core.Path.{◌≡◌, refl, ◌∙◌}
-use mathlib.Core.List.{List, [], ◌∷◌, ◌++◌, map-append}
-use Prim.Native.Nat.{ℕ, ◌+◌, ◌/◌}
+use mathlib.Core.List.{List, [], ◌++◌, map-append}
+use Prim.Native.Nat.{ℕ, ◌/◌}
 use native.Mathlib.Omega.{arith}
-use lib.ListN.{get_or, length, set, length-append, length-map}
+use lib.ListN.{get_or, length, length-append, length-map}
 use Rattle.stores.proofs.Laws.{sets_append}
 use Rattle.loops.specs.Edges.{edge}
 use Rattle.cell_reads.specs.Reads.{edges_in, Adds}
@@ -12,11 +12,6 @@ module _ {table : List ℕ} {node : ℕ} where
   -- No read adds no word.
   pub adds_none : (edges : List ℕ) (count : ℕ) → Adds table node [] edges count edges count
   adds_none edges count = record { slice = refl; many = omega arith }
-
-  -- One read adds one.
-  pub adds_one : (i : ℕ) (edges : List ℕ) (count : ℕ)
-      → Adds table node (i ∷ []) edges count (set edges count (edge node (get_or table i 0 / 1024))) (count + 1)
-  adds_one i edges count = record { slice = refl; many = refl }
 
   -- The reads of one list, then those of another.
   pub adds_append : {a b edges edges₁ edges₂ : List ℕ} {count r₁ r₂ : ℕ} → Adds table node a edges count edges₁ r₁

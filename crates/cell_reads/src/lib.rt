@@ -31,20 +31,19 @@ fn reading_of(op: Operation) -> Reading
     ensures { result ≡ reading_of op }
 {
     match op {
-        Operation::Void => Reading::Run,
-        Operation::Note => Reading::Run,
-        Operation::IoBuf => Reading::Run,
-        Operation::Input => Reading::Run,
-        Operation::Unary(_) => Reading::Run,
-        Operation::Binary(_) => Reading::Run,
-        Operation::Mux => Reading::Run,
-        Operation::Adc => Reading::Run,
-        Operation::Aig => Reading::Run,
-        Operation::Shift(_) => Reading::Run,
         Operation::Match => Reading::Compared,
-        Operation::Assign => Reading::Run,
         Operation::Dff => Reading::Clocked,
+        _ => Reading::Run,
     }
+}
+
+// A node that reads, with the words of the accepted list that has its record and those of the list's slot table.
+#[derive(Clone, Copy)]
+struct Reader<'a> {
+    list: &'a [u32],
+    table: &'a [u32],
+    node: u32,
+    ghost low: { node < 4096 },
 }
 
 // Whether a slot is read by its past trit: that of a base Dff, unless it is read as a clock.
@@ -57,28 +56,187 @@ fn is_past(table: &[u32], clock: bool, slot: Slot) -> bool
     logic::word_at(table, slot.0 as usize) % 8 == 1
 }
 
-// The read of a slot, where it is a current one.
-fn slot_edge(
-    table: &[u32],
-    edges: &mut [u32],
-    count: usize,
-    node: u32,
-    clock: bool,
-    read: Slot,
-) -> usize
-    ensures { node < 4096 → count < 2 ^ 62
-        → Adds table.now node (current_net (past_by table.now clock) (slot read.0))
-        edges.old count edges.new result }
-{
-    if is_past(table, clock, read) {
-        return count;
+impl Reader<'_> {
+    // The read of a slot, where it is a current one.
+    fn slot_edge(&self, edges: &mut [u32], count: usize, clock: bool, read: Slot) -> usize
+        ensures { count < 2 ^ 62
+            → Adds self.now.table.now self.now.node (current_net (past_by self.now.table.now clock) (slot read.0))
+            edges.old count edges.new result }
+    {
+        if is_past(self.table, clock, read) || 4611686018427387904 <= count {
+            return count;
+        }
+        let first = logic::word_at(self.table, read.0 as usize) / 1024;
+        logic::put(edges, count, self.node * 4096 + first);
+        count + 1
     }
-    if 4611686018427387904 <= count {
-        return count;
+
+    // The read of the net at a place, where it is a current one: a clock's always is.
+    fn net_edge(&self, edges: &mut [u32], count: usize, clock: bool, at: usize) -> usize
+        ensures { count < 2 ^ 62
+            → Adds self.now.table.now self.now.node (current_net (past_by self.now.table.now clock) (net_in self.now.list.now at))
+            edges.old count edges.new result }
+    {
+        match logic::driver_of(Net(logic::payload(logic::word_at(self.list, at)))) {
+            Driver::Output(slot) => self.slot_edge(edges, count, clock, slot),
+            Driver::Constant(_) | Driver::NoNet => count,
+        }
     }
-    let first = logic::word_at(table, read.0 as usize) / 1024;
-    logic::put(edges, count, node % 4096 * 4096 + first);
-    count + 1
+
+    // The reads of a run of n nets.
+    fn nets_edges(&self, edges: &mut [u32], count: usize, n: usize, start: usize) -> usize
+        requires { (count + n < 2 ^ 62) × (start + n < 2 ^ 63) }
+        ensures { Adds self.now.table.now self.now.node
+            (current_nets (past_in self.now.table.now) (nets_in self.now.list.now n start))
+            edges.old count edges.new result }
+    {
+        let mut total = count;
+        for i in 0..n {
+            total = self.net_edge(edges, total, false, start + i);
+        }
+        total
+    }
+
+    // The read of one position of an alternate: its value's net, unless the constant there is X.
+    fn position_edge(&self, edges: &mut [u32], count: usize, net: usize, constant: usize) -> usize
+        ensures { count < 2 ^ 62
+            → Adds self.now.table.now self.now.node (current_nets (past_in self.now.table.now)
+            (compared (net_in self.now.list.now net ∷ []) (trit_in self.now.list.now constant ∷ [])))
+            edges.old count edges.new result }
+    {
+        match operands::trit_at(self.list, constant) {
+            Trit::Undef => count,
+            Trit::Zero | Trit::One => self.net_edge(edges, count, false, net),
+        }
+    }
+
+    // The reads of the alternate at a place, of n positions of the value.
+    fn alternate_edges(
+        &self,
+        edges: &mut [u32],
+        count: usize,
+        n: usize,
+        value: usize,
+        start: usize,
+    ) -> usize
+        requires { (count + n < 2 ^ 62) × (value + n < 2 ^ 63) × (start + n < 2 ^ 63) }
+        ensures { Adds self.now.table.now self.now.node (current_nets (past_in self.now.table.now)
+            (compared (nets_in self.now.list.now n value) (trits_in self.now.list.now n start)))
+            edges.old count edges.new result }
+    {
+        let mut total = count;
+        for i in 0..n {
+            total = self.position_edge(edges, total, value + i, start + i);
+        }
+        total
+    }
+
+    // The reads of a pattern, of which so many alternates stand from a place on.
+    fn pattern_edges(
+        &self,
+        edges: &mut [u32],
+        count: usize,
+        n: usize,
+        value: usize,
+        alternates: usize,
+        start: usize,
+    ) -> usize
+        requires { (n ≤ 63) × (alternates ≤ 64) × (count < 2 ^ 61) × (value < 2 ^ 62)
+            × (start + 4032 < 2 ^ 63) }
+        ensures { Adds self.now.table.now self.now.node (current_nets (past_in self.now.table.now)
+            (compared_by_any (nets_in self.now.list.now n value)
+            (tab alternates (λ i. trits_in self.now.list.now n (start + i * n)))))
+            edges.old count edges.new result }
+    {
+        let mut total = count;
+        let mut at = start;
+        for _ in 0..alternates {
+            total = self.alternate_edges(edges, total, n, value, at);
+            at += n;
+        }
+        total
+    }
+
+    // The reads of k patterns, one after another from a place on: the bounds of an accepted list keep every count small.
+    fn patterns_edges(
+        &self,
+        edges: &mut [u32],
+        count: usize,
+        n: usize,
+        value: usize,
+        k: usize,
+        start: usize,
+    ) -> usize
+        requires { (n ≤ 63) × (k ≤ 63) × (count < 2 ^ 60) × (value < 2 ^ 62) × (start < 2 ^ 62) }
+        ensures { Few (patterns_in self.now.list.now n k start)
+            → Adds self.now.table.now self.now.node (current_nets (past_in self.now.table.now)
+            (compared_nets (nets_in self.now.list.now n value) (patterns_in self.now.list.now n k start)))
+            edges.old count edges.new result }
+    {
+        let mut total = count;
+        let mut at = start;
+        for _ in 0..k {
+            let alternates = logic::payload(logic::word_at(self.list, at)).min(64) as usize;
+            total = self.pattern_edges(edges, total, n, value, alternates, at + 1);
+            at += 1 + alternates * n;
+        }
+        total
+    }
+
+    // The reads of a Match whose fields begin at a place: #n #k enable, n nets, the patterns.
+    fn match_edges(&self, edges: &mut [u32], count: usize, at: usize) -> usize
+        requires { (count < 2 ^ 32) × (at ≤ 2 ^ 61) }
+        ensures { Bounded (cell_in self.now.list.now O.Match at)
+            → Adds self.now.table.now self.now.node
+            (current_reads (past_in self.now.table.now) (cell_in self.now.list.now O.Match at))
+            edges.old count edges.new result }
+    {
+        let n = logic::payload(logic::word_at(self.list, at)).min(63) as usize;
+        let k = logic::payload(logic::word_at(self.list, at + 1)).min(63) as usize;
+        let enabled = self.net_edge(edges, count, false, at + 2);
+        self.patterns_edges(edges, enabled, n, at + 3, k, at + 3 + n)
+    }
+
+    // The reads of a Dff whose fields begin at a place: #n #reset-over-enable clock clear reset enable, n nets.
+    fn flip_flop_edges(&self, edges: &mut [u32], count: usize, at: usize) -> usize
+        requires { (count < 2 ^ 32) × (at ≤ 2 ^ 61) }
+        ensures { Adds self.now.table.now self.now.node
+            (current_reads (past_in self.now.table.now) (cell_in self.now.list.now O.Dff at))
+            edges.old count edges.new result }
+    {
+        let n = logic::payload(logic::word_at(self.list, at)) as usize;
+        let clocked = self.net_edge(edges, count, true, at + 2);
+        self.nets_edges(edges, clocked, 3 + n, at + 3)
+    }
+
+    // The reads of a record of another operation whose fields begin at a place: after its numbers all its nets in one run.
+    fn run_edges(&self, op: Operation, edges: &mut [u32], count: usize, at: usize) -> usize
+        requires { (count < 2 ^ 32) × (at ≤ 2 ^ 61) }
+        ensures { reading_of op ≡ Run → Adds self.now.table.now self.now.node
+            (current_reads (past_in self.now.table.now) (cell_in self.now.list.now op at))
+            edges.old count edges.new result }
+    {
+        let n = logic::payload(logic::word_at(self.list, at));
+        let m = logic::payload(logic::word_at(self.list, at + 1));
+        let fields = cell::fields_of(op, n, m);
+        let numbers = cell::numbers_of(op);
+        let start = at + numbers.count as usize;
+        self.nets_edges(edges, count, fields.controls + fields.nets, start)
+    }
+
+    // The reads of a record whose fields begin at a place.
+    fn fields_edges(&self, op: Operation, edges: &mut [u32], count: usize, at: usize) -> usize
+        requires { (count < 2 ^ 32) × (at ≤ 2 ^ 61) }
+        ensures { Bounded (cell_in self.now.list.now op at) → Adds self.now.table.now self.now.node
+            (current_reads (past_in self.now.table.now) (cell_in self.now.list.now op at))
+            edges.old count edges.new result }
+    {
+        match reading_of(op) {
+            Reading::Compared => self.match_edges(edges, count, at),
+            Reading::Clocked => self.flip_flop_edges(edges, count, at),
+            Reading::Run => self.run_edges(op, edges, count, at),
+        }
+    }
 }
 
 // The read of the net at a place, where it is a current one: a clock's always is.
@@ -95,266 +253,10 @@ pub fn net_edge(
         → Adds table.now node (current_net (past_by table.now clock) (net_in list.now at))
         edges.old count edges.new result }
 {
-    match logic::driver_of(Net(logic::payload(logic::word_at(list, at)))) {
-        Driver::Constant(_) => count,
-        Driver::Output(slot) => slot_edge(table, edges, count, node, clock, slot),
-        Driver::NoNet => count,
+    if 4096 <= node {
+        return count;
     }
-}
-
-// The reads of a run of n nets.
-fn nets_edges(
-    list: &[u32],
-    table: &[u32],
-    edges: &mut [u32],
-    count: usize,
-    node: u32,
-    n: usize,
-    start: usize,
-) -> usize
-    requires { (node < 4096) × (count + n < 2 ^ 62) × (start + n < 2 ^ 63) }
-    ensures { Adds table.now node
-        (current_nets (past_in table.now) (nets_in list.now n start))
-        edges.old count edges.new result }
-{
-    let mut total = count;
-    let mut at = start;
-    let mut left = n;
-    while 0 < left {
-        total = net_edge(list, table, edges, total, node, false, at);
-        at += 1;
-        left -= 1;
-    }
-    total
-}
-
-// ---- Match
-
-// The read of one position of an alternate: its value's net, unless the constant there is X.
-fn position_edge(
-    list: &[u32],
-    table: &[u32],
-    edges: &mut [u32],
-    count: usize,
-    node: u32,
-    net: usize,
-    constant: usize,
-) -> usize
-    ensures { node < 4096 → count < 2 ^ 62
-        → Adds table.now node (current_nets (past_in table.now)
-        (compared (net_in list.now net ∷ []) (trit_in list.now constant ∷ [])))
-        edges.old count edges.new result }
-{
-    match operands::trit_at(list, constant) {
-        Trit::Undef => count,
-        Trit::Zero => net_edge(list, table, edges, count, node, false, net),
-        Trit::One => net_edge(list, table, edges, count, node, false, net),
-    }
-}
-
-// The reads of the alternate at a place, of n positions of the value.
-fn alternate_edges(
-    list: &[u32],
-    table: &[u32],
-    edges: &mut [u32],
-    count: usize,
-    node: u32,
-    n: usize,
-    value: usize,
-    start: usize,
-) -> usize
-    requires { (node < 4096) × (count + n < 2 ^ 62) × (value + n < 2 ^ 63) × (start + n < 2 ^ 63) }
-    ensures { Adds table.now node (current_nets (past_in table.now)
-        (compared (nets_in list.now n value) (trits_in list.now n start)))
-        edges.old count edges.new result }
-{
-    let mut total = count;
-    let mut net = value;
-    let mut at = start;
-    let mut left = n;
-    while 0 < left {
-        total = position_edge(list, table, edges, total, node, net, at);
-        net += 1;
-        at += 1;
-        left -= 1;
-    }
-    total
-}
-
-// The reads of a pattern, of which so many alternates stand from a place on.
-fn pattern_edges(
-    list: &[u32],
-    table: &[u32],
-    edges: &mut [u32],
-    count: usize,
-    node: u32,
-    n: usize,
-    value: usize,
-    alternates: usize,
-    start: usize,
-) -> usize
-    requires { (node < 4096) × (n ≤ 63) × (alternates ≤ 64) × (count < 2 ^ 61) × (value < 2 ^ 62)
-        × (start + 4032 < 2 ^ 63) }
-    ensures { Adds table.now node (current_nets (past_in table.now)
-        (compared_by_any (nets_in list.now n value)
-        (tab alternates (λ i. trits_in list.now n (start + i * n)))))
-        edges.old count edges.new result }
-{
-    let mut total = count;
-    let mut at = start;
-    let mut left = alternates;
-    while 0 < left {
-        total = alternate_edges(list, table, edges, total, node, n, value, at);
-        at += n;
-        left -= 1;
-    }
-    total
-}
-
-// A number, at most a bound: the bounds of an accepted list keep every count small.
-fn at_most(number: u32, bound: u32) -> usize
-    ensures { result ≡ min number bound }
-{
-    if number < bound {
-        number as usize
-    } else {
-        bound as usize
-    }
-}
-
-// The reads of k patterns, one after another from a place on.
-fn patterns_edges(
-    list: &[u32],
-    table: &[u32],
-    edges: &mut [u32],
-    count: usize,
-    node: u32,
-    n: usize,
-    value: usize,
-    k: usize,
-    start: usize,
-) -> usize
-    requires { (node < 4096) × (n ≤ 63) × (k ≤ 63) × (count < 2 ^ 60) × (value < 2 ^ 62) × (start < 2 ^ 62) }
-    ensures { Few (patterns_in list.now n k start)
-        → Adds table.now node (current_nets (past_in table.now)
-        (compared_nets (nets_in list.now n value) (patterns_in list.now n k start)))
-        edges.old count edges.new result }
-{
-    let mut total = count;
-    let mut at = start;
-    let mut left = k;
-    while 0 < left {
-        let alternates = at_most(logic::payload(logic::word_at(list, at)), 64);
-        total = pattern_edges(
-            list,
-            table,
-            edges,
-            total,
-            node,
-            n,
-            value,
-            alternates,
-            at + 1,
-        );
-        at += 1 + alternates * n;
-        left -= 1;
-    }
-    total
-}
-
-// The reads of a Match whose fields begin at a place: #n #k enable, n nets, the patterns.
-fn match_edges(
-    list: &[u32],
-    table: &[u32],
-    edges: &mut [u32],
-    count: usize,
-    node: u32,
-    at: usize,
-) -> usize
-    requires { (node < 4096) × (count < 2 ^ 32) × (at ≤ 2 ^ 61) }
-    ensures { Bounded (cell_in list.now O.Match at)
-        → Adds table.now node
-        (current_reads (past_in table.now) (cell_in list.now O.Match at))
-        edges.old count edges.new result }
-{
-    let n = at_most(logic::payload(logic::word_at(list, at)), 63);
-    let k = at_most(logic::payload(logic::word_at(list, at + 1)), 63);
-    let enabled = net_edge(list, table, edges, count, node, false, at + 2);
-    patterns_edges(list, table, edges, enabled, node, n, at + 3, k, at + 3 + n)
-}
-
-// ---- the other records
-
-// The reads of a Dff whose fields begin at a place: #n #reset-over-enable clock clear reset enable, n nets.
-fn flip_flop_edges(
-    list: &[u32],
-    table: &[u32],
-    edges: &mut [u32],
-    count: usize,
-    node: u32,
-    at: usize,
-) -> usize
-    requires { (node < 4096) × (count < 2 ^ 32) × (at ≤ 2 ^ 61) }
-    ensures { Adds table.now node
-        (current_reads (past_in table.now) (cell_in list.now O.Dff at))
-        edges.old count edges.new result }
-{
-    let n = logic::payload(logic::word_at(list, at)) as usize;
-    let clocked = net_edge(list, table, edges, count, node, true, at + 2);
-    nets_edges(list, table, edges, clocked, node, 3 + n, at + 3)
-}
-
-// The reads of a record of another operation whose fields begin at a place: after its numbers all its nets in one run.
-fn run_edges(
-    op: Operation,
-    list: &[u32],
-    table: &[u32],
-    edges: &mut [u32],
-    count: usize,
-    node: u32,
-    at: usize,
-) -> usize
-    requires { (node < 4096) × (count < 2 ^ 32) × (at ≤ 2 ^ 61) }
-    ensures { reading_of op ≡ Run → Adds table.now node
-        (current_reads (past_in table.now) (cell_in list.now op at))
-        edges.old count edges.new result }
-{
-    let n = logic::payload(logic::word_at(list, at));
-    let m = logic::payload(logic::word_at(list, at + 1));
-    let fields = cell::fields_of(op, n, m);
-    let numbers = cell::numbers_of(op);
-    let start = at + numbers.count as usize;
-    nets_edges(
-        list,
-        table,
-        edges,
-        count,
-        node,
-        fields.controls + fields.nets,
-        start,
-    )
-}
-
-// The reads of a record whose fields begin at a place.
-fn fields_edges(
-    op: Operation,
-    list: &[u32],
-    table: &[u32],
-    edges: &mut [u32],
-    count: usize,
-    node: u32,
-    at: usize,
-) -> usize
-    requires { (node < 4096) × (count < 2 ^ 32) × (at ≤ 2 ^ 61) }
-    ensures { Bounded (cell_in list.now op at) → Adds table.now node
-        (current_reads (past_in table.now) (cell_in list.now op at))
-        edges.old count edges.new result }
-{
-    match reading_of(op) {
-        Reading::Compared => match_edges(list, table, edges, count, node, at),
-        Reading::Clocked => flip_flop_edges(list, table, edges, count, node, at),
-        Reading::Run => run_edges(op, list, table, edges, count, node, at),
-    }
+    Reader { list, table, node }.net_edge(edges, count, clock, at)
 }
 
 // The words of the current reads of the record at a place, stored from a count on.
@@ -371,15 +273,9 @@ pub fn record_edges(
         (current_reads (past_in table.now) (cell_at list.now at))
         edges.old count edges.new result }
 {
-    if list.len() <= at {
-        return count;
-    }
-    if 4096 <= node {
-        return count;
-    }
-    if 4294967296 <= count {
+    if list.len() <= at || 4096 <= node || 4294967296 <= count {
         return count;
     }
     let op = replaced_cells::op_at(list, at);
-    fields_edges(op, list, table, edges, count, node, at + 1)
+    Reader { list, table, node }.fields_edges(op, edges, count, at + 1)
 }

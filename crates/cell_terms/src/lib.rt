@@ -18,11 +18,13 @@ use logic::{Slot, Term};
 fn no_terms(c: Counts) -> BuiltTrits
     ensures { (trits 0 result.value ≡ tv no_vec no_vec) × (result.counts ≡ c) }
 {
-    let value = TritVec {
-        x: Term(0),
-        y: Term(0),
-    };
-    BuiltTrits { value, counts: c }
+    BuiltTrits {
+        value: TritVec {
+            x: Term(0),
+            y: Term(0),
+        },
+        counts: c,
+    }
 }
 
 pub fn cell(

@@ -5,10 +5,8 @@
 #![tactic(auto)]
 
 use builder::Counts;
-use cell::Decoded;
-use design_list::{Extent, SlotTable};
+use design_list::Extent;
 use logic::Slot;
-use word_input::Next;
 
 // The file descriptor of standard output.
 const STDOUT_FILENO: i32 = 1;
@@ -29,30 +27,26 @@ fn add_word(digest: u64, word: u32) -> u64 {
 // The digest with the first n words more.
 fn add_words(digest: u64, words: &[u32], n: usize) -> u64 {
     let mut all = digest;
-    let mut i: usize = 0;
-    while i < n {
+    for i in 0..n {
         all = add_word(all, logic::word_at(words, i));
-        i += 1;
     }
     all
 }
 
-fn wide(mark: u8) -> u32 {
-    mark as u32
-}
-
 // The mark at a slot, 0 past the end.
 fn mark_at(marks: &[u8], at: usize) -> u32 {
-    if at < marks.len() { wide(marks[at]) } else { 0 }
+    if at < marks.len() {
+        u32::from(marks[at])
+    } else {
+        0
+    }
 }
 
 // The digest with the first n marks more.
 fn add_marks(digest: u64, marks: &[u8], n: usize) -> u64 {
     let mut all = digest;
-    let mut i: usize = 0;
-    while i < n {
+    for i in 0..n {
         all = add_word(all, mark_at(marks, i));
-        i += 1;
     }
     all
 }
@@ -78,7 +72,7 @@ fn emit_cell(
         return c;
     }
     match cell::operation_of(logic::payload(list[at]) % 32) {
-        Decoded::Known(op) => {
+        Some(op) => {
             let first = at + 1;
             steps::add_cell(
                 op,
@@ -92,7 +86,7 @@ fn emit_cell(
                 width,
             )
         }
-        Decoded::Unknown => c,
+        None => c,
     }
 }
 
@@ -133,12 +127,10 @@ fn emit_cells(
     };
     let mut at: usize = 4;
     let mut slot: u32 = 0;
-    let mut left: u32 = 4096;
-    while 0 < left {
+    for _ in 0..4096 {
         c = emit_cell(list, at, table, calls, names, marks, c, Slot(slot));
         at = next_at(list, at);
         slot = next_slot(table, slot);
-        left -= 1;
     }
     c
 }
@@ -168,8 +160,8 @@ fn answer(list: &[u32], table: &[u32], total: usize) {
 fn answer_list(list: &[u32]) {
     let mut table = [0u32; 4096];
     match design_list::slot_table(list, &mut table) {
-        SlotTable::Filled(x) => answer(list, &table, slots_of(x)),
-        SlotTable::Refused(_) => {
+        Ok(x) => answer(list, &table, slots_of(x)),
+        Err(_) => {
             io::write_all(STDOUT_FILENO, b"refused\n");
         }
     }
@@ -201,8 +193,8 @@ fn room() -> [u32; 16400] {
 // One list, if the input has one.
 fn turn() -> bool {
     match word_input::next_word() {
-        Next::End => false,
-        Next::Word(length) => {
+        None => false,
+        Some(length) => {
             let n = length as usize;
             let mut words = room();
             read_list(&mut words, n);
@@ -212,11 +204,8 @@ fn turn() -> bool {
 }
 
 fn main() {
-    let mut left: u32 = 1000;
-    while 0 < left {
-        if turn() {
-            left -= 1;
-        } else {
+    for _ in 0..1000 {
+        if !turn() {
             return;
         }
     }

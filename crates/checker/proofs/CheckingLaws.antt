@@ -2,7 +2,7 @@
 use mathlib.Core.Path.{◌≡◌, refl, sym, ap, ap₂, ◌∙◌, subst}
 use mathlib.Core.Bool.{Bool, true, false, cond, ◌&&◌}
 use mathlib.Core.List.{List}
-use mathlib.Core.Option.{some, none}
+use Rattle.std.specs.Prelude.{Ok, Err, Some, None}
 use Prim.Native.Nat.{ℕ, zero, suc, ◌+◌, ◌-◌, ◌≤◌, ◌<◌}
 use native.Mathlib.Nat.{le_refl}
 use native.Mathlib.Omega.{arith}
@@ -19,7 +19,7 @@ use Rattle.call_list.specs.declared.Cursor.{Cursor}
 use Rattle.call_list.proofs.CursorsLaws.{nothing_read, cursor_next, bit-low}
 use Rattle.call_list.specs.Operations.{is_declare}
 use Rattle.call_list.proofs.OperationsLaws.{declares_of}
-use Rattle.checker.specs.declared.CallList.TheVariants.{WellFormed, Malformed}
+use Rattle.checker.specs.declared.Counts.{Counts}
 use Rattle.term_places.specs.Places.{note_place, Spaced}
 use Rattle.term_places.proofs.PlacesLaws.{spaced-start}
 use Rattle.term_table.specs.Near.{sort_near, note_sort, note_recent}
@@ -103,7 +103,7 @@ module _ {gap : ℕ} {w places table recent names tops : List ℕ} {s : Cursor} 
       go (suc n) h f = f n refl
 
   -- Nothing may follow check.
-  pub checked-fault : checked ≡ true → Malformed s.at ≡ checked_as (outcome w)
+  pub checked-fault : checked ≡ true → Err s.at ≡ checked_as (outcome w)
   checked-fault e =
       some_fuel (λ n f.
       let falls : head_stands k.context w s.at ≡ false = rw (sym k.closed ∙ e) in
@@ -122,14 +122,14 @@ module _ {gap : ℕ} {w places table recent names tops : List ℕ} {s : Cursor} 
     unchecked : k.context.checked ≡ false
     unchecked = sym k.closed ∙ open-list
 
-    pub record_wrong : (p : ℕ) → fault_by sort names tops w s.terms s.at ≡ some p → Malformed p
+    pub record_wrong : (p : ℕ) → fault_by sort names tops w s.terms s.at ≡ Some p → Err p
         ≡ checked_as (outcome w)
     record_wrong p e =
         some_fuel (λ n f.
         sym (ap checked_as (k.rest ∙ ap (λ (m : ℕ). read_from m w s.at k.context) f
         ∙ fault-some k.read names tops k.named k.topped sort says inside unchecked p n e)))
 
-    pub record_right : fault_by sort names tops w s.terms s.at ≡ none
+    pub record_right : fault_by sort names tops w s.terms s.at ≡ None
         → Checking gap w (note_place places gap w s.at s.terms) (note_sort sort table w s.at s.terms)
         (note_recent sort table recent w s.at s.terms) (note_name names w s.at) (note_top tops w s.at)
         (cursor_next w s)
@@ -164,14 +164,18 @@ module _ {gap : ℕ} {w places table recent names tops : List ℕ} {s : Cursor} 
           few-names = omega (arith, k.few-names, bit-low (is_declare (operation_at w s.at)));
         })
 
+-- So many terms and names.
+abbrev pub counts_of : ℕ → ℕ → Counts
+counts_of terms declared = record { terms = terms; declared = declared }
+
 -- At the end.
 pub checked-end : {gap : ℕ} {w places table recent names tops : List ℕ} {s : Cursor} {checked : Bool} →
     Checking gap w places table recent names tops s checked
-    → length w ≤ s.at → CheckedBy gap w places table names (WellFormed s.terms s.declared)
+    → length w ≤ s.at → CheckedBy gap w places table names (Ok (counts_of s.terms s.declared))
 checked-end {gap} {w} {places} {table} {recent} {names} {tops} {s} {checked} k end =
     let all : outcome w ≡ well_formed k.context = k.rest ∙ read-end k.fuel w s.at k.context end in
     record {
-      is = rw all (ap₂ WellFormed k.read.counts k.declared);
+      is = rw all (ap₂ (λ (t d : ℕ). Ok (counts_of t d)) k.read.counts k.declared);
       tabled = λ y e.
           let same : k.context ≡ y = cc in
           let at-end : s.at ≡ length w = omega (arith, k.read.within) in
@@ -186,12 +190,12 @@ checked-end {gap} {w} {places} {table} {recent} {names} {tops} {s} {checked} k e
     }
 
 -- A refusal says nothing of the tables.
-pub checked_wrong : {gap : ℕ} {w places table names : List ℕ} {p : ℕ} → Malformed p ≡ checked_as (outcome w)
-    → CheckedBy gap w places table names (Malformed p)
+pub checked_wrong : {gap : ℕ} {w places table names : List ℕ} {p : ℕ} → Err p ≡ checked_as (outcome w)
+    → CheckedBy gap w places table names (Err p)
 checked_wrong {gap} {w} {places} {table} {names} {p} e =
-    record { is = e; tabled = λ y f. absurd (let z : Malformed p ≡ checked_as (well_formed y) = rw f at e in never y z) }
+    record { is = e; tabled = λ y f. absurd (let z : Err p ≡ checked_as (well_formed y) = rw f at e in never y z) }
   where
-    never : (y : Context) → Malformed p ≡ checked_as (well_formed y) → ⊥
+    never : (y : Context) → Err p ≡ checked_as (well_formed y) → ⊥
     never y z = let q : ◌≡◌ {A = ℕ} 0 1 = cc in omega arith
 
 -- A table of zeros.

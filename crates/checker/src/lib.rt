@@ -7,25 +7,19 @@ ghost use Rattle.call_list.specs.Operations.{op_from};
 ghost use Rattle.checker.specs.Checking.{checked_as, is_check, CheckedBy};
 
 use call_list::{Cursor, Operation};
-use record_faults::Wrong;
+use term_table::Tables;
 
-// What checking a call list answers: how many terms it makes and names it declares, or the first place at fault.
+// How many terms a well-formed call list makes and how many names it declares.
 #[derive(Clone, Copy)]
-pub enum CallList {
-    WellFormed { terms: usize, declared: usize },
-    Malformed(usize),
+pub struct Counts {
+    pub terms: usize,
+    pub declared: usize,
 }
 
 fn is_check(operation: Operation) -> bool
     ensures { result ≡ is_check (op_from operation) }
 {
-    match operation {
-        Operation::Term(_) => false,
-        Operation::Declare => false,
-        Operation::Assert => false,
-        Operation::Check => true,
-        Operation::Unknown => true,
-    }
+    matches!(operation, Operation::Check | Operation::Unknown)
 }
 
 // The check with its tables: the places of every `gap + 1`th term, the sorts of the first terms and of the latest, the
@@ -38,7 +32,7 @@ fn check_records(
     recent: &mut [u8],
     names: &mut [u8],
     tops: &mut [u32],
-) -> CallList
+) -> Result<Counts, usize>
     requires { ((k : ℕ) → get_or names.old k 0 ≡ 0) × (9 ≤ length tops.old) }
     ensures { CheckedBy gap calls.now places.new
         sorts.new names.new result }
@@ -51,31 +45,34 @@ fn check_records(
     let mut checked = false;
     while seen.at < calls.len() {
         if checked {
-            return CallList::Malformed(seen.at);
+            return Err(seen.at);
         }
-        match record_faults::record_fault(
-            calls, sorts, recent, places, gap, names, tops, seen.terms, seen.at,
+        let tables = Tables {
+            calls,
+            sorts,
+            recent,
+            places,
+            gap,
+        };
+        if let Some(place) = record_faults::record_fault(
+            &tables, names, tops, seen.terms, seen.at,
         ) {
-            Wrong::At(place) => {
-                return CallList::Malformed(place);
-            }
-            Wrong::None => {
-                term_table::note_sort(calls, sorts, recent, places, gap, seen.at, seen.terms);
-                term_places::note_place(calls, places, gap, seen.at, seen.terms);
-                name_table::note_name(calls, names, seen.at);
-                name_table::note_top(calls, tops, seen.at);
-                checked = is_check(call_list::operation_at(calls, seen.at));
-                seen = call_list::next(calls, seen);
-            }
+            return Err(place);
         }
+        term_table::note_sort(calls, sorts, recent, places, gap, seen.at, seen.terms);
+        term_places::note_place(calls, places, gap, seen.at, seen.terms);
+        name_table::note_name(calls, names, seen.at);
+        name_table::note_top(calls, tops, seen.at);
+        checked = is_check(call_list::operation_at(calls, seen.at));
+        seen = call_list::next(calls, seen);
     }
-    CallList::WellFormed {
+    Ok(Counts {
         terms: seen.terms,
         declared: seen.declared,
-    }
+    })
 }
 
-// Whether a call list is well formed, and where it is not (fault 19), with tables that the caller lends: for a
+// What a well-formed call list makes and declares, or the first place at fault (fault 19), with tables that the caller lends: for a
 // well-formed list they have the places of every `gap + 1`th term, the sorts of its first terms and its names of low
 // indexes, as far as they reach; what else they and the ring of the latest terms hold afterwards is free.
 pub fn check_by(
@@ -85,7 +82,7 @@ pub fn check_by(
     sorts: &mut [u8],
     recent: &mut [u8],
     names: &mut [u8],
-) -> CallList
+) -> Result<Counts, usize>
     ensures { CheckedBy gap calls.now places.new
         sorts.new names.new result }
 {
@@ -94,8 +91,8 @@ pub fn check_by(
     check_records(calls, places, gap, sorts, recent, names, &mut tops)
 }
 
-// Whether a call list is well formed, and where it is not (fault 19).
-pub fn check(calls: &[u32]) -> CallList
+// What a well-formed call list makes and declares, or the first place at fault (fault 19).
+pub fn check(calls: &[u32]) -> Result<Counts, usize>
     ensures { result ≡ checked_as (outcome calls.now) }
 {
     let mut places = [0u32; 4096];

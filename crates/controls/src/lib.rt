@@ -25,16 +25,17 @@ pub struct ControlNet {
 pub fn control_of(word: u32) -> ControlNet
     ensures { result ≡ control_word word }
 {
-    let net = Net(logic::payload(word));
-    let inverted = logic::kind(word) == 1;
-    ControlNet { net, inverted }
+    ControlNet {
+        net: Net(logic::payload(word)),
+        inverted: logic::kind(word) == 1,
+    }
 }
 
 // Ones where the control is positive, zero where it is inverted.
 fn active(control: ControlNet) -> u64
     ensures { result ≡ bit (not control.inverted) }
 {
-    if control.inverted { 0 } else { 1 }
+    u64::from(!control.inverted)
 }
 
 pub fn invert_net(calls: &mut [u32], c: Counts, control: ControlNet, net: TritVec) -> BuiltTrits

@@ -39,14 +39,12 @@ fn matches(
 {
     let mut counts = c;
     let mut place = at;
-    let mut i: u32 = 0;
-    while i < k {
+    for i in 0..k {
         let made = alternates::sum(fields, place, n, table, calls, names, marks, counts);
         vectors::put_element(terms, i, made.value);
         counts = made.counts;
         let alternates = logic::payload(logic::word_at(fields, place as usize));
         place = alternates::alternate_at(place, alternates, n);
-        i += 1;
     }
     counts
 }

@@ -20,7 +20,7 @@ use Rattle.builder.specs.declared.Counts.{Counts}
 use Rattle.builder.specs.Ran.{state_of}
 use Rattle.builder.proofs.Laws.{wrote-calls}
 use Rattle.net_steps.specs.Did.{Did, Asks, query_terms}
-use Rattle.requirement.specs.Verified.{temporaries, read_in}
+use Rattle.requirement.specs.Verified.{read_in}
 use Rattle.requirement.proofs.AnsweredLaws.{few-counts, temporaries_are}
 use Rattle.running.specs.Passes.{nothing}
 use Rattle.requirement.proofs.Passes.{Passed}

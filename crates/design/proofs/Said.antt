@@ -15,6 +15,8 @@ use Rattle.builder.specs.declared.Counts.{Counts}
 use Rattle.design_list.specs.Read.{Read, refused, accepted}
 use Rattle.order.specs.Verify.{built, verify}
 use Rattle.requirement.specs.declared.Verified.{Verified}
+use Rattle.std.specs.Prelude.{Result, Ok}
+use Rattle.logic.specs.declared.Fault.{Fault}
 use Rattle.requirement.specs.declared.Verified.TheVariants.{NothingAsked}
 use Rattle.requirement.specs.Verified.{counted, told, read_in, verified, over, call_words}
 use Rattle.requirement.specs.Verified as v
@@ -26,7 +28,7 @@ use Rattle.requirement.specs.Requirement3.{Requirement3}
 use Rattle.design.specs.Verifies.{Verifies}
 use Rattle.design.specs.Said.{Says, Said}
 
-told-says : (l : List ℕ) (m n : Counts) → Says (told l m) n → m ≡ n
+told-says : (l : List ℕ) (m n : Counts) → Says (Ok (told l m)) n → m ≡ n
 told-says [] m n said = said
 told-says (o ∷ l) m n said = said
 
@@ -40,11 +42,11 @@ module _ (slice new old : List ℕ) (is : slice ≡ over new old) where
       let dropped = length-drop (length new) old in
       ap length is ∙ length-append new (drop (length new) old) ∙ omega arith
 
-module _ {mode : ℕ} {w calls recorded calls' recorded' : List ℕ} {r : Verified}
+module _ {mode : ℕ} {w calls recorded calls' recorded' : List ℕ} {r : Result Verified Fault}
     (left : Verifies mode w calls recorded calls' recorded' r)
     (n : Counts) (said : Says r n) where
-  says : {a : Verified} → verified mode w (length calls) (length recorded) ≡ a → Says a n
-  says is = subst (λ (a : Verified). Says a n) (left.answer ∙ is) said
+  says : {a : Result Verified Fault} → verified mode w (length calls) (length recorded) ≡ a → Says a n
+  says is = subst (λ (a : Result Verified Fault). Says a n) (left.answer ∙ is) said
 
   module _ {d : Design} {reps pairs : ℕ} (is : read_in mode w ≡ accepted d reps pairs)
       (words : length (call_words mode w) ≤ length calls) (marks : total d ≤ length recorded) where
@@ -74,8 +76,8 @@ module _ {mode : ℕ} {w calls recorded calls' recorded' : List ℕ} {r : Verifi
           marks = front recorded' (v.marks mode w) recorded marked (total d) slots;
           formed = ap malformed_at begins ∙ ap place_of (never_malformed mode w is);
           nothing = (
-            λ e. none-asked.0 (sym left.answer ∙ e ∙ ap NothingAsked (sym same)),
-            λ e. left.answer ∙ none-asked.1 e ∙ ap NothingAsked same,
+            λ e. none-asked.0 (sym left.answer ∙ e ∙ ap (λ (c : Counts). Ok (NothingAsked c)) (sym same)),
+            λ e. left.answer ∙ none-asked.1 e ∙ ap (λ (c : Counts). Ok (NothingAsked c)) same,
           );
           required =
               λ no_loop. subst (λ (l : List ℕ). Requirement3 d (decode l)) (sym begins)

@@ -1,24 +1,22 @@
 -- What the functions of the order of work leave, from what they call: a pass from the walk and check; the answer from
 -- two passes; and an accepted list with its table from `slot_table`. Assumes nothing.
 use mathlib.Core.Path.{◌≡◌, refl, sym, ap, subst, ◌∙◌}
-use mathlib.Core.List.{List, [], ◌∷◌, ◌++◌, append-nil}
-use Prim.Native.Nat.{ℕ, zero, suc, ◌+◌, ◌*◌, ◌-◌, ◌≤◌, ◌<◌, ◌^◌}
+use mathlib.Core.List.{List, [], ◌∷◌, ◌++◌}
+use Prim.Native.Nat.{ℕ, zero, suc, ◌+◌, ◌*◌, ◌≤◌, ◌<◌, ◌^◌}
 use native.Mathlib.Omega.{arith}
 use native.Mathlib.Nat.{zero-add, le_of_suc-le-suc}
 use lib.ListN.{length, take, drop, replicate, length-take, length-replicate}
-use lib.Seq.{sets, sets-eq}
+use lib.Seq.{sets-eq}
 use borrow.Author.Tests.{le-ltb}
+use Rattle.std.specs.Prelude.{None, Result, Ok, Err}
 use Rattle.logic.specs.declared.Fault.{Fault}
 use Rattle.cell.specs.declared.Mode.{Mode}
-use Rattle.cell.specs.declared.Chosen.TheVariants.{Unknown}
 use Rattle.cell.specs.Mode.{mode_of, number_of}
 use Rattle.cell.specs.Design.{Design, total}
 use Rattle.engine.specs.Encode.{encode}
 use Rattle.engine.specs.Emit.{overwrite}
 use Rattle.builder.specs.declared.Counts.{Counts}
 use Rattle.design_list.specs.declared.Extent.{Extent}
-use Rattle.design_list.specs.declared.SlotTable.{SlotTable}
-use Rattle.design_list.specs.declared.SlotTable.TheVariants as T
 use Rattle.design_list.specs.Read.{Read, refused, accepted, read, answer}
 use Rattle.design_list.proofs.AcceptedLaws.{accepted-read}
 use Rattle.design_list.specs.Table.{Tabled, table_answer, table_after}
@@ -30,9 +28,7 @@ use Rattle.walk.proofs.Room.{most_low}
 use Rattle.running.specs.declared.Tally.{Tally}
 use Rattle.running.specs.Passes as running
 use Rattle.running.specs.Passes.{nothing}
-use Rattle.requirement.specs.declared.Verified.TheVariants.{Refused}
-use Rattle.requirement.specs.declared.Room.{Room}
-use Rattle.requirement.specs.declared.Room.TheVariants.{Short}
+use Rattle.std.specs.Prelude.{Result, Ok, Err}
 use Rattle.requirement.specs.Verified.{told, told_by, verified, unroomed, over, call_words, marks, written_marks}
 use Rattle.requirement.specs.Verified.{read_in, room_for, in_room, of_design}
 use Rattle.requirement.proofs.AnsweredLaws.{refused_as_read, unroomed-refused, unroomed-accepted, answered}
@@ -125,16 +121,16 @@ module _ {mode : Mode} {w : List ℕ} {x : Extent} {table : List ℕ} (ready : R
   room-is counted = ap (λ (c : Counts). c.words) counted.counts
 
   pub told-unroomed : {p : Tally} → Tallied ready.d p →
-      told_by p.obligations p.counts ≡ unroomed (number_of mode) w
+      Ok (told_by p.obligations p.counts) ≡ unroomed (number_of mode) w
   told-unroomed {p} counted =
-      counted.asked p.counts ∙ ap (told (built ready.d).res) counted.counts
+      ap Ok (counted.asked p.counts ∙ ap (told (built ready.d).res) counted.counts)
       ∙ sym (unroomed-accepted (number_of mode) w numbered)
 
 -- ---- the answer
 
 refuses : (mode : ℕ) (w calls recorded : List ℕ) {e : Fault} →
-    verified mode w (length calls) (length recorded) ≡ Refused e →
-    Verifies mode w calls recorded calls recorded (Refused e)
+    verified mode w (length calls) (length recorded) ≡ Err e →
+    Verifies mode w calls recorded calls recorded (Err e)
 refuses mode w calls recorded h =
     let same = untouched mode w calls recorded h in
     record { answer = sym h; called = sym same.0; marked = sym same.1 }
@@ -144,19 +140,19 @@ module _ {mode : Mode} {w : List ℕ} {x : Extent} {table : List ℕ} (ready : R
   needs_words : words ≡ length (call_words (number_of mode) w)
   needs_words = room ∙ ap length (sym (words_are (number_of mode) w (numbered ready)))
 
-  pub short-room : {place : ℕ} → Short place ≡ room_for words (length calls) (length table) (length recorded) →
-      Verifies (number_of mode) w calls recorded calls recorded (Refused (record { number = 14; place = place }))
+  pub short-room : {place : ℕ} → Err place ≡ room_for words (length calls) (length table) (length recorded) →
+      Verifies (number_of mode) w calls recorded calls recorded (Err (record { number = 14; place = place }))
   short-room short =
       let needed = rw (room, ready.size) at short in
       refuses (number_of mode) w calls recorded
       (roomed_as (number_of mode) w (numbered ready) (length calls) (length recorded)
-      ∙ ap (λ (r : Room). in_room r (of_design ready.d)) (sym needed))
+      ∙ ap (λ (r : Result (Unit {0}) ℕ). in_room r (of_design ready.d)) (sym needed))
 
   pub both_fit : {calls' marks' : List ℕ} {p : Tally} → words ≤ length calls → length table ≤ length recorded →
       length marks' ≡ length table
       → Passes ready.d calls calls' marks' p
       → Verifies (number_of mode) w calls recorded calls' (marks' ++ drop (length table) recorded)
-      (told_by p.obligations p.counts)
+      (Ok (told_by p.obligations p.counts))
   unfolding overwrite marks
   both_fit {calls'} {marks'} {p} enough lent kept passes =
       let need = needs_words in
@@ -169,7 +165,7 @@ module _ {mode : Mode} {w : List ℕ} {x : Extent} {table : List ℕ} (ready : R
       ∙ rw (zero-add (length all)) in
       let marked : marks' ≡ marks (number_of mode) w = passes.marks ∙ sym (ap written_marks is) in
       record {
-        answer = passes.asked p.counts ∙ ap (told (built ready.d).res) passes.counts ∙ sym said;
+        answer = ap Ok (passes.asked p.counts ∙ ap (told (built ready.d).res) passes.counts) ∙ sym said;
         called = wrote ∙ ap (λ (l : List ℕ). over l calls) (sym (words_are (number_of mode) w is)) ∙ sym after.0;
         marked = rw (← kept) (ap (λ (l : List ℕ). over l recorded) marked) ∙ sym after.1;
       }
@@ -182,12 +178,12 @@ record Reads (mode : Mode) (w : List ℕ) (x : Extent) : Type 0 where
   slots : x.base + x.added ≡ total d
   netreps : x.netreps ≡ length d.net_reps
 
-module _ (mode : Mode) (w : List ℕ) {before after : List ℕ} {a : SlotTable} (long : length before ≡ 4096)
+module _ (mode : Mode) (w : List ℕ) {before after : List ℕ} {a : Result Extent Fault} (long : length before ≡ 4096)
     (tabled : Tabled (read mode w) before after a) where
-  reads : {x : Extent} → a ≡ T.Filled x → Reads mode w x
+  reads : {x : Extent} → a ≡ Ok x → Reads mode w x
   reads {x} filled = go (read mode w) refl (sym tabled.same ∙ filled)
     where
-      go : (r : Read) → read mode w ≡ r → table_answer (answer r) (length before) ≡ T.Filled x → Reads mode w x
+      go : (r : Read) → read mode w ≡ r → table_answer (answer r) (length before) ≡ Ok x → Reads mode w x
       go (refused e) is same = let z : ◌≡◌ {A = ℕ} 0 1 = cc in absurd (omega arith)
       go (accepted d reps pairs) is same =
           let low = (accepted-read mode w is).low in
@@ -208,14 +204,14 @@ module _ (mode : Mode) (w : List ℕ) {before after : List ℕ} {a : SlotTable} 
             netreps = rw (← same-x) refl;
           }
 
-  pub slots-low : {x : Extent} → a ≡ T.Filled x → x.base + x.added ≤ 4096
+  pub slots-low : {x : Extent} → a ≡ Ok x → x.base + x.added ≤ 4096
   slots-low filled =
       let known = reads filled in
       let low = (accepted-read mode w known.is).low in
       let same = known.slots in
       omega arith
 
-  pub ready_of : {x : Extent} → a ≡ T.Filled x → length after ≡ 4096 → Ready mode w x (take (x.base + x.added) after)
+  pub ready_of : {x : Extent} → a ≡ Ok x → length after ≡ 4096 → Ready mode w x (take (x.base + x.added) after)
   ready_of {x} filled kept =
       let known = reads filled in
       let low = slots-low filled in
@@ -232,34 +228,34 @@ module _ (mode : Mode) (w : List ℕ) {before after : List ℕ} {a : SlotTable} 
         netreps = known.netreps;
       }
 
-  reads-refused : {e : Fault} → a ≡ T.Refused e → read mode w ≡ refused e
+  reads-refused : {e : Fault} → a ≡ Err e → read mode w ≡ refused e
   reads-refused {e} refuse = go (read mode w) refl (sym tabled.same ∙ refuse)
     where
-      go : (r : Read) → read mode w ≡ r → table_answer (answer r) (length before) ≡ T.Refused e → read mode w ≡ refused e
+      go : (r : Read) → read mode w ≡ r → table_answer (answer r) (length before) ≡ Err e → read mode w ≡ refused e
       go (refused f) is same = let same-e : f ≡ e = cc in rw (← same-e) is
       go (accepted d reps pairs) is same =
           let low = (accepted-read mode w is).low in
           let filled = rw (le-ltb (length before) (total d) (omega arith)) at same in
           let z : ◌≡◌ {A = ℕ} 0 1 = cc in absurd (omega arith)
 
-  pub refused_of : {e : Fault} (calls recorded : List ℕ) → a ≡ T.Refused e →
-      Verifies (number_of mode) w calls recorded calls recorded (Refused e)
+  pub refused_of : {e : Fault} (calls recorded : List ℕ) → a ≡ Err e →
+      Verifies (number_of mode) w calls recorded calls recorded (Err e)
   refused_of calls recorded refuse =
       refuses (number_of mode) w calls recorded
       (refused_as_read (number_of mode) w (read-numbered mode w ∙ reads-refused refuse) (length calls) (length recorded))
 
-  pub refused-unroomed : {e : Fault} → a ≡ T.Refused e → Refused e ≡ unroomed (number_of mode) w
+  pub refused-unroomed : {e : Fault} → a ≡ Err e → Err e ≡ unroomed (number_of mode) w
   refused-unroomed refuse =
       sym (unroomed-refused (number_of mode) w (read-numbered mode w ∙ reads-refused refuse))
 
 -- ---- the mode
 
-module _ (mode : ℕ) (none : mode_of mode ≡ Unknown) where
+module _ (mode : ℕ) (none : mode_of mode ≡ None) where
   pub unknown_verifies : (w calls recorded : List ℕ) →
-      Verifies mode w calls recorded calls recorded (Refused (record { number = 23; place = 0 }))
+      Verifies mode w calls recorded calls recorded (Err (record { number = 23; place = 0 }))
   unknown_verifies w calls recorded =
       refuses mode w calls recorded
       (refused_as_read mode w (mode-unknown mode w none) (length calls) (length recorded))
 
-  pub unknown-unroomed : (w : List ℕ) → Refused (record { number = 23; place = 0 }) ≡ unroomed mode w
+  pub unknown-unroomed : (w : List ℕ) → Err (record { number = 23; place = 0 }) ≡ unroomed mode w
   unknown-unroomed w = sym (unroomed-refused mode w (mode-unknown mode w none))

@@ -1,6 +1,7 @@
 -- Document 01, "Modules", order of work. What the code of the order of work is given and what it leaves: `verify` is to
 -- answer `verified`, and to leave the two slices as it says.
-use Rattle.std.specs.Prelude.{◌≡◌, List, ℕ, ◌*◌, ◌≤◌, length, replicate}
+use Rattle.std.specs.Prelude.{◌≡◌, List, ℕ, ◌*◌, ◌≤◌, length, replicate, Result}
+use Rattle.logic.specs.declared.Fault.{Fault}
 use Rattle.cell.specs.declared.Mode.{Mode}
 use Rattle.cell.specs.Design.{Design, total}
 use Rattle.engine.specs.Encode.{encode}
@@ -43,7 +44,7 @@ pub record Passes (d : Design) (calls calls' marks' : List ℕ) (p : Tally) : Ty
   pub marks : marks' ≡ (built d).st.marks
   pub asked : (n : Counts) → told_by p.obligations n ≡ told (built d).res n
 
-pub record Verifies (mode : ℕ) (w calls recorded calls' recorded' : List ℕ) (r : Verified) : Type 0 where
+pub record Verifies (mode : ℕ) (w calls recorded calls' recorded' : List ℕ) (r : Result Verified Fault) : Type 0 where
   pub answer : r ≡ verified mode w (length calls) (length recorded)
   pub called : calls' ≡ calls_after mode w calls recorded
   pub marked : recorded' ≡ recorded_after mode w calls recorded

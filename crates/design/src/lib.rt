@@ -2,17 +2,16 @@
 // in the calls, the terms that they make, the temporaries that they declare, and the words that they take.
 #![tactic(auto)]
 
-ghost use Rattle.std.specs.Prelude.{◌≡◌, ◌≤◌, length};
+ghost use Rattle.std.specs.Prelude.{◌≡◌, ◌≤◌, length, Err};
 ghost use Rattle.cell.specs.Mode.{number_of};
-ghost use Rattle.requirement.specs.declared.Verified.TheVariants.{Refused};
 ghost use Rattle.requirement.specs.Verified.{told_by, unroomed};
 ghost use Rattle.design.specs.Verifies.{Ready, Blank, Roomy, Tallied, Passes, Verifies};
 
 use builder::Counts;
-use cell::{Chosen, Mode};
-use design_list::{Extent, SlotTable};
+use cell::Mode;
+use design_list::Extent;
 use logic::Fault;
-use requirement::{Room, Verified};
+use requirement::Verified;
 use running::Tally;
 
 // The steps of an accepted list and `check`, from no names and no marks, with room for its obligations' terms.
@@ -82,7 +81,7 @@ fn verify_in(
     names: &mut [u32],
     marks: &mut [u8],
     eqs: &mut [u32],
-) -> Verified
+) -> Result<Verified, Fault>
     requires { Ready mode list.now x table.now × Blank table.now names.old marks.old
         × Roomy mode list.now x table.now (length eqs.old) }
     ensures { Verifies (number_of mode) list.now calls.old recorded.old
@@ -90,15 +89,18 @@ fn verify_in(
 {
     let dry = dry_run(mode, list, x, table, names, marks, eqs);
     let slots = table.len();
-    match requirement::room_for(dry.counts.words, calls.len(), slots, recorded.len()) {
-        Room::Short(place) => Verified::Refused(Fault { number: 14, place }),
-        Room::Enough => {
-            let written = &mut recorded[..slots];
-            stores::clear(written);
-            stores::clear_words(names);
-            told(pass(mode, list, x, table, calls, names, written, eqs))
-        }
+    if let Err(place) = requirement::room_for(
+        dry.counts.words,
+        calls.len(),
+        slots,
+        recorded.len(),
+    ) {
+        return Err(Fault { number: 14, place });
     }
+    let written = &mut recorded[..slots];
+    stores::clear(written);
+    stores::clear_words(names);
+    Ok(told(pass(mode, list, x, table, calls, names, written, eqs)))
 }
 
 // A design of at most 256 slots and 384 net replacements, with tables of its size.
@@ -109,7 +111,7 @@ fn verify_small(
     table: &[u32],
     calls: &mut [u32],
     recorded: &mut [u8],
-) -> Verified
+) -> Result<Verified, Fault>
     requires { Ready mode list.now x table.now × (length table.now ≤ 256) × (x.netreps ≤ 384) }
     ensures { Verifies (number_of mode) list.now calls.old recorded.old
         calls.new recorded.new result }
@@ -140,7 +142,7 @@ fn verify_large(
     table: &[u32],
     calls: &mut [u32],
     recorded: &mut [u8],
-) -> Verified
+) -> Result<Verified, Fault>
     requires { Ready mode list.now x table.now }
     ensures { Verifies (number_of mode) list.now calls.old recorded.old
         calls.new recorded.new result }
@@ -213,7 +215,7 @@ fn verify_read(
     table: &[u32],
     calls: &mut [u32],
     recorded: &mut [u8],
-) -> Verified
+) -> Result<Verified, Fault>
     requires { Ready mode list.now x table.now }
     ensures { Verifies (number_of mode) list.now calls.old recorded.old
         calls.new recorded.new result }
@@ -242,39 +244,36 @@ fn count_read(mode: Mode, list: &[u32], x: Extent, table: &[u32]) -> Tally
 }
 
 // A list in a mode: what `slot_table` refuses is refused.
-fn verify_list(mode: Mode, list: &[u32], calls: &mut [u32], recorded: &mut [u8]) -> Verified
+fn verify_list(
+    mode: Mode,
+    list: &[u32],
+    calls: &mut [u32],
+    recorded: &mut [u8],
+) -> Result<Verified, Fault>
     ensures { Verifies (number_of mode) list.now calls.old recorded.old
         calls.new recorded.new result }
 {
     let mut table = [0u32; 4096];
-    match design_list::slot_table(list, &mut table) {
-        SlotTable::Refused(f) => Verified::Refused(f),
-        SlotTable::Filled(x) => {
-            let slots = x.base + x.added;
-            verify_read(mode, list, x, &table[..slots], calls, recorded)
-        }
-    }
+    let x = design_list::slot_table(list, &mut table)?;
+    let slots = x.base + x.added;
+    verify_read(mode, list, x, &table[..slots], calls, recorded)
 }
 
 // What it counts.
-fn count_list(mode: Mode, list: &[u32]) -> Verified
+fn count_list(mode: Mode, list: &[u32]) -> Result<Verified, Fault>
     ensures { result ≡ unroomed (number_of mode) list.now }
 {
     let mut table = [0u32; 4096];
-    match design_list::slot_table(list, &mut table) {
-        SlotTable::Refused(f) => Verified::Refused(f),
-        SlotTable::Filled(x) => {
-            let slots = x.base + x.added;
-            told(count_read(mode, list, x, &table[..slots]))
-        }
-    }
+    let x = design_list::slot_table(list, &mut table)?;
+    let slots = x.base + x.added;
+    Ok(told(count_read(mode, list, x, &table[..slots])))
 }
 
 // A mode that is none, refused before the list is looked at.
-fn no_mode() -> Verified
-    ensures { result ≡ Refused (record { number = 23; place = 0 }) }
+fn no_mode() -> Result<Verified, Fault>
+    ensures { result ≡ Err (record { number = 23; place = 0 }) }
 {
-    Verified::Refused(Fault {
+    Err(Fault {
         number: 23,
         place: 0,
     })
@@ -282,23 +281,28 @@ fn no_mode() -> Verified
 
 // `Design::verify` of a list of words in a mode, by its number, 0 the ported one: its answer, the call words in the
 // first slice, and the marks of the slots recorded in the second. A refusal leaves both as they were.
-pub fn verify(mode: u32, list: &[u32], calls: &mut [u32], recorded: &mut [u8]) -> Verified
+pub fn verify(
+    mode: u32,
+    list: &[u32],
+    calls: &mut [u32],
+    recorded: &mut [u8],
+) -> Result<Verified, Fault>
     ensures { Verifies mode list.now calls.old recorded.old
         calls.new recorded.new result }
 {
     match cell::mode_of(mode) {
-        Chosen::Unknown => no_mode(),
-        Chosen::Known(known) => verify_list(known, list, calls, recorded),
+        None => no_mode(),
+        Some(known) => verify_list(known, list, calls, recorded),
     }
 }
 
 // What `verify` answers where both slices have room enough, so that a caller can size them first: its counts, and
 // whether anything is asked.
-pub fn counts(mode: u32, list: &[u32]) -> Verified
+pub fn counts(mode: u32, list: &[u32]) -> Result<Verified, Fault>
     ensures { result ≡ unroomed mode list.now }
 {
     match cell::mode_of(mode) {
-        Chosen::Unknown => no_mode(),
-        Chosen::Known(known) => count_list(known, list),
+        None => no_mode(),
+        Some(known) => count_list(known, list),
     }
 }

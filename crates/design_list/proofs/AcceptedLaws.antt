@@ -7,16 +7,14 @@ use native.Mathlib.Omega.{arith}
 use lib.ListN.{length}
 use lib.Dec.{ltb, eqb}
 use borrow.Author.Tests.{ltb-false, eqb-true}
+use Rattle.std.specs.Prelude.{Result, Ok, Err}
+use Rattle.logic.specs.declared.Fault.{Fault}
 use Rattle.cell.specs.Design.{Placed, Design}
 use Rattle.cell.specs.declared.Mode.{Mode}
-use Rattle.fields.specs.declared.Scan.{Scan}
-use Rattle.fields.specs.declared.Scan.TheVariants as S
-use Rattle.fields.specs.Field.{fault, on_scan}
+use Rattle.fields.specs.Field.{fault, on_read}
 use Rattle.items.specs.declared.Header.{Header}
-use Rattle.items.specs.declared.Opening.{Opening}
-use Rattle.items.specs.declared.Opening.TheVariants as O
 use Rattle.placing.specs.Slots.{at_slot, is_void}
-use Rattle.items.specs.Items.{on_opening, header_at, replaces, cell_reps_from, net_reps_from, finish_at}
+use Rattle.items.specs.Items.{header_at, replaces, cell_reps_from, net_reps_from, finish_at}
 use Rattle.placing.specs.Cells.{cells_of}
 use Rattle.voids.specs.Voids.{voids_at}
 use Rattle.design_list.specs.Read.{Read, refused, accepted, read_net_reps, read_cell_reps}
@@ -25,15 +23,15 @@ use Rattle.items.proofs.Laws.{header_read}
 use Rattle.design_list.specs.Accepted.{IsAccepted}
 
 -- A stage was clean, and what follows it was accepted.
-record Onward (s : Scan) (f : ℕ → Read) (d : Design) (replacements pairs : ℕ) : Type 0 where
+record Onward (s : Result ℕ Fault) (f : ℕ → Read) (d : Design) (replacements pairs : ℕ) : Type 0 where
   place : ℕ
-  clean : s ≡ S.Clean place
+  clean : s ≡ Ok place
   rest : f place ≡ accepted d replacements pairs
 
-onward : (s : Scan) (f : ℕ → Read) {d : Design} {replacements pairs : ℕ} →
-    on_scan s refused f ≡ accepted d replacements pairs → Onward s f d replacements pairs
-onward (S.Clean n) f e = record { place = n; clean = refl; rest = e }
-onward (S.Refused g) f e = let z : ◌≡◌ {A = ℕ} 0 1 = cc in absurd (omega arith)
+onward : (s : Result ℕ Fault) (f : ℕ → Read) {d : Design} {replacements pairs : ℕ} →
+    on_read s refused f ≡ accepted d replacements pairs → Onward s f d replacements pairs
+onward (Ok n) f e = record { place = n; clean = refl; rest = e }
+onward (Err g) f e = let z : ◌≡◌ {A = ℕ} 0 1 = cc in absurd (omega arith)
 
 moved :
     (mode : Mode) (w : List ℕ) {d d' : Design} {r r' p p' : ℕ} → accepted d r p ≡ accepted d' r' p' →
@@ -45,17 +43,17 @@ moved mode w {d} {d'} {r} {r'} {p} {p'} e is =
     let same-p : p ≡ p' = cc in
     rw same-p at (rw same-r at (rw same-d at is))
 
-finish_read : (w : List ℕ) (at : ℕ) {next : ℕ} → finish_at w at ≡ S.Clean next → at ≡ length w
+finish_read : (w : List ℕ) (at : ℕ) {next : ℕ} → finish_at w at ≡ Ok next → at ≡ length w
 unfolding finish_at
 finish_read w at {next} e = go (eqb at (length w)) refl e
   where
-    go : (b : Bool) → eqb at (length w) ≡ b → cond b (S.Clean at) (S.Refused (fault 1 at)) ≡ S.Clean next →
+    go : (b : Bool) → eqb at (length w) ≡ b → cond b (Ok at) (Err (fault 1 at)) ≡ Ok next →
         at ≡ length w
     go true b e = eqb-true _ _ b
     go false b e = let z : ◌≡◌ {A = ℕ} 0 1 = cc in absurd (omega arith)
 
 module _ (mode : Mode) (w : List ℕ) (h : Header) (short : length w ≤ 16384) (long : 4 ≤ length w)
-    (head : header_at w ≡ O.Read h) where
+    (head : header_at w ≡ Ok h) where
   cells : List Placed
   cells = (cells_of w h.base (h.base + h.added)).items
 
@@ -116,16 +114,16 @@ unfolding read
 accepted-read mode w {d} {replacements} {pairs} e = go (ltb 16384 (length w)) (ltb (length w) 4) refl refl e
   where
     opened :
-        length w ≤ 16384 → 4 ≤ length w → (o : Opening) → header_at w ≡ o →
-        on_opening o refused (read_cells mode w) ≡ accepted d replacements pairs →
+        length w ≤ 16384 → 4 ≤ length w → (o : Result Header Fault) → header_at w ≡ o →
+        on_read o refused (read_cells mode w) ≡ accepted d replacements pairs →
         IsAccepted mode w d replacements pairs
-    opened short long (O.Refused f) o e = let z : ◌≡◌ {A = ℕ} 0 1 = cc in absurd (omega arith)
-    opened short long (O.Read h) o e = cells-accepted mode w h short long o e
+    opened short long (Err f) o e = let z : ◌≡◌ {A = ℕ} 0 1 = cc in absurd (omega arith)
+    opened short long (Ok h) o e = cells-accepted mode w h short long o e
 
     go :
         (over under : Bool) → ltb 16384 (length w) ≡ over → ltb (length w) 4 ≡ under →
         cond over (refused (fault 4 16384))
-        (cond under (refused (fault 1 (length w))) (on_opening (header_at w) refused (read_cells mode w)))
+        (cond under (refused (fault 1 (length w))) (on_read (header_at w) refused (read_cells mode w)))
         ≡ accepted d replacements pairs → IsAccepted mode w d replacements pairs
     go true under o u e = let z : ◌≡◌ {A = ℕ} 0 1 = cc in absurd (omega arith)
     go false true o u e = let z : ◌≡◌ {A = ℕ} 0 1 = cc in absurd (omega arith)

@@ -9,16 +9,13 @@ use lib.Seq.{sets, sets-eq, take_at}
 use lib.Dec.{ltb}
 use native.Mathlib.Nat.{zero-add}
 use borrow.Author.Tests.{lt-ltb, le-ltb}
+use Rattle.std.specs.Prelude.{Result, Ok, Err}
 use Rattle.logic.specs.declared.Fault.{Fault}
 use Rattle.cell.specs.Design.{Design, total}
 use Rattle.cell.specs.declared.Mode.{Mode}
-use Rattle.fields.specs.declared.Scan.{Scan}
-use Rattle.fields.specs.declared.Scan.TheVariants as S
-use Rattle.fields.specs.Field.{on_scan}
+use Rattle.fields.specs.Field.{on_read}
 use Rattle.items.specs.declared.Header.{Header}
 use Rattle.design_list.specs.declared.Extent.{Extent}
-use Rattle.design_list.specs.declared.DesignRead.TheVariants as D
-use Rattle.design_list.specs.declared.SlotTable.{SlotTable}
 use Rattle.placing.specs.Slots.{covering, at_slot, is_void, mark_of, slot_words}
 use Rattle.items.specs.Items.{replaces, cell_reps_from, net_reps_from, finish_at}
 use Rattle.voids.specs.Voids.{voids_at}
@@ -30,7 +27,7 @@ use Rattle.design_list.proofs.AcceptedLaws.{accepted-read}
 use Rattle.design_list.specs.Table.{table_answer, table_after, Tabled, Stored}
 
 pub tabled :
-    (r : Read) {before after : List ℕ} {a : SlotTable} → a ≡ table_answer (answer r) (length before) → after
+    (r : Read) {before after : List ℕ} {a : Result Extent Fault} → a ≡ table_answer (answer r) (length before) → after
     ≡ table_after r before → Tabled r before after a
 tabled (refused e) same slice = record { same = same; number = rw same; value = rw same; slice = slice }
 tabled (accepted d replacements pairs) {before} {after} {a} same slice = go (ltb (length before) (total d)) refl
@@ -39,11 +36,11 @@ tabled (accepted d replacements pairs) {before} {after} {a} same slice = go (ltb
     go true b = record { same = same; number = rw (same, b); value = rw (same, b); slice = slice }
     go false b = record { same = same; number = rw (same, b); value = rw (same, b); slice = slice }
 
-stored-scan : (t t' : List ℕ) (s : Scan) (f : ℕ → Read) → ((n : ℕ) → Stored (f n) t t') →
-    Stored (on_scan s refused f) t t'
+stored-scan : (t t' : List ℕ) (s : Result ℕ Fault) (f : ℕ → Read) → ((n : ℕ) → Stored (f n) t t') →
+    Stored (on_read s refused f) t t'
 unfolding Stored
-stored-scan t t' (S.Clean n) f same = same n
-stored-scan t t' (S.Refused e) f same = tt
+stored-scan t t' (Ok n) f same = same n
+stored-scan t t' (Err e) f same = tt
 
 pub stored-cells :
     (mode : Mode) (w : List ℕ) (h : Header) (t t' : List ℕ) →
@@ -59,7 +56,7 @@ stored-cells mode w h t t' same =
     (voids_at w (is_void (cells_read w h).items h.base) (length (cells_read w h).items) h.cellreps h.netreps)
     _ (λ _. same)))))
   where
-    reps : ℕ → Scan
+    reps : ℕ → Result ℕ Fault
     reps replacements =
         (cell_reps_from w (h.base + h.added) (replaces (at_slot (cells_read w h).items) h.base) h.cellreps 0
         replacements).scan
@@ -72,7 +69,7 @@ record Accepting (r : Read) (x : Extent) : Type 0 where
   accepts : r ≡ accepted d replacements pairs
   same_total : x.base + x.added ≡ total d
 
-accepting : (r : Read) {x : Extent} → answer r ≡ D.Accepted x → Accepting r x
+accepting : (r : Read) {x : Extent} → answer r ≡ Ok x → Accepting r x
 accepting (refused e) {x} same = let z : ◌≡◌ {A = ℕ} 0 1 = cc in absurd (omega arith)
 accepting (accepted d replacements pairs) {x} same =
     let same-x : record {
@@ -93,11 +90,11 @@ accepting (accepted d replacements pairs) {x} same =
     }
 
 module _ (mode : Mode) (w : List ℕ) where
-  pub table-refused : (out : List ℕ) {e : Fault} → answer (read mode w) ≡ D.Refused e →
+  pub table-refused : (out : List ℕ) {e : Fault} → answer (read mode w) ≡ Err e →
       out ≡ table_after (read mode w) out
   table-refused out {e} same = go (read mode w) same
     where
-      go : (r : Read) → answer r ≡ D.Refused e → out ≡ table_after r out
+      go : (r : Read) → answer r ≡ Err e → out ≡ table_after r out
       go (refused f) s = refl
       go (accepted d a b) s = let z : ◌≡◌ {A = ℕ} 0 1 = cc in absurd (omega arith)
 
@@ -120,7 +117,7 @@ module _ (mode : Mode) (w : List ℕ) where
       rw (front, accepts, le-ltb (length out) (total d) (omega arith), ← same)
       (sets-eq (slot_words d.base d.cells) out 0 (omega arith) ∙ rw (size, zero-add))
 
-  module _ {x : Extent} (same : answer (read mode w) ≡ D.Accepted x) where
+  module _ {x : Extent} (same : answer (read mode w) ≡ Ok x) where
     pub table-low : x.base + x.added ≤ 4096
     table-low =
         let is = accepting (read mode w) same in

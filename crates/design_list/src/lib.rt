@@ -12,10 +12,8 @@ ghost use Rattle.design_list.specs.Read.{read_cells, read, answer, Answered};
 ghost use Rattle.design_list.specs.Answers.{net_reps_answer, cell_reps_answer, cells_read};
 ghost use Rattle.design_list.specs.Table.{Stored, Tabled};
 
-use fields::Scan;
-use items::{Header, Opening};
+use items::Header;
 use logic::Fault;
-use placing::Cells;
 
 // The numbers of an accepted list: its header, how many cells it has, and where its replacements start.
 #[derive(Clone, Copy)]
@@ -29,22 +27,8 @@ pub struct Extent {
     pub pairs: usize,
 }
 
-// An accepted list, or the first fault of a refused one.
-#[derive(Clone, Copy)]
-pub enum DesignRead {
-    Accepted(Extent),
-    Refused(Fault),
-}
-
-// A slice filled with what stands at each slot of an accepted list; or the first fault, 14 last: a slice too short for
-// the slots.
-#[derive(Clone, Copy)]
-pub enum SlotTable {
-    Filled(Extent),
-    Refused(Fault),
-}
-
 // From the net replacements on.
+#[tactic(auto, unfolding(crate::specs::Answers::net_reps_answer))]
 fn read_net_reps(
     list: &[u32],
     table: &[u32],
@@ -52,102 +36,92 @@ fn read_net_reps(
     count: usize,
     replacements: usize,
     pairs: usize,
-) -> DesignRead
+) -> Result<Extent, Fault>
     requires { header.base + header.added ≤ 4096 }
     ensures { result ≡ net_reps_answer list.now (is_void_in table.now header.base)
         header count replacements pairs }
 {
-    match items::net_reps_at(list, header.base + header.added, header.netreps, pairs) {
-        Scan::Refused(f) => DesignRead::Refused(f),
-        Scan::Clean(next) => match items::finish_at(list, next) {
-            Scan::Refused(f) => DesignRead::Refused(f),
-            Scan::Clean(_) => match voids::voids_at(
-                list,
-                table,
-                header.base,
-                count,
-                header.cellreps,
-                header.netreps,
-            ) {
-                Scan::Refused(f) => DesignRead::Refused(f),
-                Scan::Clean(_) => DesignRead::Accepted(Extent {
-                    base: header.base,
-                    added: header.added,
-                    cells: count,
-                    cellreps: header.cellreps,
-                    netreps: header.netreps,
-                    replacements,
-                    pairs,
-                }),
-            },
-        },
-    }
+    let next = items::net_reps_at(list, header.base + header.added, header.netreps, pairs)?;
+    items::finish_at(list, next)?;
+    voids::voids_at(
+        list,
+        table,
+        header.base,
+        count,
+        header.cellreps,
+        header.netreps,
+    )?;
+    Ok(Extent {
+        base: header.base,
+        added: header.added,
+        cells: count,
+        cellreps: header.cellreps,
+        netreps: header.netreps,
+        replacements,
+        pairs,
+    })
 }
 
 // From the cell replacements on.
+#[tactic(auto, unfolding(crate::specs::Answers::cell_reps_answer))]
 fn read_cell_reps(
     list: &[u32],
     table: &[u32],
     header: Header,
     count: usize,
     replacements: usize,
-) -> DesignRead
+) -> Result<Extent, Fault>
     requires { header.base + header.added ≤ 4096 }
     ensures { result ≡ cell_reps_answer list.now (replaces (at_slot_in table.now) header.base)
         (is_void_in table.now header.base) header count replacements }
 {
-    match items::cell_reps_at(
+    let total = header.base + header.added;
+    let pairs = items::cell_reps_at(
         list,
         table,
         header.base,
-        header.base + header.added,
+        total,
         header.cellreps,
         replacements,
-    ) {
-        Scan::Refused(f) => DesignRead::Refused(f),
-        Scan::Clean(pairs) => read_net_reps(list, table, header, count, replacements, pairs),
-    }
+    )?;
+    read_net_reps(list, table, header, count, replacements, pairs)
 }
 
 // From the cells on, with the word for each slot stored in the table.
-fn read_cells(list: &[u32], header: Header, table: &mut [u32]) -> DesignRead
+fn read_cells(list: &[u32], header: Header, table: &mut [u32]) -> Result<Extent, Fault>
     requires { (header.base + header.added ≤ 4096) × (header.base + header.added ≤ length table.old) }
     ensures { ((mode : Mode) → result ≡ answer (read_cells mode list.now header))
         × (table.new ≡ sets table.old 0
         (slot_words header.base (cells_read list.now header).items)) }
 {
-    match placing::cells_at(list, header.base as u16, header.added as u16, table) {
-        Cells::Refused(f) => DesignRead::Refused(f),
-        Cells::Read { count, next } => read_cell_reps(list, table, header, count, next),
-    }
+    let cells = placing::cells_at(list, header.base as u16, header.added as u16, table)?;
+    read_cell_reps(list, table, header, cells.count, cells.next)
 }
 
 // Reads a design list, with the word for each slot of an accepted one stored in the table.
-fn read_into(list: &[u32], table: &mut [u32]) -> DesignRead
+fn read_into(list: &[u32], table: &mut [u32]) -> Result<Extent, Fault>
     requires { 4096 ≤ length table.old }
     ensures { (mode : Mode) → (result ≡ answer (read mode list.now))
         × Stored (read mode list.now) table.old table.new }
 {
     if 16384 < list.len() {
-        return DesignRead::Refused(Fault {
+        return Err(Fault {
             number: 4,
             place: 16384,
         });
     }
     if list.len() < 4 {
-        return DesignRead::Refused(Fault {
+        return Err(Fault {
             number: 1,
             place: list.len(),
         });
     }
-    match items::header_at(list) {
-        Opening::Refused(f) => DesignRead::Refused(f),
-        Opening::Read(header) => read_cells(list, header, table),
-    }
+    let header = items::header_at(list)?;
+    read_cells(list, header, table)
 }
 
 // Reads a design list: the numbers of an accepted one, or the first fault of a refused one; in every mode the same.
-pub fn read_design(list: &[u32]) -> DesignRead
+pub fn read_design(list: &[u32]) -> Result<Extent, Fault>
     ensures { (mode : Mode) → Answered (read mode list.now) result }
 {
     let mut table = [0u32; 4096];
@@ -155,28 +129,26 @@ pub fn read_design(list: &[u32]) -> DesignRead
 }
 
 // Fills the slice by way of the table.
-fn slot_table_by(list: &[u32], out: &mut [u32], table: &mut [u32]) -> SlotTable
+fn slot_table_by(list: &[u32], out: &mut [u32], table: &mut [u32]) -> Result<Extent, Fault>
     requires { 4096 ≤ length table.old }
     ensures { (mode : Mode) →
         Tabled (read mode list.now) out.old out.new result }
 {
-    match read_into(list, table) {
-        DesignRead::Refused(f) => SlotTable::Refused(f),
-        DesignRead::Accepted(extent) => {
-            if out.len() < extent.base + extent.added {
-                return SlotTable::Refused(Fault {
-                    number: 14,
-                    place: extent.base + extent.added,
-                });
-            }
-            stores::copy(out, table, extent.base + extent.added);
-            SlotTable::Filled(extent)
-        }
+    let extent = read_into(list, table)?;
+    let total = extent.base + extent.added;
+    if out.len() < total {
+        return Err(Fault {
+            number: 14,
+            place: total,
+        });
     }
+    stores::copy(out, table, total);
+    Ok(extent)
 }
 
-// What stands at each slot of a design list, as words in a lent slice; in every mode the same.
-pub fn slot_table(list: &[u32], out: &mut [u32]) -> SlotTable
+// What stands at each slot of a design list, as words in a lent slice, with the numbers of an accepted list; or the
+// first fault, 14 last: a slice too short for the slots. In every mode the same.
+pub fn slot_table(list: &[u32], out: &mut [u32]) -> Result<Extent, Fault>
     ensures { (mode : Mode) →
         Tabled (read mode list.now) out.old out.new result }
 {

@@ -142,11 +142,7 @@ fn push(calls: &mut [u32], at: usize, word: u32) -> usize
     ensures { Wrote calls.old at (word ∷ []) calls.new result }
 {
     logic::put(calls, at, word);
-    if at < 18446744073709551615 {
-        at + 1
-    } else {
-        at
-    }
+    at.saturating_add(1)
 }
 
 // Two words.
@@ -181,10 +177,7 @@ fn record3(calls: &mut [u32], at: usize, op: u32, a: u32, b: u32, c: u32) -> usi
 pub fn build_bool_lit(calls: &mut [u32], at: usize, value: bool) -> usize
     ensures { Wrote calls.old at (record_of (c.term (c.bool_lit value))) calls.new result }
 {
-    if value {
-        return record1(calls, at, 0, logic::number_word(1));
-    }
-    record1(calls, at, 0, logic::number_word(0))
+    record1(calls, at, 0, logic::number_word(u32::from(value)))
 }
 
 pub fn build_bool_ite(
@@ -356,10 +349,8 @@ fn term_words(calls: &mut [u32], at: usize, terms: &[u32]) -> usize
     ensures { Wrote calls.old at (map term_word terms.now) calls.new result }
 {
     let mut next = at;
-    let mut i = 0;
-    while i < terms.len() {
-        next = push(calls, next, logic::term_word(Term(terms[i])));
-        i += 1;
+    for term in terms {
+        next = push(calls, next, logic::term_word(Term(*term)));
     }
     next
 }
@@ -382,20 +373,11 @@ fn digit_words(calls: &mut [u32], at: usize, n: u32, value: u64) -> usize
 {
     let mut next = at;
     let mut rest = value;
-    let mut left = n;
-    while 0 < left {
+    for _ in 0..n {
         next = push(calls, next, logic::number_word((rest % 65536) as u32));
-        rest = rest / 65536;
-        left -= 1;
+        rest /= 65536;
     }
     next
-}
-
-// The width of a literal, at most 64.
-fn literal_width(width: u32) -> u32
-    ensures { result ≡ min width 64 }
-{
-    if width < 64 { width } else { 64 }
 }
 
 // A literal of the low bits of a number; a width above 64 counts as 64.
@@ -403,7 +385,7 @@ pub fn build_bitvec_lit(calls: &mut [u32], at: usize, width: u32, value: u64) ->
     ensures { Wrote calls.old
         at (record_of (c.term (c.lit (nat2bv (min width 64) value)))) calls.new result }
 {
-    let bits = literal_width(width);
+    let bits = width.min(64);
     let count = (bits + 15) / 16;
     let next = push2(
         calls,

@@ -1,4 +1,3 @@
-pub mod Answers
 pub mod AssignedLaws
 pub mod Evaluating
 pub mod RecordLaws

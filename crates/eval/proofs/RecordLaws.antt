@@ -2,7 +2,7 @@
 use mathlib.Core.Path.{◌≡◌, refl, sym, ap, ◌∙◌, subst}
 use mathlib.Core.Bool.{true, cond}
 use mathlib.Core.List.{List, [], ◌∷◌, map}
-use mathlib.Core.Option.{none}
+use Rattle.std.specs.Prelude.{None}
 use Prim.Native.Nat.{ℕ, zero, suc, ◌+◌, ◌-◌, ◌^◌, ◌≤◌, ◌<◌}
 use native.Mathlib.Nat.{add-zero}
 use native.Mathlib.Numerals.{add-one}
@@ -101,7 +101,7 @@ pub record EvaluatedTo (gap : ℕ) (w bits slice₀ table places slice recent : 
   pub ring : Recent (length table) recent context.sorts
   pub enough : length w - done.at ≤ fuel
   pub rest : read_from fuel w done.at context ≡ well_formed leaving
-  pub fits : bits_fault done.terms (calls_from fuel w done.at) (drop done.declared bits) ≡ none
+  pub fits : bits_fault done.terms (calls_from fuel w done.at) (drop done.declared bits) ≡ None
   pub few-terms : done.terms ≤ done.at
   pub few-names : done.declared ≤ done.at
   pub few_falses : falses ≤ done.at
@@ -135,7 +135,7 @@ module _ {gap : ℕ} {w bits slice₀ table places slice recent : List ℕ} {don
           (calls_from fuel w done.at)
           done.terms falses k.context
           → read_from fuel w done.at k.context ≡ well_formed k.leaving
-          → bits_fault done.terms (calls_from fuel w done.at) (drop done.declared bits) ≡ none
+          → bits_fault done.terms (calls_from fuel w done.at) (drop done.declared bits) ≡ None
           → EvaluatedTo gap w bits slice₀ table places
           (values_next sort slice w done.terms (get_or bits done.declared 0) done.at)
           (note_recent sort table recent w done.at done.terms)

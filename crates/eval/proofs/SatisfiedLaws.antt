@@ -2,7 +2,7 @@
 use mathlib.Core.Path.{◌≡◌, refl, sym, ap, ◌∙◌, subst}
 use mathlib.Core.Bool.{Bool, true, false, cond, true≢false}
 use mathlib.Core.List.{List, [], ◌∷◌, ◌++◌}
-use mathlib.Core.Option.{Option, none, some}
+use Rattle.std.specs.Prelude.{Option, Some, None, Ok}
 use Prim.Native.Nat.{ℕ, suc, ◌+◌, ◌^◌, ◌≤◌, ◌<◌}
 use native.Mathlib.Omega.{arith}
 use lib.ListN.{length, get_or-append}
@@ -21,7 +21,6 @@ use Rattle.engine.specs.Encode.{decode}
 use Rattle.engine.specs.WellFormed.{Outcome, well_formed, malformed, outcome}
 use Rattle.engine.proofs.ReadBack.{decode-formed}
 use Rattle.bits_given.specs.Given.{bits_fault}
-use Rattle.eval.specs.declared.Evaluation.TheVariants.{Evaluated}
 use Rattle.term_values.specs.Values.{value_number}
 use Rattle.eval.specs.Evaluated.{assigned, false_assertions, term_values, refused, on_bits, with_room}
 use Rattle.eval.specs.Evaluated.{judged, answer}
@@ -92,28 +91,28 @@ record Counted (w given : List ℕ) (n : ℕ) : Type 0 where
   formed : outcome w ≡ well_formed leaving
   count : false_assertions (value_at (term_values w given)) (decode w) ≡ n
 
-counted : (w given : List ℕ) (room n : ℕ) → answer w given room ≡ Evaluated n → Counted w given n
+counted : (w given : List ℕ) (room n : ℕ) → answer w given room ≡ Ok n → Counted w given n
 counted w given room n = go (outcome w) refl
   where
-    never : {A : Type 0} (number place : ℕ) → refused number place ≡ Evaluated n → A
+    never : {A : Type 0} (number place : ℕ) → refused number place ≡ Ok n → A
     never number place e = let z : ◌≡◌ {A = ℕ} 0 1 = cc in absurd (omega arith)
 
     roomy : (x : Context) → outcome w ≡ well_formed x → (o : Option ℕ) (b : Bool)
         → on_bits o
-        (with_room b (Evaluated (false_assertions (value_at (term_values w given)) (decode w))) (refused 20 room))
-        ≡ Evaluated n
+        (with_room b (Ok (false_assertions (value_at (term_values w given)) (decode w))) (refused 20 room))
+        ≡ Ok n
         → Counted w given n
-    roomy x is none true e = record { leaving = x; formed = is; count = cc }
-    roomy x is none false e = never 20 room e
-    roomy x is (some k) b e = never 20 k e
+    roomy x is None true e = record { leaving = x; formed = is; count = cc }
+    roomy x is None false e = never 20 room e
+    roomy x is (Some k) b e = never 20 k e
 
-    go : (o : Outcome) → outcome w ≡ o → judged o w given room ≡ Evaluated n → Counted w given n
+    go : (o : Outcome) → outcome w ≡ o → judged o w given room ≡ Ok n → Counted w given n
     go (malformed at) is e = never 19 at e
     go (well_formed x) is e = roomy x is (bits_fault 0 (decode w) given) (leb (length x.sorts) room) e
 
 -- The evaluator counts no false assertion exactly if the assignment that gives the declared names these bits satisfies
 -- the list.
-pub evaluated_sat : (w given : List ℕ) (room n : ℕ) → answer w given room ≡ Evaluated n
+pub evaluated_sat : (w given : List ℕ) (room n : ℕ) → answer w given room ≡ Ok n
     → (n ≡ 0 → Sat (assigned (decode w) given) (decode w)) × (Sat (assigned (decode w) given) (decode w) → n ≡ 0)
 evaluated_sat w given room n e =
     let is = counted w given room n e in
@@ -129,7 +128,7 @@ evaluated_sat w given room n e =
     )
 
 -- They fit the declared widths, and give the names what the assignment does.
-bits_fit : (ρ : Assignment) (cs : List Call) (k : ℕ) → Fits ρ cs → bits_fault k cs (bits_of ρ cs) ≡ none
+bits_fit : (ρ : Assignment) (cs : List Call) (k : ℕ) → Fits ρ cs → bits_fault k cs (bits_of ρ cs) ≡ None
 unfolding bits_fault bits_of
 bits_fit ρ [] k f = refl
 bits_fit ρ (c.term t ∷ cs) k f = bits_fit ρ cs (suc k) f
@@ -160,7 +159,7 @@ run-same ρ σ (c.check ∷ cs) given l g h = run-same ρ σ cs given l g h
 -- An assignment that satisfies a well-formed list has bits under which the evaluator, given room, counts no false
 -- assertion.
 pub sat_evaluated : (w : List ℕ) (y : Context) (ρ : Assignment) (room : ℕ) → outcome w ≡ well_formed y → Sat ρ (decode w)
-    → length y.sorts ≤ room → answer w (bits_of ρ (decode w)) room ≡ Evaluated 0
+    → length y.sorts ≤ room → answer w (bits_of ρ (decode w)) room ≡ Ok 0
 sat_evaluated w y ρ room is sat enough =
     let formed = (decode-formed w y is).formed in
     let given = bits_of ρ (decode w) in
@@ -168,4 +167,4 @@ sat_evaluated w y ρ room is sat enough =
     run-same (assigned (decode w) given) ρ (decode w) given [] (assigned_gives start (decode w) formed given)
     (bits_give ρ (decode w) sat.0) in
     rw (is, bits_fit ρ (decode w) 0 sat.0, le-leb (length y.sorts) room enough, same)
-    (ap Evaluated (all_true (value_at (run ρ [] (decode w))) (decode w) sat.1))
+    (ap Ok (all_true (value_at (run ρ [] (decode w))) (decode w) sat.1))

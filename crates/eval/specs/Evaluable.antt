@@ -1,6 +1,5 @@
 -- Document 01, "Examples": the evaluator. What evaluating record by record asks of a list, its bits and its tables.
-use Rattle.std.specs.Prelude.{◌≡◌, List, ℕ, ◌≤◌, length}
-use Rattle.std.proofs.Math.Option.{none}
+use Rattle.std.specs.Prelude.{◌≡◌, List, ℕ, ◌≤◌, length, None}
 use Rattle.engine.specs.Sorts.{Context}
 use Rattle.engine.specs.Encode.{decode}
 use Rattle.engine.specs.WellFormed.{well_formed, outcome}
@@ -12,7 +11,7 @@ use Rattle.bits_given.specs.Given.{bits_fault}
 pub record Evaluable (gap : ℕ) (w bits slice table places : List ℕ) : Type 0 where
   pub leaving : Context
   pub formed : outcome w ≡ well_formed leaving
-  pub fits : bits_fault 0 (decode w) bits ≡ none
+  pub fits : bits_fault 0 (decode w) bits ≡ None
   pub room : length leaving.sorts ≤ length slice
   pub tabled : Tabled table leaving.sorts
   pub spaced : Spaced w places gap (length leaving.sorts)

@@ -1,90 +1,57 @@
 // The fields of a record of the design list: what stands at a place, or the first fault met there.
 #![tactic(auto)]
 
-ghost use Rattle.std.specs.Prelude.{◌≡◌, false};
+ghost use Rattle.std.specs.Prelude.{◌≡◌, false, ℕ, Result};
+ghost use Rattle.logic.specs.declared.Fault.{Fault};
 ghost use Rattle.fields.specs.Field.{number_at, is_constant, is_known, most_kind, net_at, bit_at, constant_at};
-ghost use Rattle.fields.specs.Field.{nets_at, constants_at, ends_at};
+ghost use Rattle.fields.specs.Field.{scan_many, nets_at, constants_at, ends_at};
 ghost use Rattle.fields.specs.Pattern.{patterns_at};
 ghost use Rattle.fields.specs.Head.{record_of, head_at};
 
-use cell::{Decoded, Operation};
+use cell::Operation;
 use logic::{Driver, Fault, Net};
 
-// A number with the next place, or the fault met.
+// The head of a record: its operation, its first field and where it ends.
 #[derive(Clone, Copy)]
-pub enum Number {
-    Value { n: u32, next: usize },
-    Refused(Fault),
+pub struct Head {
+    pub op: Operation,
+    pub first: usize,
+    pub end: usize,
 }
 
-// The place after what was scanned, or the fault met.
-#[derive(Clone, Copy)]
-pub enum Scan {
-    Clean(usize),
-    Refused(Fault),
-}
-
-// What stands where only a constant may stand: one, with the next place; another net; or the fault met.
-#[derive(Clone, Copy)]
-pub enum Bit {
-    Constant(usize),
-    Other,
-    Refused(Fault),
-}
-
-// The head of a record: its operation, its first field and where it ends; or the fault met.
-#[derive(Clone, Copy)]
-pub enum Head {
-    Record {
-        op: Operation,
-        first: usize,
-        end: usize,
-    },
-    Refused(Fault),
-}
-
-// The number at a place of a record.
-pub fn number_at(list: &[u32], bound: u32, end: usize, at: usize) -> Number
+// The number at a place of a record, with the next place.
+#[tactic(auto, unfolding(crate::specs::Field::number_at))]
+pub fn number_at(list: &[u32], bound: u32, end: usize, at: usize) -> Result<(u32, usize), Fault>
     ensures { result ≡ number_at list.now bound end at }
 {
-    if at < end {
-        let word = logic::word_at(list, at);
-        if logic::kind(word) == 3 {
-            let payload = logic::payload(word);
-            if payload <= bound {
-                Number::Value {
-                    n: payload,
-                    next: at + 1,
-                }
-            } else {
-                Number::Refused(Fault {
-                    number: 4,
-                    place: at,
-                })
-            }
-        } else {
-            Number::Refused(Fault {
-                number: 2,
-                place: at,
-            })
-        }
-    } else {
-        Number::Refused(Fault {
+    if end <= at {
+        return Err(Fault {
             number: 5,
             place: at,
-        })
+        });
     }
+    let word = logic::word_at(list, at);
+    if logic::kind(word) != 3 {
+        return Err(Fault {
+            number: 2,
+            place: at,
+        });
+    }
+    let payload = logic::payload(word);
+    if bound < payload {
+        return Err(Fault {
+            number: 4,
+            place: at,
+        });
+    }
+    Ok((payload, at + 1))
 }
 
 // Whether a net is a constant.
 pub fn is_constant(net: Net) -> bool
     ensures { result ≡ is_constant net.0 }
 {
-    match logic::driver_of(net) {
-        Driver::Constant(_) => true,
-        Driver::Output(_) => false,
-        Driver::NoNet => false,
-    }
+    matches!(logic::driver_of(net), Driver::Constant(_))
 }
 
 // Whether a net is a constant or that of a slot below the total.
@@ -105,80 +72,100 @@ fn most_kind(control: bool) -> u32
     if control { 1 } else { 0 }
 }
 
-// A net at a place of a record; a control may be inverted.
-pub fn net_at(list: &[u32], total: usize, control: bool, end: usize, at: usize) -> Scan
+// A net at a place of a record; a control may be inverted. It answers the next place.
+#[tactic(auto, unfolding(crate::specs::Field::net_at))]
+pub fn net_at(
+    list: &[u32],
+    total: usize,
+    control: bool,
+    end: usize,
+    at: usize,
+) -> Result<usize, Fault>
     ensures { result ≡ net_at list.now total control end at }
 {
-    if at < end {
-        let word = logic::word_at(list, at);
-        if logic::kind(word) <= most_kind(control) {
-            if is_known(total, Net(logic::payload(word))) {
-                Scan::Clean(at + 1)
-            } else {
-                Scan::Refused(Fault {
-                    number: 6,
-                    place: at,
-                })
-            }
-        } else {
-            Scan::Refused(Fault {
-                number: 2,
-                place: at,
-            })
-        }
-    } else {
-        Scan::Refused(Fault {
+    if end <= at {
+        return Err(Fault {
             number: 5,
             place: at,
-        })
+        });
     }
+    let word = logic::word_at(list, at);
+    if most_kind(control) < logic::kind(word) {
+        return Err(Fault {
+            number: 2,
+            place: at,
+        });
+    }
+    if !is_known(total, Net(logic::payload(word))) {
+        return Err(Fault {
+            number: 6,
+            place: at,
+        });
+    }
+    Ok(at + 1)
 }
 
 // A net that is no control.
-pub fn plain_net_at(list: &[u32], total: usize, end: usize, at: usize) -> Scan
+pub fn plain_net_at(list: &[u32], total: usize, end: usize, at: usize) -> Result<usize, Fault>
     ensures { result ≡ net_at list.now total false end at }
 {
     net_at(list, total, false, end, at)
 }
 
-// A word of a record where only a constant may stand.
-pub fn bit_at(list: &[u32], end: usize, at: usize) -> Bit
+// A word of a record where only a constant may stand: the place after a constant, or none where another net stands.
+#[tactic(auto, unfolding(crate::specs::Field::bit_at))]
+pub fn bit_at(list: &[u32], end: usize, at: usize) -> Result<Option<usize>, Fault>
     ensures { result ≡ bit_at list.now end at }
 {
-    if at < end {
-        let word = logic::word_at(list, at);
-        if logic::kind(word) == 0 {
-            if is_constant(Net(logic::payload(word))) {
-                Bit::Constant(at + 1)
-            } else {
-                Bit::Other
-            }
-        } else {
-            Bit::Refused(Fault {
-                number: 2,
-                place: at,
-            })
-        }
-    } else {
-        Bit::Refused(Fault {
+    if end <= at {
+        return Err(Fault {
             number: 5,
             place: at,
-        })
+        });
+    }
+    let word = logic::word_at(list, at);
+    if logic::kind(word) != 0 {
+        return Err(Fault {
+            number: 2,
+            place: at,
+        });
+    }
+    if is_constant(Net(logic::payload(word))) {
+        Ok(Some(at + 1))
+    } else {
+        Ok(None)
     }
 }
 
 // A constant at a place of a record.
-pub fn constant_at(list: &[u32], end: usize, at: usize) -> Scan
+#[tactic(auto, unfolding(crate::specs::Field::constant_at))]
+pub fn constant_at(list: &[u32], end: usize, at: usize) -> Result<usize, Fault>
     ensures { result ≡ constant_at list.now end at }
 {
-    match bit_at(list, end, at) {
-        Bit::Constant(next) => Scan::Clean(next),
-        Bit::Other => Scan::Refused(Fault {
+    match bit_at(list, end, at)? {
+        Some(next) => Ok(next),
+        None => Err(Fault {
             number: 8,
             place: at,
         }),
-        Bit::Refused(f) => Scan::Refused(f),
     }
+}
+
+// A step taken n times, from place to place, up to the first fault.
+pub fn many<F: Fn(usize) -> Result<usize, Fault>>(
+    step: F,
+    n: usize,
+    start: usize,
+) -> Result<usize, Fault>
+    requires { F.IsAlwaysCallable step }
+    ensures { (f : ℕ → Result ℕ Fault) → ((at : ℕ) (r : Result ℕ Fault) → F.post step at r → r ≡ f at)
+        → result ≡ scan_many f n start }
+{
+    let mut at = start;
+    for _ in 0..n {
+        at = step(at)?;
+    }
+    Ok(at)
 }
 
 // A run of n nets, or of n controls.
@@ -189,99 +176,65 @@ pub fn nets_at(
     end: usize,
     n: usize,
     start: usize,
-) -> Scan
+) -> Result<usize, Fault>
     ensures { result ≡ nets_at list.now total control end n start }
 {
-    let mut at = start;
-    let mut left = n;
-    while 0 < left {
-        match net_at(list, total, control, end, at) {
-            Scan::Refused(f) => {
-                return Scan::Refused(f);
-            }
-            Scan::Clean(next) => {
-                at = next;
-                left -= 1;
-            }
-        }
-    }
-    Scan::Clean(at)
+    many(|at| net_at(list, total, control, end, at), n, start)
 }
 
 // A run of n constants.
-pub fn constants_at(list: &[u32], end: usize, n: usize, start: usize) -> Scan
+pub fn constants_at(list: &[u32], end: usize, n: usize, start: usize) -> Result<usize, Fault>
     ensures { result ≡ constants_at list.now end n start }
 {
-    let mut at = start;
-    let mut left = n;
-    while 0 < left {
-        match constant_at(list, end, at) {
-            Scan::Refused(f) => {
-                return Scan::Refused(f);
-            }
-            Scan::Clean(next) => {
-                at = next;
-                left -= 1;
-            }
-        }
-    }
-    Scan::Clean(at)
+    many(|at| constant_at(list, end, at), n, start)
 }
 
 // The k patterns of a Match of n nets. The first word of the first alternate that is no constant leaves all three
 // loops.
-pub fn patterns_at(list: &[u32], n: usize, end: usize, k: usize, start: usize) -> Scan
+#[tactic(auto, using(crate::proofs::Laws::pattern_steps))]
+pub fn patterns_at(
+    list: &[u32],
+    n: usize,
+    end: usize,
+    k: usize,
+    start: usize,
+) -> Result<usize, Fault>
     ensures { result ≡ patterns_at list.now n end k start }
 {
     let mut at = start;
     let mut pattern = k;
     let place = 'patterns: loop {
         if pattern == 0 {
-            return Scan::Clean(at);
+            return Ok(at);
         }
-        match number_at(list, 64, end, at) {
-            Number::Refused(f) => {
-                return Scan::Refused(f);
+        let (alternates, first) = number_at(list, 64, end, at)?;
+        at = first;
+        let mut alternate = alternates;
+        while 0 < alternate {
+            let mut word = n;
+            while 0 < word {
+                let Some(next) = bit_at(list, end, at)? else {
+                    break 'patterns at;
+                };
+                at = next;
+                word -= 1;
             }
-            Number::Value {
-                n: alternates,
-                next: first,
-            } => {
-                at = first;
-                let mut alternate = alternates;
-                while 0 < alternate {
-                    let mut word = n;
-                    while 0 < word {
-                        match bit_at(list, end, at) {
-                            Bit::Refused(f) => {
-                                return Scan::Refused(f);
-                            }
-                            Bit::Other => {
-                                break 'patterns at;
-                            }
-                            Bit::Constant(next) => {
-                                at = next;
-                                word -= 1;
-                            }
-                        }
-                    }
-                    alternate -= 1;
-                }
-                pattern -= 1;
-            }
+            alternate -= 1;
         }
+        pattern -= 1;
     };
-    Scan::Refused(Fault { number: 8, place })
+    Err(Fault { number: 8, place })
 }
 
 // Whether the fields end where the head's count says.
-pub fn ends_at(end: usize, next: usize) -> Scan
+#[tactic(auto, unfolding(crate::specs::Field::ends_at))]
+pub fn ends_at(end: usize, next: usize) -> Result<usize, Fault>
     ensures { result ≡ ends_at end next }
 {
     if next == end {
-        Scan::Clean(end)
+        Ok(end)
     } else {
-        Scan::Refused(Fault {
+        Err(Fault {
             number: 5,
             place: next,
         })
@@ -289,50 +242,49 @@ pub fn ends_at(end: usize, next: usize) -> Scan
 }
 
 // A record's operation and end, where its count keeps it in the list.
-pub fn record_of(op: Operation, count: u32, len: usize, at: usize) -> Head
+#[tactic(auto, unfolding(crate::specs::Head::record_of))]
+pub fn record_of(op: Operation, count: u32, len: usize, at: usize) -> Result<Head, Fault>
     ensures { result ≡ record_of op count len at }
 {
     let words = count as usize;
-    if at < len {
-        if words <= len - (at + 1) {
-            return Head::Record {
-                op,
-                first: at + 1,
-                end: at + 1 + words,
-            };
-        }
+    if at < len && words <= len - (at + 1) {
+        Ok(Head {
+            op,
+            first: at + 1,
+            end: at + 1 + words,
+        })
+    } else {
+        Err(Fault {
+            number: 1,
+            place: len,
+        })
     }
-    Head::Refused(Fault {
-        number: 1,
-        place: len,
-    })
 }
 
 // The head of the record at a place.
-pub fn head_at(list: &[u32], at: usize) -> Head
+#[tactic(auto, unfolding(crate::specs::Head::head_at))]
+pub fn head_at(list: &[u32], at: usize) -> Result<Head, Fault>
     ensures { result ≡ head_at list.now at }
 {
-    if at < list.len() {
-        let word = list[at];
-        if logic::kind(word) == 2 {
-            let payload = logic::payload(word);
-            match cell::operation_of(payload % 32) {
-                Decoded::Unknown => Head::Refused(Fault {
-                    number: 3,
-                    place: at,
-                }),
-                Decoded::Known(op) => record_of(op, payload / 32, list.len(), at),
-            }
-        } else {
-            Head::Refused(Fault {
-                number: 2,
-                place: at,
-            })
-        }
-    } else {
-        Head::Refused(Fault {
+    if list.len() <= at {
+        return Err(Fault {
             number: 1,
             place: list.len(),
-        })
+        });
+    }
+    let word = list[at];
+    if logic::kind(word) != 2 {
+        return Err(Fault {
+            number: 2,
+            place: at,
+        });
+    }
+    let payload = logic::payload(word);
+    match cell::operation_of(payload % 32) {
+        Some(op) => record_of(op, payload / 32, list.len(), at),
+        None => Err(Fault {
+            number: 3,
+            place: at,
+        }),
     }
 }

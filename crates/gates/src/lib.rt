@@ -35,12 +35,12 @@ fn undecided(
         some_x.term,
         neither.term,
     );
-    let xt = x.term;
-    let yt = y.term;
-    let counts = x.counts;
     BuiltTrits {
-        value: TritVec { x: xt, y: yt },
-        counts,
+        value: TritVec {
+            x: x.term,
+            y: y.term,
+        },
+        counts: x.counts,
     }
 }
 
@@ -102,12 +102,12 @@ pub fn tv_xor(calls: &mut [u32], c: Counts, a: TritVec, b: TritVec) -> BuiltTrit
 {
     let y = builder::build_binary(calls, c, BinaryOp::Xor, a.y, b.y);
     let x = builder::build_binary(calls, y.counts, BinaryOp::Or, a.x, b.x);
-    let xt = x.term;
-    let yt = y.term;
-    let counts = x.counts;
     BuiltTrits {
-        value: TritVec { x: xt, y: yt },
-        counts,
+        value: TritVec {
+            x: x.term,
+            y: y.term,
+        },
+        counts: x.counts,
     }
 }
 

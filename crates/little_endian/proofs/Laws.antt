@@ -1,7 +1,7 @@
 -- Laws of the words of an input.
-use mathlib.Core.Path.{◌≡◌, refl, sym, ap, ◌∙◌}
+use mathlib.Core.Path.{◌≡◌, refl, ap, ◌∙◌}
 use mathlib.Core.Bool.{Bool, true, false, cond}
-use mathlib.Core.List.{List, []}
+use mathlib.Core.List.{List}
 use Prim.Native.Nat.{ℕ, zero, suc, ◌+◌, ◌/◌, ◌%◌, ◌<◌, ◌≤◌}
 use native.Mathlib.Omega.{arith}
 use native.Mathlib.Numerals.{add-one}
@@ -11,7 +11,7 @@ use lib.Dec.{ltb, eqb}
 use borrow.Author.Tests.{lt-ltb, le-ltb, ltb-false, eq-eqb, ne_eqb}
 use Rattle.logic.specs.declared.Fault.{Fault}
 use Rattle.stores.proofs.Laws.{sets_append}
-use Rattle.little_endian.specs.declared.Input.TheVariants.{Words, Refused}
+use Rattle.std.specs.Prelude.{Result, Ok, Err}
 use Rattle.little_endian.specs.Words.{word_at, first_words, words_of, input_of, words_after}
 
 pub length-first : (bytes : List ℕ) (n : ℕ) → length (first_words bytes n) ≡ n
@@ -35,27 +35,28 @@ words_turn bytes words i =
 -- ---- the input's own faults
 
 module _ (bytes : List ℕ) where
-  pub too_long : 65536 < length bytes → Refused (record { number = 4; place = 16384 }) ≡ input_of bytes
+  pub too_long : 65536 < length bytes → Err (record { number = 4; place = 16384 }) ≡ input_of bytes
   unfolding input_of
   too_long long = rw (lt-ltb 65536 (length bytes) long)
 
   pub broken_word : length bytes ≤ 65536 → (length bytes % 4 ≡ 0 → ⊥)
-      → Refused (record { number = 1; place = length bytes / 4 }) ≡ input_of bytes
+      → Err (record { number = 1; place = length bytes / 4 }) ≡ input_of bytes
   unfolding input_of
   broken_word short broken = rw (le-ltb 65536 (length bytes) short, ne_eqb _ _ broken)
 
-  pub whole_words : length bytes ≤ 65536 → length bytes % 4 ≡ 0 → Words (length bytes / 4) ≡ input_of bytes
+  pub whole_words : length bytes ≤ 65536 → length bytes % 4 ≡ 0 → Ok (length bytes / 4) ≡ input_of bytes
   unfolding input_of
   whole_words short whole = rw (le-ltb 65536 (length bytes) short, eq-eqb _ _ whole)
 
   -- An input that has words has at most 16,384, and this many.
-  pub input-fits : {n : ℕ} → Words n ≡ input_of bytes → (length (words_of bytes) ≡ n) × (n ≤ 16384)
+  pub input-fits : {n : ℕ} → Ok n ≡ input_of bytes → (length (words_of bytes) ≡ n) × (n ≤ 16384)
   unfolding input_of
   input-fits {n} is = go (ltb 65536 (length bytes)) (eqb (length bytes % 4) 0) refl is
     where
       go : (long whole : Bool) → ltb 65536 (length bytes) ≡ long
-          → Words n ≡ cond long (Refused (record { number = 4; place = 16384 }))
-          (cond whole (Words (length bytes / 4)) (Refused (record { number = 1; place = length bytes / 4 })))
+          → ◌≡◌ {A = Result ℕ Fault} (Ok n)
+          (cond long (Err (record { number = 4; place = 16384 }))
+          (cond whole (Ok (length bytes / 4)) (Err (record { number = 1; place = length bytes / 4 }))))
           → (length (words_of bytes) ≡ n) × (n ≤ 16384)
       go true whole e is = let z : ◌≡◌ {A = ℕ} 0 1 = cc in absurd (omega arith)
       go false false e is = let z : ◌≡◌ {A = ℕ} 0 1 = cc in absurd (omega arith)
@@ -67,16 +68,8 @@ module _ (bytes : List ℕ) where
 
   -- ---- what the slice holds after it
 
-  pub untouched : {e : Fault} (words : List ℕ) → Refused e ≡ input_of bytes
-      → (Refused e ≡ input_of bytes) × (words ≡ words_after bytes words)
-  untouched words is = (is, rw (← is))
-
-  pub stored-words : {n : ℕ} (words : List ℕ) {after : List ℕ} → Words n ≡ input_of bytes
-      → after ≡ sets words 0 (words_of bytes) → (Words n ≡ input_of bytes) × (after ≡ words_after bytes words)
-  stored-words words is stored = (is, rw (← is) stored)
-
   -- With room for 16,384 words, those that were stored are the input's.
-  pub words-read : {n : ℕ} (words : List ℕ) {after : List ℕ} → 16384 ≤ length words → Words n ≡ input_of bytes
+  pub words-read : {n : ℕ} (words : List ℕ) {after : List ℕ} → 16384 ≤ length words → Ok n ≡ input_of bytes
       → after ≡ words_after bytes words → (n ≤ length after) × (take n after ≡ words_of bytes)
   words-read {n} words {after} long is stored =
       let fit = input-fits is in

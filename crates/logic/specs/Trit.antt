@@ -1,10 +1,8 @@
 -- Document 01, "Modules": a trit is 0, 1 or X. The builder holds it as two bits, x (is it undefined?) and y (if not, is
 -- it one?).
-use Rattle.std.specs.Prelude.{Bool, true, false, ℕ}
+use Rattle.std.specs.Prelude.{Bool, true, false, Option, Some, None, ℕ}
 use Rattle.logic.specs.declared.Trit.{Trit}
 use Rattle.logic.specs.declared.Trit.TheVariants.{Zero, One, Undef}
-use Rattle.logic.specs.declared.Readback.{Readback}
-use Rattle.logic.specs.declared.Readback.TheVariants.{Shown, Absent}
 
 -- The number by which a trit is written: 0, 1, 2 (X).
 abbrev pub trit_number : Trit → ℕ
@@ -13,9 +11,9 @@ trit_number One = 1
 trit_number Undef = 2
 
 -- The number of a readback: its trit's, or 3 (not recorded).
-abbrev pub readback_number : Readback → ℕ
-readback_number (Shown t) = trit_number t
-readback_number Absent = 3
+abbrev pub readback_number : Option Trit → ℕ
+readback_number (Some t) = trit_number t
+readback_number None = 3
 
 -- The trit that two bits show: X where x is 1, whatever y is; else y.
 abbrev pub shows : Bool → Bool → Trit

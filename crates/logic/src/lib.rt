@@ -20,13 +20,6 @@ pub enum Trit {
     Undef,
 }
 
-// What a readback has for a slot: the trit that it shows, or nothing recorded.
-#[derive(Clone, Copy)]
-pub enum Readback {
-    Shown(Trit),
-    Absent,
-}
-
 // A slot number: which output bit of the design's cells.
 #[derive(Clone, Copy)]
 pub struct Slot(pub u32);
@@ -65,13 +58,13 @@ pub fn trit_number(trit: Trit) -> u8
     }
 }
 
-// The number by which a readback is written: 3 where nothing was recorded.
-pub fn readback_number(readback: Readback) -> u8
+// The number by which a readback is written: that of the trit that it shows, or 3 where nothing was recorded.
+pub fn readback_number(readback: Option<Trit>) -> u8
     ensures { result ≡ readback_number readback }
 {
     match readback {
-        Readback::Shown(trit) => trit_number(trit),
-        Readback::Absent => 3,
+        Some(trit) => trit_number(trit),
+        None => 3,
     }
 }
 

@@ -19,10 +19,8 @@ fn put_slots(line: &mut [u8], start: usize, slots: &[u32]) -> usize
     ensures { Wrote line.old start (slot_names slots.now) line.new result }
 {
     let mut at = start;
-    let mut index = 0;
-    while index < slots.len() {
-        at = put_slot(line, at, slots[index]);
-        index += 1;
+    for slot in slots {
+        at = put_slot(line, at, *slot);
     }
     at
 }

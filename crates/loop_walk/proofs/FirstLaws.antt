@@ -2,13 +2,19 @@
 use mathlib.Core.Path.{◌≡◌, refl, sym, ◌∙◌}
 use mathlib.Core.Bool.{Bool, true, false, not, cond}
 use mathlib.Core.Option.{Option, none, some}
+use mathlib.Core.List.{List}
 use Prim.Native.Nat.{ℕ, ◌≤◌, ◌<◌}
 use native.Mathlib.Omega.{arith}
 use native.Mathlib.Decide.{dec_lt}
-use lib.Dec.{ltb}
+use lib.Dec.{eqb, ltb}
+use lib.ListN.{length}
 use borrow.Author.Tests.{lt-ltb, le-ltb}
 use Rattle.working_out.specs.Order.{option, lowest}
-use Rattle.working_out.proofs.OrderLaws.{lowest-some}
+use Rattle.working_out.proofs.OrderLaws.{lowest-some, not-true}
+use Rattle.std.specs.Prelude.{Some, None, unwrap_or, position}
+use Rattle.std.specs.List.{position_or_len}
+use Rattle.std.proofs.lemmas.List.Sums.{fails_before_first, passes_at_first}
+use Rattle.loops.specs.Edges.{done_in}
 use Rattle.loops.specs.Run.{lowest_left}
 use Rattle.loops.proofs.LowestLaws.{lowest-is, lowest-is-none}
 use Rattle.loop_walk.specs.First.{First}
@@ -65,3 +71,30 @@ module _ (n : ℕ) (reads : ℕ → ℕ → Bool) (done : ℕ → Bool) where
       go : (o : Option ℕ) → lowest n (λ a. not (done a)) ≡ o → option o 0 (λ a. a) < 4096
       go none e = omega arith
       go (some a) e = let l = (lowest-some n (λ a. not (done a)) a e).below in omega arith
+
+not-false : (b : Bool) → not b ≡ false → b ≡ true
+not-false true e = refl
+not-false false e = cc
+
+-- By the flags: the place of the first that is not 0.
+pub left-by_flags : (flags : List ℕ) (reads : ℕ → ℕ → Bool)
+    → unwrap_or (position (λ flag. not (eqb flag 0)) flags) 0 ≡ lowest_left (length flags) reads (done_in flags)
+unfolding done_in
+left-by_flags flags reads = go (dec_lt i (length flags))
+  where
+    left : ℕ → Bool
+    left flag = not (eqb flag 0)
+
+    i : ℕ
+    i = position_or_len left flags
+
+    go : Dec (i < length flags)
+        → unwrap_or (cond (ltb i (length flags)) (Some i) None) 0 ≡ lowest_left (length flags) reads (done_in flags)
+    go (yes l) =
+        rw (lt-ltb i (length flags) l)
+        (left_found (length flags) reads (done_in flags) i l
+        (λ j m. not-false _ (fails_before_first left flags j 0 m)) (not-true _ (passes_at_first left flags 0 l)))
+    go (no l) =
+        rw (le-ltb i (length flags) (omega arith))
+        (left-none (length flags) reads (done_in flags)
+        (λ j m. not-false _ (fails_before_first left flags j 0 (omega arith))))

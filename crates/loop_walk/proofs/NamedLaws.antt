@@ -6,7 +6,6 @@ use lib.ListN.{length}
 use lib.Seq.{sets}
 use Rattle.logic.specs.Table.{tab}
 use Rattle.logic.proofs.TableLaws.{length-tab}
-use Rattle.working_out.specs.Graph as g
 use Rattle.loops.specs.Edges.{has_edge, done_in}
 use Rattle.loops.specs.Run.{loop_of, lowest_left}
 use Rattle.loop_walk.specs.Named.{loop_in, Named}

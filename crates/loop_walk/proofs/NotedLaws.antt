@@ -7,8 +7,8 @@ use Prim.Native.Nat.{ℕ, ◌+◌, ◌≤◌, ◌<◌}
 use native.Mathlib.Omega.{arith}
 use native.Mathlib.Decide.{ℕ_discrete}
 use native.Mathlib.Numerals.{add-one}
-use lib.ListN.{length, get_or, set, take, replicate, length-set, get_or-replicate}
-use lib.Seq.{get_or-set_same, get_or-set_other, take-suc, take_all}
+use lib.ListN.{length, get_or, set, take, replicate, get_or-replicate}
+use lib.Seq.{get_or-set_same, get_or-set_other, take-suc}
 use lib.Dec.{eqb, ltb}
 use borrow.Author.Tests.{ltb-true, ltb-false, ne_eqb, eq-eqb}
 use Rattle.working_out.specs.System.{any}
@@ -127,17 +127,7 @@ module _ (edges flags next : List ℕ) (e : ℕ) (small : length flags ≤ 4096)
           keeps a l (λ j m r. absurd (let s = edge-read a j e (before_below a j l m) r in omega arith))
       go false d false h (no q) = keeps_other a l q
 
--- The table keeps its length.
-pub length-noted : (flags next : List ℕ) (e : ℕ) → length (noted flags next e) ≡ length next
-unfolding noted
-length-noted flags next e = go (done_in flags (read_of e)) (ltb (read_of e) (get_or next (reader_of e) 0))
-  where
-    go : (d t : Bool) → length (cond d next (cond t (set next (reader_of e) (read_of e)) next)) ≡ length next
-    go true t = refl
-    go false true = length-set next (reader_of e) (read_of e)
-    go false false = refl
-
--- A loop that notes the reads one by one: before the first, a turn, and the end.
+-- A loop that notes the reads one by one: before the first, and a turn.
 pub notes_start : (flags : List ℕ) → LowestReads [] flags (replicate 4096 (length flags))
 unfolding has_edge any
 notes_start flags a l =
@@ -149,7 +139,3 @@ pub notes_turn : (edges flags next : List ℕ) (i : ℕ) → length flags ≤ 40
     → LowestReads (take (i + 1) edges) flags (noted flags next (get_or edges i 0))
 notes_turn edges flags next i small long inside table =
     rw (add-one i, take-suc edges i 0 inside) (note-one (take i edges) flags next (get_or edges i 0) small long table)
-
-pub notes_end : (edges flags next : List ℕ) (i : ℕ) → length edges ≤ i → LowestReads (take i edges) flags next
-    → LowestReads edges flags next
-notes_end edges flags next i done table = rw (take_all i edges done) at table

@@ -1,7 +1,7 @@
 // The loop that document 02's change 4 names: always to the lowest node read that never gets ready.
 #![tactic(auto)]
 
-ghost use Rattle.std.specs.Prelude.{◌≡◌, Bool, ℕ, ◌<◌, ◌≤◌, length, replicate};
+ghost use Rattle.std.specs.Prelude.{◌≡◌, ◌==◌, Bool, not, ℕ, ◌<◌, ◌≤◌, length, position, replicate};
 ghost use Rattle.std.proofs.lemmas.List.Edits.{sets};
 ghost use Rattle.logic.specs.Table.{tab};
 ghost use Rattle.loops.specs.Edges.{done_in};
@@ -36,11 +36,16 @@ fn lowest_reads(edges: &[u32], flags: &[u32], next: &mut [u32])
     requires { (length flags.now ≤ 4096) × (next.old ≡ replicate 4096 (length flags.now)) }
     ensures { LowestReads edges.now flags.now next.new }
 {
-    let mut i: usize = 0;
-    while i < edges.len() {
-        note_read(flags, next, logic::word_at(edges, i));
-        i += 1;
+    for edge in edges {
+        note_read(flags, next, *edge);
     }
+}
+
+// The place of the first flag that is not 0, if there is one.
+fn first_flag(flags: &[u32]) -> Option<usize>
+    ensures { result ≡ position (λ flag. not (flag == 0)) flags.now }
+{
+    flags.iter().position(|flag| *flag != 0)
 }
 
 // The lowest node that is not done, 0 where all are.
@@ -48,14 +53,7 @@ fn lowest_left(flags: &[u32]) -> usize
     ensures { (reads : ℕ → ℕ → Bool) →
         result ≡ lowest_left (length flags.now) reads (done_in flags.now) }
 {
-    let mut at: usize = 0;
-    while at < flags.len() {
-        if logic::word_at(flags, at) != 0 {
-            return at;
-        }
-        at += 1;
-    }
-    0
+    first_flag(flags).unwrap_or(0)
 }
 
 // The next node of the walk.
@@ -74,8 +72,7 @@ fn follow(next: &[u32], met: &mut [u32], n: usize, start: usize) -> Loop
         ≡ tab result.length (steps next.now n result.at)) }
 {
     let mut at = start;
-    let mut k: usize = 0;
-    while k < n {
+    for k in 0..n {
         let first = logic::word_at(met, at) as usize;
         if first < n {
             return Loop {
@@ -85,11 +82,10 @@ fn follow(next: &[u32], met: &mut [u32], n: usize, start: usize) -> Loop
         }
         logic::put(met, at, k as u32);
         at = step(next, n, at);
-        k += 1;
     }
     Loop {
         at,
-        length: k - logic::word_at(met, at) as usize,
+        length: n - logic::word_at(met, at) as usize,
     }
 }
 
@@ -100,11 +96,9 @@ fn write_loop(next: &[u32], n: usize, slots: &mut [u32], start: usize, length: u
         (tab length (steps next.now n start)) }
 {
     let mut at = start;
-    let mut m: usize = 0;
-    while m < length {
+    for m in 0..length {
         logic::put(slots, m, at as u32);
         at = step(next, n, at);
-        m += 1;
     }
 }
 

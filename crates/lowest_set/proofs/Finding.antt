@@ -9,6 +9,7 @@ use native.Mathlib.Decide.{ℕ_discrete, dec_lt}
 use lib.ListN.{get_or}
 use lib.Dec.{eqb}
 use borrow.Author.Tests.{eq-eqb, ne_eqb}
+use Rattle.std.specs.Prelude.{Some, None}
 use Rattle.lowest_set.specs.Tree.{Holds, lowest_of}
 use Rattle.loops.proofs.LowestLaws.{lowest-is, lowest-is-none}
 
@@ -124,7 +125,7 @@ module _ {tree : List ℕ} {members : ℕ → Bool} (holds : Holds tree members)
       go (no ne) = rw (ne_eqb w 0 ne) (reached_left r inner (λ e. ne (word ∙ e)))
 
   -- A leaf that is reached is that of the lowest number.
-  leaf-at : {p : ℕ} (h : ℕ) → At tree h p → 4096 ≤ p → p - 4096 ≡ lowest_of members
+  leaf-at : {p : ℕ} (h : ℕ) → At tree h p → 4096 ≤ p → Some (p - 4096) ≡ lowest_of members
   leaf-at {p} zero at high = rw (lowest-is 4096 members (p - 4096) (omega (arith, at.last)) there before)
     where
       place : 4096 + (p - 4096) ≡ p
@@ -142,11 +143,11 @@ module _ {tree : List ℕ} {members : ℕ → Bool} (holds : Holds tree members)
           (sym (holds.leaf j (omega (arith, at.last))) ∙ at.before (4096 + j) (omega arith) (omega arith))
   leaf-at {p} (suc h) at high = absurd (omega (arith, at.last, leaf_grows h (2 * (p + 1))))
 
-  pub reached_leaf : {p : ℕ} → Reached tree p → 4096 ≤ p → p - 4096 ≡ lowest_of members
+  pub reached_leaf : {p : ℕ} → Reached tree p → 4096 ≤ p → Some (p - 4096) ≡ lowest_of members
   reached_leaf r = leaf-at r.0 r.1
 
   -- Where the root is 0 the set is empty.
-  pub none-there : get_or tree 1 0 ≡ 0 → 4096 ≡ lowest_of members
+  pub none-there : get_or tree 1 0 ≡ 0 → None ≡ lowest_of members
   none-there e = rw (lowest-is-none 4096 members none)
     where
       none : (j : ℕ) → j < 4096 → members j ≡ false

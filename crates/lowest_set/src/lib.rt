@@ -1,17 +1,10 @@
 // A set of numbers below 4,096, of which the lowest is found in twelve steps: a tree of flags.
 #![tactic(auto)]
 
-ghost use Rattle.std.specs.Prelude.{◌≡◌, Bool, cond, ℕ, ◌<◌, max, eqb};
+ghost use Rattle.std.specs.Prelude.{◌≡◌, Bool, cond, ℕ, ◌<◌, eqb};
 ghost use Rattle.working_out.specs.Graph.{mark};
 ghost use Rattle.lowest_set.specs.Change.{Changes};
 ghost use Rattle.lowest_set.specs.Tree.{Holds, without, lowest_of};
-
-// The larger of two words.
-fn larger(a: u32, b: u32) -> u32
-    ensures { result ≡ max a b }
-{
-    if a < b { b } else { a }
-}
 
 // The word of the number i is stored, and every word above it computed again from the two below it.
 fn renew(tree: &mut [u32], i: u32, word: u32)
@@ -24,8 +17,8 @@ fn renew(tree: &mut [u32], i: u32, word: u32)
     while 0 < p {
         let left = logic::word_at(tree, 2 * p);
         let right = logic::word_at(tree, 2 * p + 1);
-        logic::put(tree, p, larger(left, right));
-        p = p / 2;
+        logic::put(tree, p, left.max(right));
+        p /= 2;
     }
 }
 
@@ -52,12 +45,12 @@ fn unless_empty(word: u32, child: u32, other: u32) -> u32
     if word == 0 { other } else { child }
 }
 
-// The lowest number of the set, 4,096 where it has none: from the root down, to the left where that word is not 0.
-pub fn lowest(tree: &[u32]) -> u32
+// The lowest number of the set, if it has one: from the root down, to the left where that word is not 0.
+pub fn lowest(tree: &[u32]) -> Option<u32>
     ensures { (members : ℕ → Bool) → Holds tree.now members → result ≡ lowest_of members }
 {
     if logic::word_at(tree, 1) == 0 {
-        return 4096;
+        return None;
     }
     let mut p: u32 = 1;
     while p < 4096 {
@@ -65,5 +58,5 @@ pub fn lowest(tree: &[u32]) -> u32
         let right = left + 1;
         p = unless_empty(logic::word_at(tree, left as usize), left, right);
     }
-    p - 4096
+    Some(p - 4096)
 }

@@ -12,16 +12,10 @@ ghost use Rattle.name_table.specs.Names.{note_top};
 fn declares_at(calls: &[u32], at: usize, letter: u32, index: u32, suffix: u32) -> bool
     ensures { result ≡ declares_at calls.now at letter index suffix }
 {
-    if call_list::is_declare(call_list::operation_at(calls, at)) {
-        if call_list::argument_word(calls, at, 0) == letter {
-            if call_list::argument_word(calls, at, 1) == index {
-                return call_list::argument_word(calls, at, 2) == suffix;
-            }
-            return false;
-        }
-        return false;
-    }
-    false
+    call_list::is_declare(call_list::operation_at(calls, at))
+        && call_list::argument_word(calls, at, 0) == letter
+        && call_list::argument_word(calls, at, 1) == index
+        && call_list::argument_word(calls, at, 2) == suffix
 }
 
 // Whether a record that begins before a place declares that name.
@@ -66,13 +60,9 @@ pub fn name_entry(names: &[u8], letter: u32, index: usize, suffix: u32) -> u32
 fn spells_name(letter: u32, index: u32, suffix: u32) -> bool
     ensures { result ≡ (at_most letter 2 && at_most suffix 2 && is_number index) }
 {
-    if arguments::number_at_most(letter, 2) {
-        if arguments::number_at_most(suffix, 2) {
-            return logic::kind(index) == 3;
-        }
-        return false;
-    }
-    false
+    arguments::number_at_most(letter, 2)
+        && arguments::number_at_most(suffix, 2)
+        && logic::kind(index) == 3
 }
 
 // One more than the highest index declared so far of a letter and suffix.
@@ -86,10 +76,8 @@ fn top_of(tops: &[u32], letter: u32, suffix: u32) -> u32
 fn is_searched(calls: &[u32], tops: &[u32], at: usize, letter: u32, index: u32, suffix: u32) -> bool
     ensures { result ≡ search_below tops.now calls.now at letter index suffix }
 {
-    if logic::payload(index) < top_of(tops, logic::payload(letter), logic::payload(suffix)) {
-        return declared_before(calls, at, letter, index, suffix);
-    }
-    false
+    logic::payload(index) < top_of(tops, logic::payload(letter), logic::payload(suffix))
+        && declared_before(calls, at, letter, index, suffix)
 }
 
 // Whether three words spell a name that a record before a place declares: from the table, beyond it by the records.
@@ -147,11 +135,7 @@ pub fn note_name(calls: &[u32], names: &mut [u8], at: usize)
 pub fn clear_names(names: &mut [u8])
     ensures { (k : ℕ) → get_or names.new k 0 ≡ 0 }
 {
-    let mut at = 0;
-    while at < names.len() {
-        names[at] = 0;
-        at += 1;
-    }
+    names.fill(0);
 }
 
 // The highest index of a letter and suffix goes up with the name that a record declares.

@@ -59,15 +59,11 @@ fn mark_of(age: Age) -> u8
 fn offset_of(age: Age, half: Half) -> usize
     ensures { result ≡ model.offset (age_of age) (half_of half) }
 {
-    match age {
-        Age::Curr => match half {
-            Half::IsUndef => 0,
-            Half::IsOne => 1,
-        },
-        Age::Past => match half {
-            Half::IsUndef => 2,
-            Half::IsOne => 3,
-        },
+    match (age, half) {
+        (Age::Curr, Half::IsUndef) => 0,
+        (Age::Curr, Half::IsOne) => 1,
+        (Age::Past, Half::IsUndef) => 2,
+        (Age::Past, Half::IsOne) => 3,
     }
 }
 

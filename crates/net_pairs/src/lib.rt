@@ -24,16 +24,15 @@ pub struct Walked {
 pub fn push(eqs: &mut [u32], obligations: usize, eq: Built) -> Walked
     ensures { Pushed eqs.old obligations eq eqs.new result }
 {
-    let counts = eq.counts;
     if obligations < eqs.len() {
         eqs[obligations] = eq.term.0;
         return Walked {
-            counts,
+            counts: eq.counts,
             obligations: obligations + 1,
         };
     }
     Walked {
-        counts,
+        counts: eq.counts,
         obligations,
     }
 }

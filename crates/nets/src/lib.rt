@@ -82,14 +82,8 @@ fn age_in(table: &[u32], net: Net) -> Age
     ensures { net.0 < 2 ^ 29 → age_of result ≡ age_in (past_in table.now) (net_of net.0) }
 {
     match logic::driver_of(net) {
-        Driver::Constant(_) => Age::Curr,
-        Driver::Output(slot) => {
-            if logic::word_at(table, slot.0 as usize) % 8 == 1 {
-                return Age::Past;
-            }
-            Age::Curr
-        }
-        Driver::NoNet => Age::Curr,
+        Driver::Output(slot) if logic::word_at(table, slot.0 as usize) % 8 == 1 => Age::Past,
+        _ => Age::Curr,
     }
 }
 

@@ -47,9 +47,7 @@ pub fn first_match(
         value: all_cold,
         counts: c,
     };
-    let mut index = k;
-    while 0 < index {
-        index -= 1;
+    for index in (0..k).rev() {
         let hit = trits::tv_extract(calls, result.counts, index, index, matches);
         let hot = tv_one_hot(calls, hit.counts, k, index);
         result = gates::tv_mux(calls, hot.counts, hit.value, hot.value, result.value, k);

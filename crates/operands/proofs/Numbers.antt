@@ -22,21 +22,10 @@ use Rattle.bitvec.specs.Bits.{bit, bv2nat, nat2bv}
 use Rattle.bitvec.proofs.Laws.{bv2nat_lt, nat2bv_of}
 use Rattle.cell_reader.specs.Parse.{trit_of, trit_in, trits_in}
 use Rattle.smt.specs.Builder.{ilog2, shift_width}
-use Rattle.smt.proofs.ShowsShift.{ilog2-is, shift_width-narrow}
+use Rattle.smt.proofs.ShowsShift.{shift_width-narrow}
 use Rattle.operands.specs.Words.{ShiftFits, packed, Packed}
 
 -- ---- prepare_shift
-
--- The loop's power of two after one turn more.
-pub next_power : (e next : ℕ) → next ≡ 2 ^ (e + 1) → 2 * next ≡ 2 ^ (e + 1 + 1)
-next_power e next here = rw (add-one (e + 1)) (omega (arith, pow-suc 2 (e + 1)))
-
--- The exponent whose power the stride reaches and whose next it does not.
-pub exponent_is : (stride e next : ℕ) → next ≡ 2 ^ (e + 1) → 2 ^ e ≤ max stride 1 → 2 ≤ next → stride < next
-    → ilog2 (max stride 1) ≡ e
-exponent_is stride e next here reached some past =
-    let below : max stride 1 < 2 ^ suc e = rw (add-one e) at (let h : max stride 1 < 2 ^ (e + 1) = omega arith in h) in
-    ilog2-is (max stride 1) e reached below
 
 pub wide : (n m stride r : ℕ) → r ≡ min (shift_width n m stride) 4294967295 → n ≤ 64 → m ≤ 32 → stride < 2 ^ 29
     → ShiftFits n m stride r

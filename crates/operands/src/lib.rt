@@ -21,11 +21,9 @@ use logic::{Driver, Net, Slot, Trit};
 fn copy(out: &mut [u32], to: u32, words: &[u32], from: u32, n: u32)
     ensures { out.new ≡ sets out.old to (words_in words.now n from) }
 {
-    let mut i: u32 = 0;
-    while i < n {
+    for i in 0..n {
         let word = logic::word_at(words, from as usize + i as usize);
         logic::put(out, to as usize + i as usize, word);
-        i += 1;
     }
 }
 
@@ -45,10 +43,8 @@ pub fn output_nets(out: &mut [u32], slot: Slot, width: u32)
     ensures nets { width ≤ length out.old → slot.0 + width + 1 < 536870911
         → nets_in out.new width 0 ≡ output_nets slot.0 width }
 {
-    let mut i: u32 = 0;
-    while i < width {
+    for i in 0..width {
         logic::put(out, i as usize, output_word(slot, i));
-        i += 1;
     }
 }
 
@@ -94,14 +90,7 @@ pub fn concat_undef(out: &mut [u32], words: &[u32], at: u32, n: u32)
 fn ilog2(stride: u32) -> u32
     ensures { result ≡ ilog2 (max stride 1) }
 {
-    let reached = stride as u64;
-    let mut exponent: u32 = 0;
-    let mut next: u64 = 2;
-    while next <= reached {
-        next = 2 * next;
-        exponent += 1;
-    }
-    exponent
+    stride.max(1).ilog2()
 }
 
 // The width at which a shift is made: the value's, or what the amount times the stride needs if that is more; at most
@@ -151,8 +140,7 @@ pub fn trit_of(word: u32) -> Trit
 {
     match logic::driver_of(Net(logic::payload(word))) {
         Driver::Constant(trit) => trit,
-        Driver::Output(_) => Trit::Undef,
-        Driver::NoNet => Trit::Undef,
+        Driver::Output(_) | Driver::NoNet => Trit::Undef,
     }
 }
 
@@ -167,22 +155,14 @@ pub fn trit_at(words: &[u32], at: usize) -> Trit
 pub fn x_bit(trit: Trit) -> u64
     ensures { result ≡ bit (x_of trit) }
 {
-    match trit {
-        Trit::Zero => 0,
-        Trit::One => 0,
-        Trit::Undef => 1,
-    }
+    u64::from(matches!(trit, Trit::Undef))
 }
 
 // If not, is it one?
 pub fn y_bit(trit: Trit) -> u64
     ensures { result ≡ bit (y_of trit) }
 {
-    match trit {
-        Trit::Zero => 0,
-        Trit::One => 1,
-        Trit::Undef => 0,
-    }
+    u64::from(matches!(trit, Trit::One))
 }
 
 // The numbers of the x and of the y of some constants, as `tv_lit` takes them.
@@ -192,24 +172,15 @@ pub struct Const {
     pub y: u64,
 }
 
-// A literal has at most 64 bits.
-fn at_most_64(n: u32) -> u32
-    ensures { result ≡ min n 64 }
-{
-    if n < 64 { n } else { 64 }
-}
-
-// n constants from a place on, the first 64 of them where there are more.
+// n constants from a place on, the first 64 of them where there are more: a literal has at most 64 bits.
 pub fn constants(words: &[u32], at: u32, n: u32) -> Const
     ensures numbers { (result.x ≡ packed x_of words.now (min n 64) at)
         × (result.y ≡ packed y_of words.now (min n 64) at) }
     ensures literal { n ≤ 64 → Packed words.now n at result.x result.y }
 {
-    let mut i = at_most_64(n);
     let mut x: u64 = 0;
     let mut y: u64 = 0;
-    while 0 < i {
-        i -= 1;
+    for i in (0..n.min(64)).rev() {
         let trit = trit_at(words, at as usize + i as usize);
         x = 2 * x + x_bit(trit);
         y = 2 * y + y_bit(trit);

@@ -41,17 +41,8 @@ pub fn binary_least(operator: Binary) -> u32
     ensures { result ≡ binary_least operator }
 {
     match operator {
-        Binary::And => 0,
-        Binary::Or => 0,
-        Binary::Xor => 0,
-        Binary::Eq => 1,
-        Binary::ULt => 1,
-        Binary::SLt => 1,
-        Binary::Mul => 0,
-        Binary::UDiv => 0,
-        Binary::UMod => 0,
-        Binary::SDivTrunc => 1,
-        Binary::SModTrunc => 1,
+        Binary::Eq | Binary::ULt | Binary::SLt | Binary::SDivTrunc | Binary::SModTrunc => 1,
+        _ => 0,
     }
 }
 
@@ -59,19 +50,7 @@ pub fn binary_least(operator: Binary) -> u32
 pub fn compares(operator: Binary) -> bool
     ensures { result ≡ compares operator }
 {
-    match operator {
-        Binary::And => false,
-        Binary::Or => false,
-        Binary::Xor => false,
-        Binary::Eq => true,
-        Binary::ULt => true,
-        Binary::SLt => true,
-        Binary::Mul => false,
-        Binary::UDiv => false,
-        Binary::UMod => false,
-        Binary::SDivTrunc => false,
-        Binary::SModTrunc => false,
-    }
+    matches!(operator, Binary::Eq | Binary::ULt | Binary::SLt)
 }
 
 // The least n of a shift.
@@ -79,9 +58,7 @@ pub fn shift_least(operator: Shift) -> u32
     ensures { result ≡ shift_least operator }
 {
     match operator {
-        Shift::Shl => 0,
-        Shift::UShr => 0,
         Shift::SShr => 1,
-        Shift::XShr => 0,
+        _ => 0,
     }
 }

@@ -3,8 +3,8 @@
 // `rest kept` where the slice stays past the slots, or whole after a refusal; else `rest changed`.
 #![tactic(auto)]
 
+use logic::Fault;
 use ordering::Ordering;
-use word_input::Next;
 
 // The file descriptor of standard output.
 const STDOUT_FILENO: i32 = 1;
@@ -19,14 +19,7 @@ fn room() -> [u32; 16400] {
 
 // Whether a slice is untouched from a place on.
 fn untouched(slice: &[u32], start: usize) -> bool {
-    let mut at = start;
-    while at < slice.len() {
-        if logic::word_at(slice, at) != UNTOUCHED {
-            return false;
-        }
-        at += 1;
-    }
-    true
+    slice.iter().skip(start).all(|word| *word == UNTOUCHED)
 }
 
 // The end of a line: whether the slice is untouched from a place on.
@@ -42,27 +35,25 @@ fn show_rest(slice: &[u32], start: usize) {
 fn show_slots(slice: &[u32], n: usize) {
     io::print_decimal(STDOUT_FILENO, n as u64);
     io::write_all(STDOUT_FILENO, b":");
-    let mut at: usize = 0;
-    while at < n {
+    for slot in slice.iter().take(n) {
         io::write_all(STDOUT_FILENO, b" ");
-        io::print_decimal(STDOUT_FILENO, logic::word_at(slice, at) as u64);
-        at += 1;
+        io::print_decimal(STDOUT_FILENO, *slot as u64);
     }
     show_rest(slice, n);
 }
 
 // The line for an answer, with the slice that was lent.
-fn show(answer: Ordering, slice: &[u32]) {
+fn show(answer: Result<Ordering, Fault>, slice: &[u32]) {
     match answer {
-        Ordering::Ordered(n) => {
+        Ok(Ordering::Ordered(n)) => {
             io::write_all(STDOUT_FILENO, b"ordered ");
             show_slots(slice, n);
         }
-        Ordering::Looped(n) => {
+        Ok(Ordering::Looped(n)) => {
             io::write_all(STDOUT_FILENO, b"looped ");
             show_slots(slice, n);
         }
-        Ordering::Refused(f) => {
+        Err(f) => {
             io::write_all(STDOUT_FILENO, b"refused ");
             io::print_decimal(STDOUT_FILENO, f.number as u64);
             io::write_all(STDOUT_FILENO, b" at ");
@@ -73,7 +64,7 @@ fn show(answer: Ordering, slice: &[u32]) {
 }
 
 // A list, ordered in the first words of a slice, as many as are lent.
-fn order_in(list: &[u32], slice: &mut [u32], lent: usize) -> Ordering {
+fn order_in(list: &[u32], slice: &mut [u32], lent: usize) -> Result<Ordering, Fault> {
     if lent < slice.len() {
         return ordering::order(list, &mut slice[..lent]);
     }
@@ -92,8 +83,8 @@ fn order_list(words: &[u32], n: usize, lent: usize) {
 // One list, if the input has one.
 fn turn() -> bool {
     match word_input::next_word() {
-        Next::End => false,
-        Next::Word(lent) => {
+        None => false,
+        Some(lent) => {
             let n = word_input::word_or_zero() as usize;
             let mut words = room();
             word_input::load(&mut words, n);
@@ -104,11 +95,8 @@ fn turn() -> bool {
 }
 
 fn main() {
-    let mut left: u32 = 1000;
-    while 0 < left {
-        if turn() {
-            left -= 1;
-        } else {
+    for _ in 0..1000 {
+        if !turn() {
             return;
         }
     }

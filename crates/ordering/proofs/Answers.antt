@@ -20,6 +20,7 @@ use Rattle.loops.proofs.ByWords.{flags_length, order_by_words, loop_by_words, le
 use Rattle.edges.proofs.EdgesRead.{edges_read}
 use Rattle.topological.specs.Sorted.{Sorted}
 use Rattle.loop_walk.specs.Named.{loop_in, Named}
+use Rattle.std.specs.Prelude.{Ok}
 use Rattle.ordering.specs.declared.Ordering.{Ordering}
 use Rattle.ordering.specs.declared.Ordering.TheVariants.{Ordered, Looped}
 use Rattle.ordering.specs.Words.{any_left, slots_by, OrdersBy}
@@ -91,12 +92,12 @@ module _ (d : Design) (laid : Laid d) (few : total d ≤ 4096) where
 
   -- What is answered by the words and flags of a design is its answer.
   pub orders_of : {slots slots' : List ℕ} {a : Ordering} {replacements pairs : ℕ} → total d ≤ length slots
-      → OrdersBy (edges_of d) (node_flags d) slots slots' a → Orders (accepted d replacements pairs) slots slots' a
+      → OrdersBy (edges_of d) (node_flags d) slots slots' a → Orders (accepted d replacements pairs) slots slots' (Ok a)
   orders_of {slots} {slots'} {a} room by =
       let short = slots-short in
       let roomy = le-ltb (length slots) (total d) room in
       record {
-        answer = by.answer ∙ rw (roomy, order_is, left_is, loop_is);
+        answer = rw (by.answer, roomy, order_is, left_is, loop_is);
         slice = by.slice ∙ ap (sets slots 0) slots_are ∙ sets-eq (slots_of d) slots 0 (omega arith)
             ∙ rw (roomy, zero-add (length (slots_of d)));
       }

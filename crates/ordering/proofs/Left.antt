@@ -1,47 +1,36 @@
 -- Whether a node is left, by looking at one flag after the other.
-use mathlib.Core.Path.{◌≡◌, refl, sym, ◌∙◌}
-use mathlib.Core.Bool.{true, false, not, true≢false}
+use mathlib.Core.Path.{◌≡◌, refl, sym, ap, ◌∙◌}
+use mathlib.Core.Bool.{Bool, true, false, not, true≢false}
 use mathlib.Core.Option.{Option, none, some}
 use mathlib.Core.List.{List}
-use Prim.Native.Nat.{ℕ, ◌+◌, ◌≤◌, ◌<◌}
-use native.Mathlib.Omega.{arith}
-use native.Mathlib.Decide.{ℕ_discrete}
+use Prim.Native.Nat.{ℕ}
+use lib.Dec.{eqb}
 use lib.ListN.{length, get_or}
-use borrow.Author.Tests.{eq-eqb, ne_eqb}
+use Rattle.std.specs.List.{list_any}
+use Rattle.std.proofs.lemmas.List.{get_or_default}
+use Rattle.std.proofs.lemmas.List.Folds.{list_any_at, Any-from_list_any}
 use Rattle.working_out.specs.Order.{is_some, lowest}
-use Rattle.working_out.proofs.OrderLaws.{lowest-none, lowest-some, not-true}
+use Rattle.working_out.proofs.OrderLaws.{lowest-none, lowest-some}
 use Rattle.loops.specs.Edges.{done_in}
 use Rattle.ordering.specs.Words.{any_left}
 
-module _ (flags : List ℕ) where
-  -- A flag other than 0 is that of a node left.
-  pub left_here : (a : ℕ) → a < length flags → (get_or flags a 0 ≡ 0 → ⊥) → any_left flags ≡ true
-  unfolding any_left done_in
-  left_here a low flag = go (lowest (length flags) (λ b. not (done_in flags b))) refl
-    where
-      go : (o : Option ℕ) → lowest (length flags) (λ b. not (done_in flags b)) ≡ o → is_some o ≡ true
-      go none e =
-          absurd (true≢false (rw (ne_eqb (get_or flags a 0) 0 flag) at (lowest-none (length flags) _ e a low)))
-      go (some b) e = refl
+-- A flag other than 0 is that of a node left.
+pub left-listed : (flags : List ℕ) → list_any (λ flag. not (eqb flag 0)) flags ≡ any_left flags
+unfolding any_left done_in
+left-listed flags = go (list_any left flags) refl (lowest (length flags) at) refl
+  where
+    left : ℕ → Bool
+    left flag = not (eqb flag 0)
 
-  -- None is left where all are done.
-  pub left-none : (a : ℕ) → length flags ≤ a → ((b : ℕ) → b < a → done_in flags b ≡ true) → any_left flags ≡ false
-  unfolding any_left
-  left-none a past done = go (lowest (length flags) (λ b. not (done_in flags b))) refl
-    where
-      go : (o : Option ℕ) → lowest (length flags) (λ b. not (done_in flags b)) ≡ o → is_some o ≡ false
-      go none e = refl
-      go (some b) e =
-          let f = lowest-some (length flags) (λ b. not (done_in flags b)) b e in
-          let low = f.below in
-          absurd (true≢false (sym (done b (omega arith)) ∙ not-true (done_in flags b) f.holds))
+    at : ℕ → Bool
+    at a = left (get_or flags a 0)
 
-  -- One more that is done.
-  pub done_next : (a : ℕ) → get_or flags a 0 ≡ 0 → ((b : ℕ) → b < a → done_in flags b ≡ true) → (b : ℕ) → b < a + 1
-      → done_in flags b ≡ true
-  unfolding done_in
-  done_next a flag done b low = go (ℕ_discrete b a)
-    where
-      go : Dec (b ≡ a) → done_in flags b ≡ true
-      go (yes same) = rw same (eq-eqb (get_or flags a 0) 0 flag)
-      go (no other) = done b (omega arith)
+    go : (b : Bool) → list_any left flags ≡ b → (o : Option ℕ) → lowest (length flags) at ≡ o → list_any left flags ≡ is_some o
+    go b e (some a) f =
+        let found = lowest-some (length flags) at a f in
+        list_any_at left flags a 0 found.below found.holds
+    go true e none f =
+        let any = Any-from_list_any left flags e in
+        let here : get_or flags any.0 0 ≡ any.1 = get_or_default flags any.0 0 any.1 any.2 ∙ any.3 in
+        absurd (true≢false (sym any.4 ∙ ap left (sym here) ∙ lowest-none (length flags) at f any.0 any.2))
+    go false e none f = e

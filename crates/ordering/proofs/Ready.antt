@@ -5,7 +5,7 @@ use Prim.Native.Nat.{ℕ, zero, suc, ◌≤◌}
 use native.Mathlib.Omega.{arith}
 use native.Mathlib.Nat.{le_of_suc-le-suc}
 use lib.ListN.{length, take, replicate, length-replicate}
-use lib.Seq.{sets, sets-eq, take_at}
+use lib.Seq.{sets-eq, take_at}
 use Rattle.cell.specs.declared.Mode.{Mode}
 use Rattle.cell.specs.Design.{total}
 use Rattle.design_list.specs.declared.Extent.{Extent}
@@ -13,8 +13,8 @@ use Rattle.design_list.specs.Read.{read}
 use Rattle.design_list.proofs.AcceptedLaws.{accepted-read}
 use Rattle.accepted.proofs.Laid.{accepted-laid}
 use Rattle.loops.specs.Graph.{edges_of, node_flags}
-use Rattle.loops.proofs.ByWords.{flags_length}
 use Rattle.reads_table.specs.Fills.{Filled}
+use Rattle.std.specs.Prelude.{Ok}
 use Rattle.ordering.specs.declared.Ordering.{Ordering}
 use Rattle.ordering.specs.Words.{OrdersBy, Ready}
 use Rattle.ordering.specs.Answer.{Orders}
@@ -37,12 +37,6 @@ module _ {mode : Mode} {w : List ℕ} {x : Extent} {table : List ℕ} (ready : R
   pub zeros_taken : take (length table) (replicate {A = ℕ} 4096 0) ≡ replicate (total ready.d) 0
   zeros_taken = take-zeros (length table) 4096 table-low ∙ ap (λ (n : ℕ). replicate n 0) ready.tabled.size
 
-  pub flags_low : {flags : List ℕ} → flags ≡ node_flags ready.d → length flags ≤ 4096
-  flags_low same =
-      let low = (accepted-read mode w ready.is).low in
-      let size = ap length same ∙ flags_length ready.d in
-      omega arith
-
   -- The first words are those of the reads.
   edges_are : {edges' : List ℕ} {count : ℕ} → Filled ready.d (replicate 16384 0) edges' count
       → take count edges' ≡ edges_of ready.d
@@ -53,18 +47,10 @@ module _ {mode : Mode} {w : List ℕ} {x : Extent} {table : List ℕ} (ready : R
       ap (take count) (filled.slice ∙ sets-eq (edges_of ready.d) (replicate 16384 0) 0 (omega arith))
       ∙ take_at (edges_of ready.d) _ count (sym many)
 
-  pub edges_few : {edges' : List ℕ} {count : ℕ} → Filled ready.d (replicate 16384 0) edges' count
-      → length (take count edges') ≤ 16384
-  edges_few filled =
-      let many = ap length (edges_are filled) in
-      let same = filled.many in
-      let few = filled.few in
-      omega arith
-
   -- What the words and flags answer is the list's answer.
   pub ready_orders : {edges' flags slots slots' : List ℕ} {count : ℕ} {a : Ordering}
       → Filled ready.d (replicate 16384 0) edges' count → flags ≡ node_flags ready.d → length table ≤ length slots
-      → OrdersBy (take count edges') flags slots slots' a → Orders (read mode w) slots slots' a
+      → OrdersBy (take count edges') flags slots slots' a → Orders (read mode w) slots slots' (Ok a)
   ready_orders filled flagged room by =
       let low = (accepted-read mode w ready.is).low in
       let size = ready.tabled.size in

@@ -5,12 +5,14 @@ use mathlib.Core.List.{List, ◌++◌}
 use Prim.Native.Nat.{ℕ, ◌<◌}
 use native.Mathlib.Omega.{arith}
 use native.Mathlib.Decide.{dec_lt}
-use lib.ListN.{length, take, drop}
+use lib.ListN.{length, drop}
 use lib.Seq.{take_at}
 use borrow.Author.Tests.{le-ltb, lt-ltb}
 use Rattle.cell.specs.Design.{Design, total}
 use Rattle.cell.specs.declared.Mode.{Mode}
 use Rattle.right.specs.Laid.{Laid}
+use Rattle.std.specs.Prelude.{Result, Ok}
+use Rattle.logic.specs.declared.Fault.{Fault}
 use Rattle.design_list.specs.Read.{read, accepted}
 use Rattle.accepted.proofs.Laid.{accepted-laid}
 use Rattle.working_out.specs.Loop.{Loop, has_loop}
@@ -27,7 +29,7 @@ module _ (d : Design) (laid : Laid d) (slots : List ℕ) where
   -- The slice begins with the slots of the answer.
   found : (b : Bool) → has_loop d ≡ b
       → Found d (cond b (named_loop d) (w.order d) ++ drop (length (cond b (named_loop d) (w.order d))) slots)
-      (cond b (Looped (length (named_loop d))) (Ordered (length (w.order d))))
+      (Ok (cond b (Looped (length (named_loop d))) (Ordered (length (w.order d)))))
   found true e = (
     rw (take_at (named_loop d) (drop (length (named_loop d)) slots) _ refl) (named_loop_lem d e),
     (loop_decided d laid).0 e,
@@ -38,7 +40,7 @@ module _ (d : Design) (laid : Laid d) (slots : List ℕ) where
   )
 
 -- An order, and there is no loop of document 01; or a loop of it.
-pub order-says : (list slots slots' : List ℕ) (r : Ordering)
+pub order-says : (list slots slots' : List ℕ) (r : Result Ordering Fault)
     → ((mode : Mode) → Orders (read mode list) slots slots' r) → OrderSays list slots' r
 order-says list slots slots' r orders mode d replacements pairs is room = go (dec_lt (length slots) (total d))
   where

@@ -2,36 +2,29 @@
 // named.
 #![tactic(auto)]
 
-ghost use Rattle.std.specs.Prelude.{◌≡◌, ◌≤◌, length};
+ghost use Rattle.std.specs.Prelude.{◌≡◌, ◌==◌, ◌≤◌, length, not};
+ghost use Rattle.std.specs.List.{list_any};
 ghost use Rattle.cell.specs.Design.{total};
 ghost use Rattle.cell.specs.declared.Mode.{Mode};
 ghost use Rattle.design_list.specs.Read.{read};
-ghost use Rattle.ordering.specs.Words.{any_left, OrdersBy, Ready};
+ghost use Rattle.ordering.specs.Words.{OrdersBy, Ready};
 ghost use Rattle.ordering.specs.Answer.{Orders};
 
-use design_list::{Extent, SlotTable};
+use design_list::Extent;
 use logic::Fault;
 
-// The order or a loop, with its length; or the first fault, 14 last: a slice too short for the slots.
+// The order or a loop, with its length.
 #[derive(Clone, Copy)]
 pub enum Ordering {
     Ordered(usize),
     Looped(usize),
-    Refused(Fault),
 }
 
 // Whether a node is left that never got ready.
 fn any_left(flags: &[u32]) -> bool
-    ensures { result ≡ any_left flags.now }
+    ensures { result ≡ list_any (λ flag. not (flag == 0)) flags.now }
 {
-    let mut a: usize = 0;
-    while a < flags.len() {
-        if logic::word_at(flags, a) != 0 {
-            return true;
-        }
-        a += 1;
-    }
-    false
+    flags.iter().any(|flag| *flag != 0)
 }
 
 // The order goes into turns first: where there is a loop, the slice gets nothing but the loop.
@@ -52,7 +45,7 @@ fn order_by(edges: &[u32], flags: &mut [u32], slots: &mut [u32]) -> Ordering
 fn order_read(list: &[u32], x: Extent, table: &[u32], slots: &mut [u32]) -> Ordering
     requires { ((mode : Mode) → Ready mode list.now x table.now) × (length table.now ≤ length slots.old) }
     ensures { (mode : Mode) →
-        Orders (read mode list.now) slots.old slots.new result }
+        Orders (read mode list.now) slots.old slots.new (Ok result) }
 {
     let mut flags = [0u32; 4096];
     let mut edges = [0u32; 16384];
@@ -65,23 +58,19 @@ fn order_read(list: &[u32], x: Extent, table: &[u32], slots: &mut [u32]) -> Orde
 }
 
 // The order of a list's nodes, or the loop that is named, in the slice from its start; past its length, and after a
-// refusal, the slice stays.
-pub fn order(list: &[u32], slots: &mut [u32]) -> Ordering
+// refusal, the slice stays. The first fault is told, 14 last: a slice too short for the slots.
+pub fn order(list: &[u32], slots: &mut [u32]) -> Result<Ordering, Fault>
     ensures { (mode : Mode) →
         Orders (read mode list.now) slots.old slots.new result }
 {
     let mut table = [0u32; 4096];
-    match design_list::slot_table(list, &mut table) {
-        SlotTable::Refused(f) => Ordering::Refused(f),
-        SlotTable::Filled(x) => {
-            let total = x.base + x.added;
-            if slots.len() < total {
-                return Ordering::Refused(Fault {
-                    number: 14,
-                    place: total,
-                });
-            }
-            order_read(list, x, &table[..total], slots)
-        }
+    let x = design_list::slot_table(list, &mut table)?;
+    let total = x.base + x.added;
+    if slots.len() < total {
+        return Err(Fault {
+            number: 14,
+            place: total,
+        });
     }
+    Ok(order_read(list, x, &table[..total], slots))
 }

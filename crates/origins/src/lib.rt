@@ -22,18 +22,7 @@ fn binary_origin(op: BinaryOp, a: Term) -> Origin
 {
     match op {
         BinaryOp::Comp => Origin::Given(1),
-        BinaryOp::And => Origin::Same(a),
-        BinaryOp::Or => Origin::Same(a),
-        BinaryOp::Xor => Origin::Same(a),
-        BinaryOp::Add => Origin::Same(a),
-        BinaryOp::Shl => Origin::Same(a),
-        BinaryOp::Lshr => Origin::Same(a),
-        BinaryOp::Ashr => Origin::Same(a),
-        BinaryOp::Mul => Origin::Same(a),
-        BinaryOp::Udiv => Origin::Same(a),
-        BinaryOp::Urem => Origin::Same(a),
-        BinaryOp::Sdiv => Origin::Same(a),
-        BinaryOp::Srem => Origin::Same(a),
+        _ => Origin::Same(a),
     }
 }
 
@@ -46,22 +35,20 @@ pub fn origin_at(calls: &[u32], at: usize) -> Origin
     let w = call_list::argument_at(calls, at, 3);
     match call_list::operation_at(calls, at) {
         Operation::Term(term) => match term {
-            TermOp::BoolLit => Origin::Given(0),
-            TermOp::BoolIte => Origin::Given(0),
-            TermOp::Not => Origin::Given(0),
-            TermOp::And => Origin::Given(0),
+            TermOp::BoolLit
+            | TermOp::BoolIte
+            | TermOp::Not
+            | TermOp::And
+            | TermOp::Equal
+            | TermOp::Compare(_) => Origin::Given(0),
             TermOp::Lit => Origin::Given(a),
-            TermOp::Equal => Origin::Given(0),
             TermOp::Ite => Origin::Same(Term(b)),
             TermOp::Concat => Origin::Joined(Term(a), Term(b)),
             TermOp::Extract => Origin::Given(extract_width(a, b)),
             TermOp::BvNot => Origin::Same(Term(a)),
             TermOp::Binary(op) => binary_origin(op, Term(a)),
-            TermOp::Compare(_) => Origin::Given(0),
         },
         Operation::Declare => Origin::Given(w),
-        Operation::Assert => Origin::Given(65),
-        Operation::Check => Origin::Given(65),
-        Operation::Unknown => Origin::Given(65),
+        Operation::Assert | Operation::Check | Operation::Unknown => Origin::Given(65),
     }
 }

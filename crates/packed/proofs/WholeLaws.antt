@@ -8,8 +8,7 @@ use lib.Dec.{ltb}
 use lib.ListN.{length}
 use Rattle.logic.specs.declared.Fault.{Fault}
 use Rattle.builder.specs.declared.Counts.{Counts}
-use Rattle.cell.specs.declared.Chosen.{Chosen}
-use Rattle.cell.specs.declared.Chosen.TheVariants.{Known, Unknown}
+use Rattle.cell.specs.declared.Mode.{Mode}
 use Rattle.cell.specs.Mode.{mode_of}
 use Rattle.cell.specs.Design.{Design, total}
 use Rattle.engine.specs.Encode.{encode}
@@ -18,40 +17,40 @@ use Rattle.refusals.specs.Small.{Small}
 use Rattle.refusals.proofs.SmallLaws.{read_small}
 use Rattle.order.specs.Verify.{built, verify}
 use Rattle.requirement.specs.declared.Verified.{Verified}
-use Rattle.requirement.specs.declared.Verified.TheVariants.{Refused, NothingAsked, Asked}
+use Rattle.std.specs.Prelude.{Result, Ok, Err, Option, Some, None}
+use Rattle.requirement.specs.declared.Verified.TheVariants.{NothingAsked, Asked}
 use Rattle.requirement.specs.Verified.{number_of, value_of, counted, told, of_design, roomed, of_read, verified}
 use Rattle.requirement.specs.Verified.{read_by, read_in, of_read_unroomed, unroomed, room_for, in_room}
-use Rattle.requirement.specs.declared.Room.TheVariants.{Enough, Short}
 use Rattle.requirement.proofs.AnsweredLaws.{few-counts}
 use Rattle.requirement.proofs.Required.{is-accepted}
 use Rattle.packed.specs.Verified.{packed_verified, lent}
 use Rattle.packed.specs.Whole.{Whole}
 
 -- Numbers of the documents' faults, and values of at most 2^27.
-abbrev Low : Verified → Type 0
+abbrev Low : Result Verified Fault → Type 0
 Low a = (number_of a ≤ 23) × (value_of a ≤ 134217728)
 
-low-whole : (a : Verified) → Low a → Whole a (packed_verified a)
-low-whole (Refused e) low = record { number = omega arith; asked = omega arith; value = omega arith }
-low-whole (NothingAsked n) low = record { number = omega arith; asked = omega arith; value = omega arith }
-low-whole (Asked n) low = record { number = omega arith; asked = omega arith; value = omega arith }
+low-whole : (a : Result Verified Fault) → Low a → Whole a (packed_verified a)
+low-whole (Err e) low = record { number = omega arith; asked = omega arith; value = omega arith }
+low-whole (Ok (NothingAsked n)) low = record { number = omega arith; asked = omega arith; value = omega arith }
+low-whole (Ok (Asked n)) low = record { number = omega arith; asked = omega arith; value = omega arith }
 
-told-low : (l : List ℕ) (n : Counts) → n.words ≤ 134217728 → Low (told l n)
+told-low : (l : List ℕ) (n : Counts) → n.words ≤ 134217728 → Low (Ok (told l n))
 told-low [] n few = (omega arith, few)
 told-low (o ∷ l) n few = (omega arith, few)
 
 module _ (mode : ℕ) (w : List ℕ) where
-  refused-low : {e : Fault} → read_in mode w ≡ refused e → Low (Refused e)
+  refused-low : {e : Fault} → read_in mode w ≡ refused e → Low (Err e)
   unfolding read_in
   refused-low {e} is = go (mode_of mode) is
     where
-      go : (c : Chosen) → read_by c w ≡ refused e → Low (Refused e)
-      go Unknown is = let same : record { number = 23; place = 0 } ≡ e = cc in rw (← same) (omega arith, omega arith)
-      go (Known m) is =
+      go : (c : Option Mode) → read_by c w ≡ refused e → Low (Err e)
+      go None is = let same : record { number = 23; place = 0 } ≡ e = cc in rw (← same) (omega arith, omega arith)
+      go (Some m) is =
           let small : Small e = rw is at (read_small m w) in (omega (arith, small.0), omega (arith, small.1))
 
   module _ {d : Design} {reps pairs : ℕ} (is : read_in mode w ≡ accepted d reps pairs) where
-    answered-low : Low (of_design d)
+    answered-low : Low (Ok (of_design d))
     answered-low = told-low (built d).res (counted (verify d)) (few-counts mode w is 0 0).words
 
     roomed-low : (room recorded : ℕ) → Low (roomed d room recorded)
@@ -59,7 +58,7 @@ module _ (mode : ℕ) (w : List ℕ) where
     roomed-low room recorded = go (ltb room (length (encode (verify d)))) (ltb recorded (total d))
       where
         go : (a b : Bool)
-            → Low (in_room (cond a (Short (length (encode (verify d)))) (cond b (Short (total d)) Enough)) (of_design d))
+            → Low (in_room (cond a (Err (length (encode (verify d)))) (cond b (Err (total d)) (Ok tt))) (of_design d))
         go true b = let few = (few-counts mode w is 0 0).words in (omega arith, few)
         go false true = let low = (is-accepted mode w is).slots in (omega arith, omega arith)
         go false false = answered-low
@@ -80,16 +79,11 @@ module _ (mode : ℕ) (w : List ℕ) where
       go (refused e) is = refused-low is
       go (accepted d reps pairs) is = answered-low is
 
-lent-low : (a : Verified) (room : ℕ) → Low a → Low (lent a room)
-lent-low (Refused e) room low = low
-lent-low (NothingAsked n) room low = go (ltb room 3)
+lent-low : (a : Result Verified Fault) (room : ℕ) → Low a → Low (lent a room)
+lent-low (Err e) room low = low
+lent-low (Ok a) room low = go (ltb room 3)
   where
-    go : (b : Bool) → Low (cond b (Refused (record { number = 14; place = 3 })) (NothingAsked n))
-    go true = (omega arith, omega arith)
-    go false = low
-lent-low (Asked n) room low = go (ltb room 3)
-  where
-    go : (b : Bool) → Low (cond b (Refused (record { number = 14; place = 3 })) (Asked n))
+    go : (b : Bool) → Low (cond b (Err (record { number = 14; place = 3 })) (Ok a))
     go true = (omega arith, omega arith)
     go false = low
 

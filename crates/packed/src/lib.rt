@@ -10,45 +10,30 @@ use requirement::Verified;
 
 // What the order of work answers, packed: its number from bit 48 on, whether anything is asked in bit 47, and below
 // it the call words or the place.
-pub fn packed_verified(answer: Verified) -> u64
+pub fn packed_verified(answer: Result<Verified, Fault>) -> u64
     ensures { result ≡ packed_verified answer }
 {
     match answer {
-        Verified::Refused(f) => packing::packed_fault(f),
-        Verified::NothingAsked(n) => (n.words % 281474976710656) as u64,
-        Verified::Asked(n) => {
+        Err(f) => packing::packed_fault(f),
+        Ok(Verified::NothingAsked(n)) => (n.words % 281474976710656) as u64,
+        Ok(Verified::Asked(n)) => {
             ((n.words % 281474976710656) as u64 + 140737488355328) % 281474976710656
         }
     }
 }
 
 // An answer with its counts, or 14 where the slice lent for them has less than three numbers.
-fn with_room(answer: Verified, room: usize) -> Verified
+fn with_room(answer: Result<Verified, Fault>, room: usize) -> Result<Verified, Fault>
     ensures { result ≡ lent answer room }
 {
-    match answer {
-        Verified::Refused(f) => Verified::Refused(f),
-        Verified::NothingAsked(n) => {
-            if room < 3 {
-                Verified::Refused(Fault {
-                    number: 14,
-                    place: 3,
-                })
-            } else {
-                Verified::NothingAsked(n)
-            }
-        }
-        Verified::Asked(n) => {
-            if room < 3 {
-                Verified::Refused(Fault {
-                    number: 14,
-                    place: 3,
-                })
-            } else {
-                Verified::Asked(n)
-            }
-        }
+    let told = answer?;
+    if room < 3 {
+        return Err(Fault {
+            number: 14,
+            place: 3,
+        });
     }
+    Ok(told)
 }
 
 // Terms, temporaries and words, in this order, in front of a slice.
@@ -62,19 +47,14 @@ fn put_counts(n: Counts, into: &mut [u64])
 }
 
 // An answer and its counts told: packed, with the numbers of terms, temporaries and call words in front of a slice.
-pub fn told(answer: Verified, counts: &mut [u64]) -> u64
+pub fn told(answer: Result<Verified, Fault>, counts: &mut [u64]) -> u64
     ensures { Told answer counts.old counts.new result }
 {
     let roomed = with_room(answer, counts.len());
     match roomed {
-        Verified::Refused(f) => packed_verified(Verified::Refused(f)),
-        Verified::NothingAsked(n) => {
-            put_counts(n, counts);
-            packed_verified(Verified::NothingAsked(n))
-        }
-        Verified::Asked(n) => {
-            put_counts(n, counts);
-            packed_verified(Verified::Asked(n))
-        }
+        Err(_) => {}
+        Ok(Verified::NothingAsked(n)) => put_counts(n, counts),
+        Ok(Verified::Asked(n)) => put_counts(n, counts),
     }
+    packed_verified(roomed)
 }

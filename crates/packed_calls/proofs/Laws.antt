@@ -5,47 +5,46 @@ use mathlib.Core.List.{List}
 use Prim.Native.Nat.{ℕ, ◌<◌, ◌≤◌}
 use lib.ListN.{length, set}
 use borrow.Author.Tests.{lt-ltb, le-ltb}
-use Rattle.checker.specs.declared.CallList.{CallList}
-use Rattle.checker.specs.declared.CallList.TheVariants.{WellFormed, Malformed}
-use Rattle.eval.specs.declared.Evaluation.{Evaluation}
+use Rattle.std.specs.Prelude.{Result, Ok, Err}
+use Rattle.logic.specs.declared.Fault.{Fault}
+use Rattle.checker.specs.declared.Counts.{Counts}
 use Rattle.eval.specs.Evaluated as evaluated
-use Rattle.script.specs.declared.Written.{Written}
 use Rattle.script.specs.Written.{written, Scripted}
 use Rattle.packed_calls.specs.Packed.{packed_checked, PackedCheck, packed_evaluation, PackedEvaluation}
 use Rattle.packed_calls.specs.Packed.{packed_written, PackedScript}
 
-pub malformed-packed : {checked : CallList} {place : ℕ} (sizes : List ℕ) {r : ℕ} → checked ≡ Malformed place
-    → r ≡ packed_checked (Malformed place) (length sizes) → PackedCheck checked sizes sizes r
+pub malformed-packed : {checked : Result Counts ℕ} {place : ℕ} (sizes : List ℕ) {r : ℕ} → checked ≡ Err place
+    → r ≡ packed_checked (Err place) (length sizes) → PackedCheck checked sizes sizes r
 malformed-packed sizes is packed = rw is (record { answers = packed; writes = refl })
 
-pub short-packed : {checked : CallList} {terms declared : ℕ} (sizes : List ℕ) {r : ℕ} → checked
-    ≡ WellFormed terms declared → length sizes < 2
-    → r ≡ packed_checked (WellFormed 0 0) 0 → PackedCheck checked sizes sizes r
+pub short-packed : {checked : Result Counts ℕ} {made : Counts} (sizes : List ℕ) {r : ℕ} → checked
+    ≡ Ok made → length sizes < 2
+    → r ≡ packed_checked (Ok made) 0 → PackedCheck checked sizes sizes r
 short-packed sizes is short packed =
     rw is (record { answers = rw (lt-ltb (length sizes) 2 short) packed; writes = rw (lt-ltb (length sizes) 2 short) })
 
-pub sizes_packed : {checked : CallList} {terms declared : ℕ} (sizes after : List ℕ) {r : ℕ} → checked
-    ≡ WellFormed terms declared
-    → 2 ≤ length sizes → r ≡ packed_checked (WellFormed terms declared) 2 → after ≡ set (set sizes 0 terms) 1 declared
+pub sizes_packed : {checked : Result Counts ℕ} {made : Counts} (sizes after : List ℕ) {r : ℕ} → checked
+    ≡ Ok made
+    → 2 ≤ length sizes → r ≡ packed_checked (Ok made) 2 → after ≡ set (set sizes 0 made.terms) 1 made.declared
     → PackedCheck checked sizes after r
 sizes_packed sizes after is room packed stored =
     rw is (record
     { answers = rw (le-ltb (length sizes) 2 room) packed; writes = rw (le-ltb (length sizes) 2 room) stored })
 
-pub check-packed : {checked expected : CallList} {before after : List ℕ} {r : ℕ} → checked ≡ expected →
+pub check-packed : {checked expected : Result Counts ℕ} {before after : List ℕ} {r : ℕ} → checked ≡ expected →
     PackedCheck checked before after r
     → PackedCheck expected before after r
 check-packed same packed = rw same at packed
 
-pub evaluation_packed : (calls bits before after : List ℕ) {answer : Evaluation} {r : ℕ} → r ≡ packed_evaluation answer
+pub evaluation_packed : (calls bits before after : List ℕ) {answer : Result ℕ Fault} {r : ℕ} → r ≡ packed_evaluation answer
     → answer ≡ evaluated.answer calls bits (length before) → after ≡ evaluated.values_after answer calls bits before
     → PackedEvaluation calls bits before after r
 evaluation_packed calls bits before after packed same stored = record {
   answers = packed ∙ ap packed_evaluation same;
-  writes = stored ∙ ap (λ (a : Evaluation). evaluated.values_after a calls bits before) same;
+  writes = stored ∙ ap (λ (a : Result ℕ Fault). evaluated.values_after a calls bits before) same;
 }
 
-pub script-packed : (calls marks before after : List ℕ) {answer : Written} {r : ℕ} → r ≡ packed_written answer
+pub script-packed : (calls marks before after : List ℕ) {answer : Result ℕ Fault} {r : ℕ} → r ≡ packed_written answer
     → Scripted calls marks before after answer (written calls marks (length before)) →
     PackedScript calls marks before after r
 script-packed calls marks before after packed done = record {

@@ -7,20 +7,18 @@ ghost use Rattle.packed_calls.specs.Packed.{PackedCheck, checked_of, packed_eval
 ghost use Rattle.packed_calls.specs.Packed.{packed_written, PackedScript, PackedAnswer};
 
 use answer::Answer;
-use checker::CallList;
-use eval::Evaluation;
+use checker::Counts;
 use logic::Fault;
-use script::Written;
 
 // ---- the checker
 
 // Packs what the checker says, and stores the numbers of terms and of declared names.
-fn packed_check(checked: CallList, sizes: &mut [u64]) -> u64
+fn packed_check(checked: Result<Counts, usize>, sizes: &mut [u64]) -> u64
     ensures { PackedCheck checked sizes.old sizes.new result }
 {
     match checked {
-        CallList::Malformed(place) => packing::packed_fault(Fault { number: 19, place }),
-        CallList::WellFormed { terms, declared } => {
+        Err(place) => packing::packed_fault(Fault { number: 19, place }),
+        Ok(Counts { terms, declared }) => {
             if sizes.len() < 2 {
                 return packing::packed_fault(Fault {
                     number: 14,
@@ -57,12 +55,12 @@ pub fn check_with(calls: &[u32], sizes: &mut [u64], sorts: &mut [u8], names: &mu
 
 // ---- the evaluator
 
-fn packed_evaluation(answer: Evaluation) -> u64
+fn packed_evaluation(answer: Result<usize, Fault>) -> u64
     ensures { result ≡ packed_evaluation answer }
 {
     match answer {
-        Evaluation::Refused(f) => packing::packed_fault(f),
-        Evaluation::Evaluated(n) => (n % 281474976710656) as u64,
+        Err(f) => packing::packed_fault(f),
+        Ok(falses) => (falses % 281474976710656) as u64,
     }
 }
 
@@ -88,12 +86,12 @@ pub fn evaluate_with(
 
 // ---- the writer
 
-fn packed_written(answer: Written) -> u64
+fn packed_written(answer: Result<usize, Fault>) -> u64
     ensures { result ≡ packed_written answer }
 {
     match answer {
-        Written::Refused(f) => packing::packed_fault(f),
-        Written::Bytes(n) => (n % 281474976710656) as u64,
+        Err(f) => packing::packed_fault(f),
+        Ok(bytes) => (bytes % 281474976710656) as u64,
     }
 }
 
@@ -125,8 +123,8 @@ pub fn answer(text: &[u8], recorded: &[u8], trits: &mut [u8]) -> u64
     ensures { PackedAnswer text.now recorded.now trits.old trits.new result }
 {
     match answer::read_answer(text, recorded, trits) {
-        Answer::Refused(f) => packing::packed_fault(f),
-        Answer::Unsat => 0,
-        Answer::Sat => 1,
+        Ok(Answer::Unsat) => 0,
+        Ok(Answer::Sat) => 1,
+        Err(f) => packing::packed_fault(f),
     }
 }

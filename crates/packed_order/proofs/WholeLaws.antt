@@ -17,21 +17,23 @@ use Rattle.refusals.proofs.SmallLaws.{read_small}
 use Rattle.working_out.specs.Loop.{has_loop}
 use Rattle.working_out.specs.Loop as w
 use Rattle.loops.specs.Graph.{named_loop}
+use Rattle.std.specs.Prelude.{Result, Ok, Err}
+use Rattle.logic.specs.declared.Fault.{Fault}
 use Rattle.ordering.specs.declared.Ordering.{Ordering}
-use Rattle.ordering.specs.declared.Ordering.TheVariants.{Ordered, Looped, Refused}
+use Rattle.ordering.specs.declared.Ordering.TheVariants.{Ordered, Looped}
 use Rattle.ordering.specs.Answer.{number_of, value_of, order_of}
 use Rattle.ordering.proofs.Short.{loop_short}
 use Rattle.ordering.proofs.Answers.{nodes_short}
 use Rattle.packed_order.specs.Packed.{packed_order, Whole}
 
 -- Numbers of the documents' faults, and values of at most 2^27.
-abbrev Low : Ordering → Type 0
+abbrev Low : Result Ordering Fault → Type 0
 Low a = (number_of a ≤ 23) × (value_of a ≤ 134217728)
 
-low-whole : (a : Ordering) → Low a → Whole a (packed_order a)
-low-whole (Ordered n) low = record { number = omega arith; looped = omega arith; value = omega arith }
-low-whole (Looped n) low = record { number = omega arith; looped = omega arith; value = omega arith }
-low-whole (Refused e) low = record { number = omega arith; looped = omega arith; value = omega arith }
+low-whole : (a : Result Ordering Fault) → Low a → Whole a (packed_order a)
+low-whole (Ok (Ordered n)) low = record { number = omega arith; looped = omega arith; value = omega arith }
+low-whole (Ok (Looped n)) low = record { number = omega arith; looped = omega arith; value = omega arith }
+low-whole (Err e) low = record { number = omega arith; looped = omega arith; value = omega arith }
 
 module _ (mode : Mode) (list : List ℕ) where
   answer-low : (room : ℕ) → Low (order_of (read mode list) room)
@@ -39,8 +41,8 @@ module _ (mode : Mode) (list : List ℕ) where
     where
       of_design_lem : {d : Design} {replacements pairs : ℕ} → read mode list ≡ accepted d replacements pairs
           → (short loop : Bool) → has_loop d ≡ loop
-          → Low (cond short (Refused (fault 14 (total d)))
-          (cond loop (Looped (length (named_loop d))) (Ordered (length (w.order d)))))
+          → Low (cond short (Err (fault 14 (total d)))
+          (Ok (cond loop (Looped (length (named_loop d))) (Ordered (length (w.order d))))))
       of_design_lem is true loop e = let low = (accepted-read mode list is).low in (omega arith, omega arith)
       of_design_lem {d} is false true e =
           let low = (accepted-read mode list is).low in

@@ -26,6 +26,15 @@ struct Spelling {
     suffix: u32,
 }
 
+// The terms that a call list makes before a record: the places of every `gap + 1`th, and how many they are.
+#[derive(Clone, Copy)]
+pub struct Made<'a> {
+    pub calls: &'a [u32],
+    pub places: &'a [u32],
+    pub gap: u32,
+    pub terms: usize,
+}
+
 // What the line of a record does.
 #[derive(Clone, Copy)]
 pub enum Line {
@@ -53,8 +62,7 @@ pub fn line_of(operation: Operation) -> Line
         Operation::Term(_) => Line::Define,
         Operation::Declare => Line::Declare,
         Operation::Assert => Line::Assert,
-        Operation::Check => Line::Check,
-        Operation::Unknown => Line::Check,
+        Operation::Check | Operation::Unknown => Line::Check,
     }
 }
 
@@ -63,24 +71,11 @@ pub fn body_of(operation: Operation) -> Body
     ensures { result ≡ body_of (op_from operation) }
 {
     match operation {
-        Operation::Term(term) => match term {
-            TermOp::BoolLit => Body::Bool,
-            TermOp::BoolIte => Body::Application,
-            TermOp::Not => Body::Application,
-            TermOp::And => Body::And,
-            TermOp::Lit => Body::Literal,
-            TermOp::Equal => Body::Application,
-            TermOp::Ite => Body::Application,
-            TermOp::Concat => Body::Application,
-            TermOp::Extract => Body::Extract,
-            TermOp::BvNot => Body::Application,
-            TermOp::Binary(_) => Body::Application,
-            TermOp::Compare(_) => Body::Application,
-        },
-        Operation::Declare => Body::Application,
-        Operation::Assert => Body::Application,
-        Operation::Check => Body::Application,
-        Operation::Unknown => Body::Application,
+        Operation::Term(TermOp::BoolLit) => Body::Bool,
+        Operation::Term(TermOp::And) => Body::And,
+        Operation::Term(TermOp::Lit) => Body::Literal,
+        Operation::Term(TermOp::Extract) => Body::Extract,
+        _ => Body::Application,
     }
 }
 
@@ -88,26 +83,22 @@ pub fn body_of(operation: Operation) -> Body
 fn letter_byte(letter: u32) -> u8
     ensures { (result ∷ []) ≡ letter_text (get_or letters letter c.n) }
 {
-    if letter == 1 {
-        return b'p';
+    match letter {
+        1 => b'p',
+        2 => b't',
+        _ => b'n',
     }
-    if letter == 2 {
-        return b't';
-    }
-    b'n'
 }
 
 // Writes a suffix, by its number.
 fn put_suffix(text: &mut [u8], at: usize, suffix: u32) -> usize
     ensures { Wrote text.old at (suffix_text (get_or suffixes suffix c.none)) text.new result }
 {
-    if suffix == 1 {
-        return text::put_byte(text, at, b'x');
+    match suffix {
+        1 => text::put_byte(text, at, b'x'),
+        2 => text::put_byte(text, at, b'y'),
+        _ => at,
     }
-    if suffix == 2 {
-        return text::put_byte(text, at, b'y');
-    }
-    at
 }
 
 // Writes a letter, a number and a suffix.
@@ -157,74 +148,48 @@ pub fn put_numbered(text: &mut [u8], at: usize, term: usize) -> usize
 }
 
 // How a term, of so many so far, is written: a declared one by its name, any other by its number.
-fn reference_of(calls: &[u32], places: &[u32], gap: u32, terms: usize, term: Term) -> Spelling
-    ensures { spelled result ≡ reference_by places.now gap calls.now terms term.0 }
+fn reference_of(made: &Made, term: Term) -> Spelling
+    ensures { let m = made.now in
+        spelled result ≡ reference_by m.places.now m.gap m.calls.now m.terms term.0 }
 {
     let k = term.0 as usize;
-    if terms <= k {
+    if made.terms <= k {
         return number_of(k);
     }
-    let head = term_places::near_place(calls, places, gap, term.0);
-    if call_list::is_declare(call_list::operation_at(calls, head)) {
-        return declared_name(calls, head);
+    let head = term_places::near_place(made.calls, made.places, made.gap, term.0);
+    if call_list::is_declare(call_list::operation_at(made.calls, head)) {
+        return declared_name(made.calls, head);
     }
     number_of(k)
 }
 
 // Writes a term, of so many so far.
-pub fn put_reference(
-    text: &mut [u8],
-    at: usize,
-    calls: &[u32],
-    places: &[u32],
-    gap: u32,
-    terms: usize,
-    term: Term,
-) -> usize
-    ensures { Wrote text.old at
-        (reference_by places.now gap calls.now terms term.0) text.new result }
+pub fn put_reference(text: &mut [u8], at: usize, made: &Made, term: Term) -> usize
+    ensures { let m = made.now in Wrote text.old at
+        (reference_by m.places.now m.gap m.calls.now m.terms term.0) text.new result }
 {
-    put_spelling(text, at, reference_of(calls, places, gap, terms, term))
+    put_spelling(text, at, reference_of(made, term))
 }
 
 // Writes a space and a term.
-fn put_argument(
-    text: &mut [u8],
-    at: usize,
-    calls: &[u32],
-    places: &[u32],
-    gap: u32,
-    terms: usize,
-    term: Term,
-) -> usize
-    ensures { Wrote text.old at
-        (ascii " " ++ reference_by places.now gap calls.now terms term.0)
+fn put_argument(text: &mut [u8], at: usize, made: &Made, term: Term) -> usize
+    ensures { let m = made.now in Wrote text.old at
+        (ascii " " ++ reference_by m.places.now m.gap m.calls.now m.terms term.0)
         text.new result }
 {
     let next = text::put_byte(text, at, b' ');
-    put_reference(text, next, calls, places, gap, terms, term)
+    put_reference(text, next, made, term)
 }
 
 // Writes the first arguments of a record, each after a space.
-fn put_arguments(
-    text: &mut [u8],
-    start: usize,
-    calls: &[u32],
-    places: &[u32],
-    gap: u32,
-    terms: usize,
-    head: usize,
-    n: u32,
-) -> usize
-    ensures { Wrote text.old start
-        (spaced (argument_texts places.now gap calls.now terms head n)) text.new result }
+fn put_arguments(text: &mut [u8], start: usize, made: &Made, head: usize, n: u32) -> usize
+    ensures { let m = made.now in Wrote text.old start
+        (spaced (argument_texts m.places.now m.gap m.calls.now m.terms head n)) text.new result }
 {
     let mut at = start;
-    let mut i = 0;
-    while i < n {
-        let term = Term(call_list::argument_at(calls, head, i as usize));
-        at = put_argument(text, at, calls, places, gap, terms, term);
-        i += 1;
+    for i in 0..n {
+        let term = Term(call_list::argument_at(made.calls, head, i as usize));
+        at = put_argument(text, at, made, term);
     }
     at
 }
@@ -233,74 +198,44 @@ fn put_arguments(
 pub fn put_application(
     text: &mut [u8],
     at: usize,
-    calls: &[u32],
-    places: &[u32],
-    gap: u32,
-    terms: usize,
+    made: &Made,
     head: usize,
     operation: Operation,
     n: u32,
 ) -> usize
-    ensures { Wrote text.old at
+    ensures { let m = made.now in Wrote text.old at
         (applied (operation_text (op_from operation))
-        (argument_texts places.now gap calls.now terms head n)) text.new result }
+        (argument_texts m.places.now m.gap m.calls.now m.terms head n)) text.new result }
 {
     let name = text::put_byte(text, at, b'(');
     let arguments = syntax::put_operation(text, name, operation);
-    let closing = put_arguments(text, arguments, calls, places, gap, terms, head, n);
+    let closing = put_arguments(text, arguments, made, head, n);
     text::put_byte(text, closing, b')')
 }
 
 // Writes an and; one of one argument is that argument.
-pub fn put_conjunction(
-    text: &mut [u8],
-    at: usize,
-    calls: &[u32],
-    places: &[u32],
-    gap: u32,
-    terms: usize,
-    head: usize,
-    n: u32,
-) -> usize
-    ensures { Wrote text.old at
-        (conjunction (argument_texts places.now gap calls.now terms head n))
+pub fn put_conjunction(text: &mut [u8], at: usize, made: &Made, head: usize, n: u32) -> usize
+    ensures { let m = made.now in Wrote text.old at
+        (conjunction (argument_texts m.places.now m.gap m.calls.now m.terms head n))
         text.new result }
 {
     if n == 1 {
-        let term = Term(call_list::argument_at(calls, head, 0));
-        return put_reference(text, at, calls, places, gap, terms, term);
+        let term = Term(call_list::argument_at(made.calls, head, 0));
+        return put_reference(text, at, made, term);
     }
-    put_application(
-        text,
-        at,
-        calls,
-        places,
-        gap,
-        terms,
-        head,
-        Operation::Term(TermOp::And),
-        n,
-    )
+    put_application(text, at, made, head, Operation::Term(TermOp::And), n)
 }
 
 // Writes the part of a vector that a record takes out.
-pub fn put_extraction(
-    text: &mut [u8],
-    at: usize,
-    calls: &[u32],
-    places: &[u32],
-    gap: u32,
-    terms: usize,
-    head: usize,
-) -> usize
-    ensures { Wrote text.old at
-        (extraction_text places.now gap calls.now terms head) text.new result }
+pub fn put_extraction(text: &mut [u8], at: usize, made: &Made, head: usize) -> usize
+    ensures { let m = made.now in Wrote text.old at
+        (extraction_text m.places.now m.gap m.calls.now m.terms head) text.new result }
 {
     let operation = text::put_byte(text, at, b'(');
-    let high = call_list::argument_at(calls, head, 0) as usize;
-    let low = call_list::argument_at(calls, head, 1) as usize;
+    let high = call_list::argument_at(made.calls, head, 0) as usize;
+    let low = call_list::argument_at(made.calls, head, 1) as usize;
     let argument = syntax::put_extract(text, operation, high, low);
-    let term = Term(call_list::argument_at(calls, head, 2));
-    let closing = put_argument(text, argument, calls, places, gap, terms, term);
+    let term = Term(call_list::argument_at(made.calls, head, 2));
+    let closing = put_argument(text, argument, made, term);
     text::put_byte(text, closing, b')')
 }

@@ -10,6 +10,8 @@ use lib.ListN.{get_or-append}
 use lib.Seq.{sets, sets-eq}
 use lib.Dec.{ltb, leb, eqb}
 use borrow.Author.Tests.{ltb-true, ltb-false}
+use Rattle.std.specs.Prelude.{Result, Ok, Err}
+use Rattle.logic.specs.declared.Fault.{Fault}
 use Rattle.logic.specs.declared.Slot.{Slot}
 use Rattle.cell.specs.Cell.{output_len, slots_of, standing, stands_void}
 use Rattle.cell.specs.Operation.{may_replace}
@@ -17,10 +19,8 @@ use Rattle.cell.specs.declared.Standing.{Standing}
 use Rattle.cell.specs.declared.Standing.TheVariants as T
 use Rattle.cell.specs.declared.Operation.{Operation}
 use Rattle.cell.specs.Design.{Placed}
-use Rattle.fields.specs.declared.Scan.TheVariants as S
 use Rattle.cell_reader.specs.Parse.{cell_at}
 use Rattle.placing.specs.declared.Placing.{Placing}
-use Rattle.placing.specs.declared.Placing.TheVariants as P
 use Rattle.placing.specs.Slots.{covering, nowhere, takes, at_slot, is_void, standing_number, mark_of, slot_words}
 use Rattle.items.specs.Items.{stop, refuse, push, AtSlot, replaces}
 use Rattle.placing.specs.Cells.{on_placing, placed_at, cells_from, cells_of}
@@ -32,7 +32,7 @@ use Rattle.placing.specs.Cover.{Walk, done, placed}
 module _ (w : List ℕ) (base total : ℕ) where
   pub walk-read :
       (turns slot at end : ℕ) → base ≤ total → slot ≤ total → total ≤ slot + turns →
-      (cells_from w base total turns slot at).scan ≡ S.Clean end → (Walk w base total) slot
+      (cells_from w base total turns slot at).scan ≡ Ok end → (Walk w base total) slot
       at (cells_from w base total turns slot at).items end
   unfolding cells_from
   walk-read zero slot at end order low enough read =
@@ -42,37 +42,37 @@ module _ (w : List ℕ) (base total : ℕ) where
     where
       Rest : ℕ → ℕ → Type 0
       Rest after next =
-          after ≤ total → total ≤ after + turns → (cells_from w base total turns after next).scan ≡ S.Clean end →
+          after ≤ total → total ≤ after + turns → (cells_from w base total turns after next).scan ≡ Ok end →
           (Walk w base total) after next (cells_from w base total turns after next).items end
 
       go :
-          slot < total → (p : Placing) → placed_at w base total slot at ≡ p →
+          slot < total → (p : Result Placing Fault) → placed_at w base total slot at ≡ p →
           (on_placing p refuse (λ (op : Operation) (width : ℕ) (after : Slot) (next : ℕ).
           push (record { slot = slot; cell = cell_at w at }) (cells_from w base total turns after.0 next))).scan
-          ≡ S.Clean end →
+          ≡ Ok end →
           ((after next : ℕ) → Rest after next) →
           (Walk w base total) slot at
           (on_placing p refuse (λ (op : Operation) (width : ℕ) (after : Slot) (next : ℕ).
           push (record { slot = slot; cell = cell_at w at }) (cells_from w base total turns after.0 next))).items end
-      go inside (P.Refused f) p e rest = let z : ◌≡◌ {A = ℕ} 0 1 = cc in absurd (omega arith)
-      go inside (P.Placed op width after next) p e rest =
+      go inside (Err f) p e rest = let z : ◌≡◌ {A = ℕ} 0 1 = cc in absurd (omega arith)
+      go inside (Ok cell) p e rest =
           let is = placed-read w base total slot at p in
-          let last : after.0 ≤ total = limit_low w base total slot order is.within in
-          let ends : after.0 ≡ slot + max 1 width = is.ends in
-          placed inside is (rest after.0 next last (omega arith) e)
+          let last : cell.after.0 ≤ total = limit_low w base total slot order is.within in
+          let ends : cell.after.0 ≡ slot + max 1 cell.width = is.ends in
+          placed inside is (rest cell.after.0 cell.next last (omega arith) e)
 
       more :
           (b : Bool) → ltb slot total ≡ b →
           (cond b
           (on_placing (placed_at w base total slot at) refuse (λ (op : Operation) (width : ℕ) (after : Slot) (next : ℕ).
           push (record { slot = slot; cell = cell_at w at }) (cells_from w base total turns after.0 next)))
-          (stop (S.Clean at))).scan ≡ S.Clean end →
+          (stop (Ok at))).scan ≡ Ok end →
           ((after next : ℕ) → Rest after next) →
           (Walk w base total) slot at
           (cond b
           (on_placing (placed_at w base total slot at) refuse (λ (op : Operation) (width : ℕ) (after : Slot) (next : ℕ).
           push (record { slot = slot; cell = cell_at w at }) (cells_from w base total turns after.0 next)))
-          (stop (S.Clean at))).items end
+          (stop (Ok at))).items end
       more true b e rest = go (ltb-true _ _ b) (placed_at w base total slot at) refl e rest
       more false b e rest =
           let past : total ≤ slot = ltb-false _ _ b in
@@ -92,7 +92,7 @@ walk_covers {slot = slot} (placed {at = at} {width = width} {after = after} {cel
 
 -- The cells of a list whose cells met no fault.
 pub walk-cells :
-    (w : List ℕ) (base added end : ℕ) → (cells_of w base (base + added)).scan ≡ S.Clean end →
+    (w : List ℕ) (base added end : ℕ) → (cells_of w base (base + added)).scan ≡ Ok end →
     Walk w base (base + added) 0 4 (cells_of w base (base + added)).items end
 unfolding cells_of
 walk-cells w base added end read =

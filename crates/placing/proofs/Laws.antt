@@ -10,6 +10,7 @@ use lib.ListN.{length, set, replicate, length-replicate}
 use lib.Seq.{sets, length-sets}
 use lib.Dec.{ltb, leb}
 use borrow.Author.Tests.{lt-ltb, le-ltb, leb-true}
+use Rattle.std.specs.Prelude.{Result, Ok, Err}
 use Rattle.logic.specs.declared.Fault.{Fault}
 use Rattle.stores.proofs.Laws.{sets_append}
 use Rattle.logic.specs.declared.Slot.{Slot}
@@ -17,19 +18,17 @@ use Rattle.cell.specs.Cell.{output_len, slots_of}
 use Rattle.cell.specs.Design.{Placed}
 use Rattle.cell.specs.Operation.{standing_of}
 use Rattle.cell.specs.declared.Operation.{Operation}
-use Rattle.fields.specs.declared.Scan.TheVariants as S
 use Rattle.fields.specs.Field.{fault}
 use Rattle.cell_reader.specs.declared.Record.{Record}
-use Rattle.cell_reader.specs.declared.Record.TheVariants as R
 use Rattle.cell_reader.specs.Record.{on_record, record_at}
 use Rattle.cell_reader.specs.Parse.{op_at, cell_at}
 use Rattle.cell_reader.specs.Accepted.{IsRecord}
 use Rattle.cell_reader.proofs.AcceptedLaws.{record_read, standing-at}
-use Rattle.placing.specs.declared.Placing.TheVariants as P
-use Rattle.placing.specs.declared.Cells.TheVariants as C
 use Rattle.placing.specs.Slots.{covering, mark_of, mark_word, slot_words}
 use Rattle.items.specs.Items.{Reading, stop, push}
-use Rattle.placing.specs.Cells.{limit_of, placed_at, cells_from, cells_of, counted}
+use Rattle.placing.specs.declared.Cells.{Cells}
+use Rattle.placing.specs.declared.Placing.{Placing}
+use Rattle.placing.specs.Cells.{placing, cell_count, limit_of, placed_at, cells_from, cells_of, counted}
 use Rattle.placing.specs.Placement.{IsPlaced}
 
 map-append : {A B : Type 0} (f : A → B) (a b : List A) → map f (a ++ b) ≡ map f a ++ map f b
@@ -48,9 +47,19 @@ marks_cons base c cs =
     map-append (mark_of base) (replicate (slots_of c.cell) c) (covering cs) ∙
     ap (λ (l : List ℕ). l ++ slot_words base cs) (map-replicate (mark_of base) (slots_of c.cell) c)
 
+-- The parts of a placed cell that was read.
+pub placing_parts : {op o : Operation} {width m next n : ℕ} {after s : Slot} →
+    ◌≡◌ {A = Result Placing Fault} (Ok (placing op width after next)) (Ok (placing o m s n)) →
+    (op ≡ o) × ((width ≡ m) × ((after ≡ s) × (next ≡ n)))
+placing_parts {op} {o} {width} {m} {next} {n} {after} {s} e =
+    let same : placing op width after next ≡ placing o m s n = cc in (
+      ap (λ (p : Placing). p.op) same,
+      (ap (λ (p : Placing). p.width) same, (ap (λ (p : Placing). p.after) same, ap (λ (p : Placing). p.next) same)),
+    )
+
 pub placed-read :
     (w : List ℕ) (base total slot at : ℕ) {op : Operation} {width next : ℕ} {after : Slot} → placed_at w base total slot
-    at ≡ P.Placed op width after next →
+    at ≡ Ok (placing op width after next) →
     IsPlaced w base total slot at op width after.0 next
 unfolding placed_at
 placed-read w base total slot at {op} {width} {next} {after} read = go (record_at w total at) refl read
@@ -58,15 +67,16 @@ placed-read w base total slot at {op} {width} {next} {after} read = go (record_a
     fits :
         (o : Operation) (width₁ next₁ : ℕ) → IsRecord w total at o width₁ next₁ →
         (b : Bool) → leb (slot + max 1 width₁) (limit_of base total slot) ≡ b →
-        cond b (P.Placed o width₁ (record { 0 = slot + max 1 width₁ }) next₁) (P.Refused (fault 11 at))
-        ≡ P.Placed op width after next →
+        cond b (Ok (placing o width₁ (record { 0 = slot + max 1 width₁ }) next₁)) (Err (fault 11 at))
+        ≡ Ok (placing op width after next) →
         IsPlaced w base total slot at op width after.0 next
     fits o width₁ next₁ is false b e = let z : ◌≡◌ {A = ℕ} 0 1 = cc in absurd (omega arith)
     fits o width₁ next₁ is true b e =
-        let same_op : o ≡ op = cc in
-        let same_width : width₁ ≡ width = cc in
-        let same_next : next₁ ≡ next = cc in
-        let same-slot : record { 0 = slot + max 1 width₁ } ≡ after = cc in
+        let parts = placing_parts e in
+        let same_op : o ≡ op = parts.0 in
+        let same_width : width₁ ≡ width = parts.1.0 in
+        let same_next : next₁ ≡ next = parts.1.1.1 in
+        let same-slot : record { 0 = slot + max 1 width₁ } ≡ after = parts.1.1.0 in
         let same_after : after.0 ≡ slot + max 1 width₁ = sym (ap (λ (s : Slot). s.0) same-slot) in
         let low : slot + max 1 width₁ ≤ limit_of base total slot = leb-true _ _ b in
         record {
@@ -76,31 +86,31 @@ placed-read w base total slot at {op} {width} {next} {after} read = go (record_a
         }
 
     go :
-        (r : Record) → record_at w total at ≡ r →
-        on_record r P.Refused (λ (o : Operation) (width₁ next₁ : ℕ).
+        (r : Result Record Fault) → record_at w total at ≡ r →
+        on_record r Err (λ (o : Operation) (width₁ next₁ : ℕ).
         cond (leb (slot + max 1 width₁) (limit_of base total slot))
-        (P.Placed o width₁ (record { 0 = slot + max 1 width₁ }) next₁) (P.Refused (fault 11 at)))
-        ≡ P.Placed op width after next → IsPlaced w base total slot at op width after.0 next
-    go (R.Refused f) r e = let z : ◌≡◌ {A = ℕ} 0 1 = cc in absurd (omega arith)
-    go (R.Read o width₁ next₁) r e =
-        fits o width₁ next₁ (record_read w total at r) (leb (slot + max 1 width₁) (limit_of base total slot)) refl e
+        (Ok (placing o width₁ (record { 0 = slot + max 1 width₁ }) next₁)) (Err (fault 11 at)))
+        ≡ Ok (placing op width after next) → IsPlaced w base total slot at op width after.0 next
+    go (Err f) r e = let z : ◌≡◌ {A = ℕ} 0 1 = cc in absurd (omega arith)
+    go (Ok x) r e =
+        fits x.op x.width x.next (record_read w total at r) (leb (slot + max 1 x.width) (limit_of base total slot)) refl e
 
 module _ (w : List ℕ) (base total : ℕ) where
-  cells-done : (turns slot at : ℕ) → total ≤ slot → cells_from w base total turns slot at ≡ stop (S.Clean at)
+  cells-done : (turns slot at : ℕ) → total ≤ slot → cells_from w base total turns slot at ≡ stop (Ok at)
   unfolding cells_from
   cells-done zero slot at past = refl
   cells-done (suc turns) slot at past = rw (le-ltb slot total past)
 
   cells-fault :
-      (turns slot at : ℕ) {e : Fault} → 0 < turns → slot < total → placed_at w base total slot at ≡ P.Refused e →
-      cells_from w base total turns slot at ≡ stop (S.Refused e)
+      (turns slot at : ℕ) {e : Fault} → 0 < turns → slot < total → placed_at w base total slot at ≡ Err e →
+      cells_from w base total turns slot at ≡ stop (Err e)
   unfolding cells_from
   cells-fault zero slot at some inside refused = absurd (omega arith)
   cells-fault (suc turns) slot at some inside refused = rw (lt-ltb slot total inside, refused)
 
   pub cells_turn :
       (turns slot at : ℕ) {op : Operation} {width next : ℕ} {after : Slot} → 0 < turns → slot < total →
-      placed_at w base total slot at ≡ P.Placed op width after next →
+      placed_at w base total slot at ≡ Ok (placing op width after next) →
       cells_from w base total turns slot at
       ≡ push (record { slot = slot; cell = cell_at w at }) (cells_from w base total (turns - 1) after.0 next)
   unfolding cells_from
@@ -132,26 +142,26 @@ module _ (w : List ℕ) (base total : ℕ) where
 
   pub going_done :
       {t₀ t : List ℕ} {at slot count : ℕ} → Going t₀ t at slot count → total ≤ slot →
-      (C.Read count at ≡ counted (cells_of w base total))
+      (Ok (cell_count count at) ≡ counted (cells_of w base total))
       × (t ≡ sets t₀ 0 (slot_words base (cells_of w base total).items))
   unfolding covering
   going_done {t₀} {t} {at} {slot} {count} going past =
-      let done : cells_from w base total (total - count) slot at ≡ stop (S.Clean at) = cells-done (total - count) slot
+      let done : cells_from w base total (total - count) slot at ≡ stop (Ok at) = cells-done (total - count) slot
       at past in
-      let scan : (cells_of w base total).scan ≡ S.Clean at = rw done at going.scan in
+      let scan : (cells_of w base total).scan ≡ Ok at = rw done at going.scan in
       let many : length (cells_of w base total).items ≡ count + 0 = rw done at going.many in
       (rw (scan, many, add-zero), sym (rw done at going.table))
 
   pub going_fault :
       {t₀ t : List ℕ} {at slot count : ℕ} {e : Fault} → Going t₀ t at slot count → slot < total →
-      placed_at w base total slot at ≡ P.Refused e →
-      (C.Refused e ≡ counted (cells_of w base total)) × (t ≡ sets t₀ 0 (slot_words base (cells_of w base total).items))
+      placed_at w base total slot at ≡ Err e →
+      (Err e ≡ counted (cells_of w base total)) × (t ≡ sets t₀ 0 (slot_words base (cells_of w base total).items))
   unfolding covering
   going_fault {t₀} {t} {at} {slot} {count} {e} going inside refused =
       let few : count ≤ slot = going.few in
-      let done : cells_from w base total (total - count) slot at ≡ stop (S.Refused e) = cells-fault (total - count) slot
+      let done : cells_from w base total (total - count) slot at ≡ stop (Err e) = cells-fault (total - count) slot
       at (omega arith) inside refused in
-      let scan : (cells_of w base total).scan ≡ S.Refused e = rw done at going.scan in
+      let scan : (cells_of w base total).scan ≡ Err e = rw done at going.scan in
       (rw scan, sym (rw done at going.table))
 
   pub limit_low : (slot : ℕ) {after : ℕ} → base ≤ total → after ≤ limit_of base total slot → after ≤ total
@@ -164,7 +174,7 @@ module _ (w : List ℕ) (base total : ℕ) where
   pub going_turn :
       {t₀ t : List ℕ} {at slot count : ℕ} {op : Operation} {width next : ℕ} {after : Slot} → Going t₀ t at slot count →
       slot < total → base ≤ total →
-      placed_at w base total slot at ≡ P.Placed op width after next →
+      placed_at w base total slot at ≡ Ok (placing op width after next) →
       Going t₀ (sets t slot (replicate (after.0 - slot) (mark_word base (standing_of op) width slot))) next after.0
       (count + 1)
   going_turn {t₀} {t} {at} {slot} {count} {op} {width} {next} {after} going inside order placed =

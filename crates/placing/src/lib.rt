@@ -7,33 +7,29 @@ ghost use Rattle.placing.specs.Slots.{standing_number, mark_word, slot_words};
 ghost use Rattle.placing.specs.Cells.{limit_of, placed_at, cells_of, counted};
 
 use cell::{Operation, Standing};
-use cell_reader::Record;
 use logic::{Fault, Slot};
 
-// A cell's operation and output width, the slot and the place after it; or the fault met.
+// A cell's operation and output width, the slot and the place after it.
 #[derive(Clone, Copy)]
-pub enum Placing {
-    Placed {
-        op: Operation,
-        width: usize,
-        after: Slot,
-        next: usize,
-    },
-    Refused(Fault),
+pub struct Placing {
+    pub op: Operation,
+    pub width: usize,
+    pub after: Slot,
+    pub next: usize,
 }
 
-// How many cells, and the place after them; or the fault met.
+// How many cells, and the place after them.
 #[derive(Clone, Copy)]
-pub enum Cells {
-    Read { count: usize, next: usize },
-    Refused(Fault),
+pub struct Cells {
+    pub count: usize,
+    pub next: usize,
 }
 
 // The slots that a cell of an output width takes.
 fn slots_of(width: usize) -> usize
     ensures { result ≡ max 1 width }
 {
-    if width < 1 { 1 } else { width }
+    width.max(1)
 }
 
 // The slot by which a cell that begins at a slot must end.
@@ -48,29 +44,31 @@ fn limit_of(base: usize, total: usize, slot: Slot) -> usize
 }
 
 // The cell at a place, which begins at a slot.
-fn placed_at(list: &[u32], base: usize, total: usize, slot: Slot, at: usize) -> Placing
+#[tactic(auto, unfolding(crate::specs::Cells::placed_at))]
+fn placed_at(
+    list: &[u32],
+    base: usize,
+    total: usize,
+    slot: Slot,
+    at: usize,
+) -> Result<Placing, Fault>
     requires { slot.0 < 2 ^ 17 }
     ensures { result ≡ placed_at list.now base total slot.0 at }
 {
-    match reader::record_in(list, total, at) {
-        Record::Refused(f) => Placing::Refused(f),
-        Record::Read { op, width, next } => {
-            let after = slot.0 as usize + slots_of(width);
-            if after <= limit_of(base, total, slot) {
-                Placing::Placed {
-                    op,
-                    width,
-                    after: Slot(after as u32),
-                    next,
-                }
-            } else {
-                Placing::Refused(Fault {
-                    number: 11,
-                    place: at,
-                })
-            }
-        }
+    let cell = reader::record_in(list, total, at)?;
+    let after = slot.0 as usize + slots_of(cell.width);
+    if limit_of(base, total, slot) < after {
+        return Err(Fault {
+            number: 11,
+            place: at,
+        });
     }
+    Ok(Placing {
+        op: cell.op,
+        width: cell.width,
+        after: Slot(after as u32),
+        next: cell.next,
+    })
 }
 
 // What stands at a slot, as a number.
@@ -99,7 +97,7 @@ fn mark_word(base: usize, stands: Standing, width: usize, first: Slot) -> u32
 }
 
 // The cells up to a total of slots, with the word for each slot that they take stored in the table.
-fn cells_within(list: &[u32], base: usize, total: usize, table: &mut [u32]) -> Cells
+fn cells_within(list: &[u32], base: usize, total: usize, table: &mut [u32]) -> Result<Cells, Fault>
     requires { (base ≤ total) × (total < 2 ^ 17) }
     ensures { (result ≡ counted (cells_of list.now base total))
         × (table.new ≡ sets table.old 0
@@ -109,33 +107,22 @@ fn cells_within(list: &[u32], base: usize, total: usize, table: &mut [u32]) -> C
     let mut slot = Slot(0);
     let mut count: usize = 0;
     while (slot.0 as usize) < total {
-        match placed_at(list, base, total, slot, at) {
-            Placing::Refused(f) => {
-                return Cells::Refused(f);
-            }
-            Placing::Placed {
-                op,
-                width,
-                after,
-                next,
-            } => {
-                stores::fill(
-                    table,
-                    slot.0 as usize,
-                    after.0 as usize,
-                    mark_word(base, cell::standing_of(op), width, slot),
-                );
-                slot = after;
-                at = next;
-                count += 1;
-            }
-        }
+        let cell = placed_at(list, base, total, slot, at)?;
+        stores::fill(
+            table,
+            slot.0 as usize,
+            cell.after.0 as usize,
+            mark_word(base, cell::standing_of(cell.op), cell.width, slot),
+        );
+        slot = cell.after;
+        at = cell.next;
+        count += 1;
     }
-    Cells::Read { count, next: at }
+    Ok(Cells { count, next: at })
 }
 
 // The cells of a base and of what is added to it, with the word for each slot that they take stored in the table.
-pub fn cells_at(list: &[u32], base: u16, added: u16, table: &mut [u32]) -> Cells
+pub fn cells_at(list: &[u32], base: u16, added: u16, table: &mut [u32]) -> Result<Cells, Fault>
     ensures { (result ≡ counted (cells_of list.now base (base + added)))
         × (table.new ≡ sets table.old 0
         (slot_words base (cells_of list.now base (base + added)).items)) }

@@ -3,27 +3,22 @@
 use mathlib.Core.Path.{◌≡◌, refl, sym, ap, ◌∙◌}
 use mathlib.Core.Bool.{Bool, true, false}
 use mathlib.Core.List.{List}
-use mathlib.Core.Option.{Option, some, none}
+use mathlib.Core.Option as found
 use Prim.Native.Nat.{ℕ, ◌+◌, ◌<◌, ◌≤◌, ◌^◌}
 use native.Mathlib.Omega.{arith}
 use lib.Dec.{ltb}
 use lib.ListN.{length, take}
 use borrow.Author.Tests.{ltb-false}
 use Rattle.logic.specs.declared.Fault.{Fault}
-use Rattle.little_endian.specs.declared.Input.{Input}
-use Rattle.little_endian.specs.declared.Input.TheVariants as input
+use Rattle.std.specs.Prelude.{Result, Ok, Err, Option, Some, None}
 use Rattle.little_endian.specs.Words.{words_of, input_of}
 use Rattle.design_list.specs.declared.Extent.{Extent}
-use Rattle.design_list.specs.declared.DesignRead.TheVariants as D
 use Rattle.design_list.specs.Read.{Read, refused, accepted, answer}
 use Rattle.engine.specs.Emit.{Wrote}
 use Rattle.text.proofs.Write.{overwrite-fits}
 use Rattle.engine.specs.WellFormed.{malformed_at}
 use Rattle.engine.specs.Encode.{decode}
 use Rattle.asked.specs.Marks.{bad_mark}
-use Rattle.asked.specs.declared.Mark.{Mark}
-use Rattle.asked.specs.declared.Mark.TheVariants.{Fine, Bad}
-use Rattle.script.specs.declared.Written.TheVariants.{Bytes, Refused}
 use Rattle.script.specs.Written.{script_of, room_for, on_fine, on_formed, marked, written, Scripted}
 use Rattle.builder.specs.declared.Counts.{Counts}
 use Rattle.requirement.specs.declared.Verified.{Verified}
@@ -38,11 +33,11 @@ use Rattle.program.specs.Output.{slots_in, Leaves}
 
 -- ---- the slots of an accepted list
 
-pub slots-refused : (r : Read) {e : Fault} → answer r ≡ D.Refused e → slots_in r ≡ 0
+pub slots-refused : (r : Read) {e : Fault} → answer r ≡ Err e → slots_in r ≡ 0
 slots-refused (refused e) is = refl
 slots-refused (accepted d replacements pairs) is = let z : ◌≡◌ {A = ℕ} 0 1 = cc in absurd (omega arith)
 
-pub slots-accepted : (r : Read) {x : Extent} → answer r ≡ D.Accepted x → slots_in r ≡ x.base + x.added
+pub slots-accepted : (r : Read) {x : Extent} → answer r ≡ Ok x → slots_in r ≡ x.base + x.added
 slots-accepted (refused e) is = let z : ◌≡◌ {A = ℕ} 0 1 = cc in absurd (omega arith)
 slots-accepted (accepted d replacements pairs) {x} is =
     let base : d.base ≡ x.base = cc in
@@ -52,21 +47,21 @@ slots-accepted (accepted d replacements pairs) {x} is =
 -- ---- a script that fits
 
 -- The writer counts the bytes of a script, and there is room for them.
-pub script-fits : (w marks : List ℕ) (room : ℕ) {n : ℕ} → written w marks room ≡ Bytes n
+pub script-fits : (w marks : List ℕ) (room : ℕ) {n : ℕ} → written w marks room ≡ Ok n
     → (n ≡ length (script_of w marks)) × (length (script_of w marks) ≤ room)
 unfolding written marked
 script-fits w marks room {n} is =
     go (malformed_at w) (bad_mark (decode w) 0 marks) (ltb room (length (script_of w marks))) refl is
   where
-    go : (place : Option ℕ) (mark : Mark) (short : Bool) → ltb room (length (script_of w marks)) ≡ short
-        → on_formed place (on_fine mark (room_for (length (script_of w marks)) room)) ≡ Bytes n
+    go : (place : found.Option ℕ) (mark : Option ℕ) (short : Bool) → ltb room (length (script_of w marks)) ≡ short
+        → on_formed place (on_fine mark (room_for (length (script_of w marks)) room)) ≡ Ok n
         → (n ≡ length (script_of w marks)) × (length (script_of w marks) ≤ room)
-    go (some place) mark short e is = let z : ◌≡◌ {A = ℕ} 0 1 = cc in absurd (omega arith)
-    go none (Bad slot) short e is = let z : ◌≡◌ {A = ℕ} 0 1 = cc in absurd (omega arith)
-    go none Fine true e is =
+    go (found.some place) mark short e is = let z : ◌≡◌ {A = ℕ} 0 1 = cc in absurd (omega arith)
+    go found.none (Some slot) short e is = let z : ◌≡◌ {A = ℕ} 0 1 = cc in absurd (omega arith)
+    go found.none None true e is =
         let refuses = rw e at is in
         let z : ◌≡◌ {A = ℕ} 0 1 = cc in absurd (omega arith)
-    go none Fine false e is =
+    go found.none None false e is =
         let fits : length (script_of w marks) ≤ room = ltb-false _ _ e in
         let bytes = rw e at is in
         let same : length (script_of w marks) ≡ n = cc in
@@ -74,7 +69,7 @@ script-fits w marks room {n} is =
 
 -- What the writer wrote is the script, with the line before it.
 pub wrote-script : {line calls recorded before after lined line' : List ℕ} {m n : ℕ} → length before < 2 ^ 64
-    → Scripted calls recorded before after (Bytes n) (written calls recorded (length before))
+    → Scripted calls recorded before after (Ok n) (written calls recorded (length before))
     → Wrote lined 0 line line' m
     → Leaves (script_texts line calls recorded (length before)) lined before line' after (record { line = m; text = n })
 wrote-script {calls = calls} {recorded} {before} short done named =
@@ -90,35 +85,34 @@ wrote-script {calls = calls} {recorded} {before} short done named =
 
 -- After the writer's refusal the text is as it was, and takes the refusal's line.
 pub wrote-refused : (line : List ℕ) {calls recorded before middle after lined line' : List ℕ} {e : Fault} {r : Lengths}
-    → Scripted calls recorded before middle (Refused e) (written calls recorded (length before))
+    → Scripted calls recorded before middle (Err e) (written calls recorded (length before))
     → Leaves (refusal e) lined middle line' after r
     → Leaves (script_texts line calls recorded (length before)) lined before line' after r
 wrote-refused line done wrote = rw (← done.answers) (rw done.writes at wrote)
 
 -- ---- what is written for each answer of `verify`
 
-pub nothing-says : {r : Verified} {n : Counts} → r ≡ design.NothingAsked n → Says r n
+pub nothing-says : {r : Result Verified Fault} {n : Counts} → r ≡ Ok (design.NothingAsked n) → Says r n
 nothing-says is = rw is refl
 
-pub asked-says : {r : Verified} {n : Counts} → r ≡ design.Asked n → Says r n
+pub asked-says : {r : Result Verified Fault} {n : Counts} → r ≡ Ok (design.Asked n) → Says r n
 asked-says is = rw is refl
 
-told_text : (a : Verified) (n : Counts) → Says a n → (texts : Texts) → of_verified a texts ≡ texts
-told_text (design.Refused e) n said texts = absurd said
-told_text (design.NothingAsked m) n said texts = refl
-told_text (design.Asked m) n said texts = refl
+told_text : (a : Result Verified Fault) (n : Counts) → Says a n → (texts : Texts) → of_verified a texts ≡ texts
+told_text (Err e) n said texts = absurd said
+told_text (Ok a) n said texts = refl
 
 -- `verify` with the program's room.
-module _ {w calls recorded calls' recorded' : List ℕ} {r : Verified}
+module _ {w calls recorded calls' recorded' : List ℕ} {r : Result Verified Fault}
     (left : Verifies 0 w calls recorded calls' recorded' r)
     (words : length calls ≡ 16384) (marked : length recorded ≡ 4096) where
   answer-is : r ≡ verified 0 w 16384 4096
   answer-is = left.answer ∙ rw (words, marked)
 
-  pub list-refused : {e : Fault} → r ≡ design.Refused e → (room : ℕ) → list_output w room ≡ refusal e
+  pub list-refused : {e : Fault} → r ≡ Err e → (room : ℕ) → list_output w room ≡ refusal e
   unfolding list_output
   list-refused is room =
-      ap (λ (a : Verified). of_verified a (script_texts (loop_text (read_in 0 w)) (call_words 0 w) (marks 0 w) room))
+      ap (λ (a : Result Verified Fault). of_verified a (script_texts (loop_text (read_in 0 w)) (call_words 0 w) (marks 0 w) room))
       (sym answer-is ∙ is)
 
   module _ (n : Counts) (said : Says r n) (slots : ℕ) (all : slots ≡ slots_in (read_in 0 w)) where
@@ -135,7 +129,7 @@ module _ {w calls recorded calls' recorded' : List ℕ} {r : Verified}
     list-told room =
         let s = verify_said left n said in
         let recorded-are : take slots recorded' ≡ marks 0 w = rw (all, ap slots_in s.is) s.marks in
-        ap (λ (a : Verified). of_verified a (script_texts (loop_text (read_in 0 w)) (call_words 0 w) (marks 0 w) room))
+        ap (λ (a : Result Verified Fault). of_verified a (script_texts (loop_text (read_in 0 w)) (call_words 0 w) (marks 0 w) room))
         (sym answer-is)
         ∙ told_text r n said _
         ∙ rw (s.words, recorded-are)
@@ -143,10 +137,10 @@ module _ {w calls recorded calls' recorded' : List ℕ} {r : Verified}
 -- ---- the bytes of the input
 
 module _ (bytes : List ℕ) (room : ℕ) where
-  pub input-refused : {e : Fault} → input.Refused e ≡ input_of bytes → output_in bytes room ≡ refusal e
+  pub input-refused : {e : Fault} → Err e ≡ input_of bytes → output_in bytes room ≡ refusal e
   unfolding output_in
-  input-refused is = ap (λ (a : Input). of_input a (words_of bytes) room) (sym is)
+  input-refused is = ap (λ (a : Result ℕ Fault). of_input a (words_of bytes) room) (sym is)
 
-  pub input-read : {n : ℕ} → input.Words n ≡ input_of bytes → output_in bytes room ≡ list_output (words_of bytes) room
+  pub input-read : {n : ℕ} → Ok n ≡ input_of bytes → output_in bytes room ≡ list_output (words_of bytes) room
   unfolding output_in
-  input-read is = ap (λ (a : Input). of_input a (words_of bytes) room) (sym is)
+  input-read is = ap (λ (a : Result ℕ Fault). of_input a (words_of bytes) room) (sym is)

@@ -7,6 +7,7 @@ use native.Mathlib.Omega.{arith}
 use lib.ListN.{length, take, drop, length-append}
 use lib.Seq.{take_at}
 use borrow.Author.Tests.{le-ltb}
+use Rattle.std.specs.Prelude.{Result, Ok, Err}
 use Rattle.logic.specs.declared.Fault.{Fault}
 use Rattle.cell.specs.declared.Mode.{Mode}
 use Rattle.cell.specs.Design.{Design, total}
@@ -16,18 +17,18 @@ use Rattle.working_out.specs.Loop.{has_loop}
 use Rattle.working_out.specs.Loop as w
 use Rattle.loops.specs.Graph.{named_loop}
 use Rattle.ordering.specs.declared.Ordering.{Ordering}
-use Rattle.ordering.specs.declared.Ordering.TheVariants.{Ordered, Looped, Refused}
+use Rattle.ordering.specs.declared.Ordering.TheVariants.{Ordered, Looped}
 use Rattle.ordering.specs.Answer.{Orders}
 use Rattle.loop_line.specs.Line.{loop_line}
 use Rattle.program.specs.Output.{loop_text}
 
 -- What the line is, for each answer.
-abbrev Named : Read → List ℕ → Ordering → Type 0
-Named r slots (Ordered n) = loop_text r ≡ []
-Named r slots (Looped n) = (loop_text r ≡ loop_line (take n slots)) × (n ≤ length slots)
-Named r slots (Refused e) = loop_text r ≡ []
+abbrev Named : Read → List ℕ → Result Ordering Fault → Type 0
+Named r slots (Ok (Ordered n)) = loop_text r ≡ []
+Named r slots (Ok (Looped n)) = (loop_text r ≡ loop_line (take n slots)) × (n ≤ length slots)
+Named r slots (Err e) = loop_text r ≡ []
 
-module _ (mode : Mode) (list : List ℕ) {slots slots' : List ℕ} {a : Ordering} (room : length slots ≡ 4096)
+module _ (mode : Mode) (list : List ℕ) {slots slots' : List ℕ} {a : Result Ordering Fault} (room : length slots ≡ 4096)
     (orders : Orders (read mode list) slots slots' a) where
   named : Named (read mode list) slots' a
   named = go (read mode list) refl orders
@@ -35,7 +36,7 @@ module _ (mode : Mode) (list : List ℕ) {slots slots' : List ℕ} {a : Ordering
       found : (d : Design) (reps pairs : ℕ) (b : Bool) → has_loop d ≡ b
           → slots' ≡ cond b (named_loop d) (w.order d) ++ drop (length (cond b (named_loop d) (w.order d))) slots
           → Named (accepted d reps pairs) slots'
-          (cond b (Looped (length (named_loop d))) (Ordered (length (w.order d))))
+          (Ok (cond b (Looped (length (named_loop d))) (Ordered (length (w.order d)))))
       found d reps pairs true e slice =
           let many = ap length slice ∙ length-append (named_loop d) (drop (length (named_loop d)) slots) in (
             rw (e, slice, take_at (named_loop d) (drop (length (named_loop d)) slots) (length (named_loop d)) refl),
@@ -50,11 +51,11 @@ module _ (mode : Mode) (list : List ℕ) {slots slots' : List ℕ} {a : Ordering
           let roomy = le-ltb (length slots) (total d) (omega arith) in
           rw (o.answer, roomy) (found d reps pairs (has_loop d) refl (o.slice ∙ rw roomy))
 
-  pub loop_named : {n : ℕ} → a ≡ Looped n → (loop_text (read mode list) ≡ loop_line (take n slots')) × (n ≤ length slots')
+  pub loop_named : {n : ℕ} → a ≡ Ok (Looped n) → (loop_text (read mode list) ≡ loop_line (take n slots')) × (n ≤ length slots')
   loop_named is = rw is at named
 
-  pub order-unnamed : {n : ℕ} → a ≡ Ordered n → loop_text (read mode list) ≡ []
+  pub order-unnamed : {n : ℕ} → a ≡ Ok (Ordered n) → loop_text (read mode list) ≡ []
   order-unnamed is = rw is at named
 
-  pub refused-unnamed : {e : Fault} → a ≡ Refused e → loop_text (read mode list) ≡ []
+  pub refused-unnamed : {e : Fault} → a ≡ Err e → loop_text (read mode list) ≡ []
   refused-unnamed is = rw is at named

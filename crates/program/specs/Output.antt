@@ -2,10 +2,8 @@
 -- `refused N at P`. It lends 16,384 call words and 65,536 text bytes; a broken last word is fault 1 there, after 4 for
 -- a 16,385th word." Document 02, change 4: "The program writes a loop as a line like `; loop s1 s4` before the script,
 -- outside the lent text, and still writes the script; a refusal is written alone." What it writes, for every input.
-use Rattle.std.specs.Prelude.{cond, List, [], ◌∷◌, ◌++◌, ℕ}
+use Rattle.std.specs.Prelude.{Result, Ok, Err, cond, List, [], ◌∷◌, ◌++◌, ℕ}
 use Rattle.logic.specs.declared.Fault.{Fault}
-use Rattle.little_endian.specs.declared.Input.{Input}
-use Rattle.little_endian.specs.declared.Input.TheVariants as input
 use Rattle.little_endian.specs.Words.{words_of, input_of}
 use Rattle.design_list.specs.Read.{Read, refused, accepted}
 use Rattle.cell.specs.Design.{total}
@@ -14,11 +12,8 @@ use Rattle.text.specs.Bytes.{ascii, decimal}
 use Rattle.working_out.specs.Loop.{has_loop}
 use Rattle.loops.specs.Graph.{named_loop}
 use Rattle.loop_line.specs.Line.{loop_line}
-use Rattle.script.specs.declared.Written.{Written}
-use Rattle.script.specs.declared.Written.TheVariants as script
 use Rattle.script.specs.Written.{written, script_of}
 use Rattle.requirement.specs.declared.Verified.{Verified}
-use Rattle.requirement.specs.declared.Verified.TheVariants as design
 use Rattle.requirement.specs.Verified.{read_in, verified, call_words, marks}
 use Rattle.program.specs.declared.Lengths.{Lengths}
 
@@ -42,19 +37,18 @@ abbrev pub loop_text : Read → List ℕ
 loop_text (refused e) = []
 loop_text (accepted d replacements pairs) = cond (has_loop d) (loop_line (named_loop d)) []
 
-abbrev pub script_or : Written → Texts → Texts
-script_or (script.Bytes n) texts = texts
-script_or (script.Refused e) texts = refusal e
+abbrev pub script_or : Result ℕ Fault → Texts → Texts
+script_or (Ok n) texts = texts
+script_or (Err e) texts = refusal e
 
 -- The script of call words and marks after a line, or the writer's refusal, by the room lent for the text.
 abbrev pub script_texts : List ℕ → List ℕ → List ℕ → ℕ → Texts
 script_texts line calls recorded room =
     script_or (written calls recorded room) (record { line = line; text = script_of calls recorded })
 
-abbrev pub of_verified : Verified → Texts → Texts
-of_verified (design.Refused e) texts = refusal e
-of_verified (design.NothingAsked n) texts = texts
-of_verified (design.Asked n) texts = texts
+abbrev pub of_verified : Result Verified Fault → Texts → Texts
+of_verified (Ok counts) texts = texts
+of_verified (Err e) texts = refusal e
 
 -- What is written for a list of words: in mode 0, "the ported one, which the program keeps" (document 02, change 7).
 unfoldable pub list_output : List ℕ → ℕ → Texts
@@ -62,9 +56,9 @@ list_output w room =
     of_verified (verified 0 w 16384 4096) (script_texts (loop_text (read_in 0 w)) (call_words 0 w) (marks 0 w) room)
 
 -- What is written for the bytes of the input: its own faults before anything else, then what its words say.
-abbrev pub of_input : Input → List ℕ → ℕ → Texts
-of_input (input.Refused e) words room = refusal e
-of_input (input.Words n) words room = list_output words room
+abbrev pub of_input : Result ℕ Fault → List ℕ → ℕ → Texts
+of_input (Err e) words room = refusal e
+of_input (Ok n) words room = list_output words room
 
 unfoldable pub output_in : List ℕ → ℕ → Texts
 output_in bytes room = of_input (input_of bytes) (words_of bytes) room

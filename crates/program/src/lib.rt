@@ -8,12 +8,9 @@ ghost use Rattle.requirement.specs.Verified.{read_in};
 ghost use Rattle.program.specs.Output.{refusal_line, refusal, loop_text, script_texts, list_output, output_in};
 ghost use Rattle.program.specs.Output.{slots_in, Leaves};
 
-use design_list::DesignRead;
-use little_endian::Input;
 use logic::Fault;
 use ordering::Ordering;
 use requirement::Verified;
-use script::Written;
 
 // How many bytes are written: of the line that names a loop, and of the text.
 #[derive(Clone, Copy)]
@@ -50,9 +47,9 @@ fn put_loop(line: &mut [u8], list: &[u32]) -> usize
 {
     let mut slots = [0u32; 4096];
     match ordering::order(list, &mut slots) {
-        Ordering::Refused(_) => 0,
-        Ordering::Ordered(_) => 0,
-        Ordering::Looped(n) => loop_line::put_loop(line, &slots[..n]),
+        Ok(Ordering::Looped(n)) => loop_line::put_loop(line, &slots[..n]),
+        Ok(Ordering::Ordered(_)) => 0,
+        Err(_) => 0,
     }
 }
 
@@ -73,11 +70,11 @@ fn put_script(
         line.old text.old line.new text.new result }
 {
     match script::write_script(&calls[..words], &recorded[..slots], text) {
-        Written::Bytes(n) => Lengths {
+        Ok(n) => Lengths {
             line: put_loop(line, list),
             text: n,
         },
-        Written::Refused(f) => refuse(line, text, f),
+        Err(f) => refuse(line, text, f),
     }
 }
 
@@ -86,8 +83,8 @@ fn slots_of(list: &[u32]) -> usize
     ensures { result ≡ slots_in (read_in 0 list.now) }
 {
     match design_list::read_design(list) {
-        DesignRead::Refused(_) => 0,
-        DesignRead::Accepted(x) => x.base + x.added,
+        Ok(x) => x.base + x.added,
+        Err(_) => 0,
     }
 }
 
@@ -101,11 +98,11 @@ fn put_list(line: &mut [u8], text: &mut [u8], list: &[u32]) -> Lengths
     let mut recorded = [0u8; 4096];
     let slots = slots_of(list);
     match design::verify(0, list, &mut calls, &mut recorded) {
-        Verified::Refused(f) => refuse(line, text, f),
-        Verified::NothingAsked(c) => put_script(
+        Ok(Verified::NothingAsked(c)) => put_script(
             line, text, list, &calls, c.words, &recorded, slots,
         ),
-        Verified::Asked(c) => put_script(line, text, list, &calls, c.words, &recorded, slots),
+        Ok(Verified::Asked(c)) => put_script(line, text, list, &calls, c.words, &recorded, slots),
+        Err(f) => refuse(line, text, f),
     }
 }
 
@@ -117,7 +114,7 @@ pub fn output(input: &[u8], line: &mut [u8], text: &mut [u8]) -> Lengths
 {
     let mut words = [0u32; 16384];
     match little_endian::words(input, &mut words) {
-        Input::Refused(f) => refuse(line, text, f),
-        Input::Words(n) => put_list(line, text, &words[..n]),
+        Ok(n) => put_list(line, text, &words[..n]),
+        Err(f) => refuse(line, text, f),
     }
 }

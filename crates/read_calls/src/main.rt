@@ -4,10 +4,8 @@
 // all 7777; of more than 64 a digest.
 #![tactic(auto)]
 
-use checker::CallList;
-use eval::Evaluation;
+use checker::Counts;
 use logic::Fault;
-use word_input::Next;
 
 // The file descriptor of standard output.
 const STDOUT_FILENO: i32 = 1;
@@ -26,25 +24,23 @@ fn store(numbers: &mut [u64], at: usize, low: u32, high: u32) {
 
 // The next n numbers of the input, stored from the start on.
 fn load_numbers(numbers: &mut [u64], n: usize) {
-    let mut at: usize = 0;
-    while at < n {
+    for at in 0..n {
         let low = word_input::word_or_zero();
         let high = word_input::word_or_zero();
         store(numbers, at, low, high);
-        at += 1;
     }
 }
 
 // What the checker says.
 fn show_check(list: &[u32]) {
     match checker::check(list) {
-        CallList::WellFormed { terms, declared } => {
+        Ok(Counts { terms, declared }) => {
             io::write_all(STDOUT_FILENO, b"well formed ");
             io::print_decimal(STDOUT_FILENO, terms as u64);
             io::write_all(STDOUT_FILENO, b" ");
             io::print_decimal(STDOUT_FILENO, declared as u64);
         }
-        CallList::Malformed(place) => {
+        Err(place) => {
             io::write_all(STDOUT_FILENO, b"malformed at ");
             io::print_decimal(STDOUT_FILENO, place as u64);
         }
@@ -52,13 +48,13 @@ fn show_check(list: &[u32]) {
 }
 
 // What the evaluator answers.
-fn show_evaluation(evaluation: Evaluation) {
+fn show_evaluation(evaluation: Result<usize, Fault>) {
     match evaluation {
-        Evaluation::Evaluated(n) => {
+        Ok(n) => {
             io::write_all(STDOUT_FILENO, b"; evaluated ");
             io::print_decimal(STDOUT_FILENO, n as u64);
         }
-        Evaluation::Refused(fault) => {
+        Err(fault) => {
             io::write_all(STDOUT_FILENO, b"; refused ");
             io::print_decimal(STDOUT_FILENO, fault.number as u64);
             io::write_all(STDOUT_FILENO, b" at ");
@@ -70,12 +66,8 @@ fn show_evaluation(evaluation: Evaluation) {
 // One number of many: three times the digest so far and the next value.
 fn digest(values: &[u64]) -> u64 {
     let mut sum: u64 = 0;
-    let mut at: usize = 0;
-    while at < values.len() {
-        let twice = std::num::wrapping_add_u64(sum, sum);
-        let thrice = std::num::wrapping_add_u64(twice, sum);
-        sum = std::num::wrapping_add_u64(thrice, values[at]);
-        at += 1;
+    for value in values {
+        sum = sum.wrapping_mul(3).wrapping_add(*value);
     }
     sum
 }
@@ -88,48 +80,35 @@ fn show_values(values: &[u64]) {
         return;
     }
     io::write_all(STDOUT_FILENO, b";");
-    let mut at: usize = 0;
-    while at < values.len() {
+    for value in values {
         io::write_all(STDOUT_FILENO, b" ");
-        io::print_decimal(STDOUT_FILENO, values[at]);
-        at += 1;
+        io::print_decimal(STDOUT_FILENO, *value);
     }
 }
 
 // Whether two refusals are the same.
 fn same_fault(a: Fault, b: Fault) -> bool {
-    if a.number == b.number {
-        a.place == b.place
-    } else {
-        false
-    }
+    a.number == b.number && a.place == b.place
 }
 
 // Whether two answers are the same.
-fn same(a: Evaluation, b: Evaluation) -> bool {
-    match a {
-        Evaluation::Evaluated(n) => match b {
-            Evaluation::Evaluated(m) => n == m,
-            Evaluation::Refused(_) => false,
-        },
-        Evaluation::Refused(fault) => match b {
-            Evaluation::Evaluated(_) => false,
-            Evaluation::Refused(other) => same_fault(fault, other),
-        },
+fn same(a: Result<usize, Fault>, b: Result<usize, Fault>) -> bool {
+    match (a, b) {
+        (Ok(n), Ok(m)) => n == m,
+        (Err(fault), Err(other)) => same_fault(fault, other),
+        _ => false,
     }
 }
 
 // Evaluates once more, with tables of three terms and two indexes, past which the records are searched, and tells where
 // anything differs.
-fn show_small(list: &[u32], bits: &[u64], values: &mut [u64], answer: Evaluation) {
+fn show_small(list: &[u32], bits: &[u64], values: &mut [u64], answer: Result<usize, Fault>) {
     let mut sorts = [0u8; 3];
     let mut names = [0u8; 18];
     let before = digest(values);
     let small = eval::evaluate_with(list, bits, values, &mut sorts, &mut names);
-    if same(answer, small) {
-        if digest(values) == before {
-            return;
-        }
+    if same(answer, small) && digest(values) == before {
+        return;
     }
     io::write_all(STDOUT_FILENO, b"; another answer with small tables");
 }
@@ -153,20 +132,16 @@ fn read_list(n: usize) {
     let m = word_input::word_or_zero() as usize;
     load_numbers(&mut bits, m);
     let v = word_input::word_or_zero() as usize;
-    if n <= 16400 {
-        if m <= 16400 {
-            if v <= 16400 {
-                show(&words[..n], &bits[..m], &mut values[..v]);
-            }
-        }
+    if n <= 16400 && m <= 16400 && v <= 16400 {
+        show(&words[..n], &bits[..m], &mut values[..v]);
     }
 }
 
 // One list, if the input has one.
 fn turn() -> bool {
     match word_input::next_word() {
-        Next::End => false,
-        Next::Word(length) => {
+        None => false,
+        Some(length) => {
             read_list(length as usize);
             true
         }
@@ -174,11 +149,8 @@ fn turn() -> bool {
 }
 
 fn main() {
-    let mut left: u32 = 2000;
-    while 0 < left {
-        if turn() {
-            left -= 1;
-        } else {
+    for _ in 0..2000 {
+        if !turn() {
             return;
         }
     }

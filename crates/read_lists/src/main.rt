@@ -2,9 +2,6 @@
 // `accepted SLOTS` or `refused N at P`.
 #![tactic(auto)]
 
-use design_list::DesignRead;
-use word_input::Next;
-
 // The file descriptor of standard output.
 const STDOUT_FILENO: i32 = 1;
 
@@ -16,13 +13,13 @@ fn room() -> [u32; 16400] {
 // The line for a list.
 fn show(list: &[u32]) {
     match design_list::read_design(list) {
-        DesignRead::Accepted(x) => {
+        Ok(x) => {
             io::write_all(STDOUT_FILENO, b"accepted ");
             io::print_decimal(STDOUT_FILENO, x.base as u64);
             io::write_all(STDOUT_FILENO, b" + ");
             io::print_decimal(STDOUT_FILENO, x.added as u64);
         }
-        DesignRead::Refused(f) => {
+        Err(f) => {
             io::write_all(STDOUT_FILENO, b"refused ");
             io::print_decimal(STDOUT_FILENO, f.number as u64);
             io::write_all(STDOUT_FILENO, b" at ");
@@ -43,8 +40,8 @@ fn read_list(words: &mut [u32], n: usize) {
 // One list, if the input has one.
 fn turn() -> bool {
     match word_input::next_word() {
-        Next::End => false,
-        Next::Word(length) => {
+        None => false,
+        Some(length) => {
             let n = length as usize;
             let mut words = room();
             read_list(&mut words, n);
@@ -54,11 +51,8 @@ fn turn() -> bool {
 }
 
 fn main() {
-    let mut left: u32 = 1000;
-    while 0 < left {
-        if turn() {
-            left -= 1;
-        } else {
+    for _ in 0..1000 {
+        if !turn() {
             return;
         }
     }

@@ -3,9 +3,9 @@
 use mathlib.Core.Path.{◌≡◌, refl, ap, ap₂}
 use mathlib.Core.Bool.{Bool, true, false, cond}
 use mathlib.Core.List.{List, [], ◌∷◌}
-use Prim.Native.Nat.{ℕ, ◌/◌, ◌≤◌, ◌<◌}
+use Prim.Native.Nat.{ℕ, ◌≤◌, ◌<◌}
 use native.Mathlib.Omega.{arith}
-use lib.ListN.{get_or, length, length-map}
+use lib.ListN.{length, length-map}
 use Rattle.logic.specs.Net.{Net, constant, slot, driver_of_net}
 use Rattle.cell.specs.Design.{Design, NetPair, total, cell_of}
 use Rattle.cell.specs.declared.Operation.{Operation}
@@ -23,18 +23,10 @@ use Rattle.loops.specs.Edges.{edge}
 use Rattle.loops.specs.Graph.{edges_from, of_pair}
 use Rattle.edges.proofs.Low.{Low, net-low, reads-low}
 use Rattle.replaced_cells.specs.Cursor.{Readable}
-use Rattle.cell_reads.specs.Reads.{edges_in, Adds}
+use Rattle.cell_reads.specs.Reads.{edges_in}
 use Rattle.reads_table.specs.Table.{IsTable}
 use Rattle.reads_table.specs.Nodes.{void_by, slots_in}
-use Rattle.reads_table.specs.Fills.{Fills, void_words}
-
--- What was added by the table's words.
-pub adds_fills : {table reads edges edges₁ : List ℕ} {node count r : ℕ} → Adds table node reads edges count edges₁ r
-    → Fills (edges_in table node reads) edges count edges₁ r
-adds_fills {table} {reads} {node = node} adds = record {
-  slice = adds.slice;
-  many = omega (arith, adds.many, length-map reads (λ i. edge node (get_or table i 0 / 1024)));
-}
+use Rattle.reads_table.specs.Fills.{void_words}
 
 -- A record that was read.
 pub readable : {w : List ℕ} {total at : ℕ} {op : Operation} {width next : ℕ} → IsRecord w total at op width next

@@ -1,12 +1,12 @@
 // The current reads of an accepted list as words, and its nodes as flags.
 #![tactic(auto)]
 
-ghost use Rattle.std.specs.Prelude.{◌≡◌, cond, [], ◌∷◌, ℕ, ◌<◌, ◌≤◌, ◌^◌, max, length, replicate};
+ghost use Rattle.std.specs.Prelude.{◌≡◌, cond, [], ◌∷◌, ℕ, ◌+◌, ◌%◌, ◌<◌, ◌≤◌, ◌^◌, max, length, replicate, MatchOption};
 ghost use Rattle.cell.specs.Design.{Design, total};
 ghost use Rattle.cell.specs.declared.Mode as declared;
 ghost use Rattle.cell.specs.Each.{Each};
 ghost use Rattle.rules.specs.Reads.{current_net, current_reads};
-ghost use Rattle.cell_reader.specs.Parse.{number_in, net_in, cell_at};
+ghost use Rattle.cell_reader.specs.Parse.{number_in, net_in, cell_at, end_at};
 ghost use Rattle.design_list.specs.Read.{read, accepted};
 ghost use Rattle.loops.specs.Graph.{node_flags, cell_edges, pair_edges};
 ghost use Rattle.nets.specs.Reads.{past_in};
@@ -26,19 +26,8 @@ fn has_rule(op: Operation) -> bool
     ensures { result ≡ has_rule op }
 {
     match op {
-        Operation::Void => false,
-        Operation::Note => true,
-        Operation::IoBuf => false,
-        Operation::Input => false,
-        Operation::Unary(_) => true,
-        Operation::Binary(_) => true,
-        Operation::Mux => true,
-        Operation::Adc => true,
-        Operation::Aig => true,
-        Operation::Shift(_) => true,
-        Operation::Match => true,
-        Operation::Assign => true,
-        Operation::Dff => true,
+        Operation::Void | Operation::IoBuf | Operation::Input => false,
+        _ => true,
     }
 }
 
@@ -46,18 +35,40 @@ fn has_rule(op: Operation) -> bool
 fn is_asserted(list: &[u32], table: &[u32], at: usize, slot: Slot) -> bool
     ensures { result ≡ asserted_in list.now table.now at slot.0 }
 {
-    if has_rule(replaced_cells::op_at(list, at)) {
-        return slots::width_at(table, slot) != 0;
-    }
-    false
+    has_rule(replaced_cells::op_at(list, at)) && slots::width_at(table, slot) != 0
 }
 
 // The slots that the cell at a slot takes.
 fn slots_at(table: &[u32], slot: Slot) -> u32
     ensures { result ≡ max 1 (width_in table.now slot.0) }
 {
-    let width = slots::width_at(table, slot);
-    if width < 1 { 1 } else { width }
+    slots::width_at(table, slot).max(1)
+}
+
+// A walk along the cells of an accepted list: the place of the next record, and its first slot.
+#[derive(Clone, Copy)]
+struct Walk {
+    at: usize,
+    slot: usize,
+}
+
+impl Walk {
+    // The place and the slot of the next cell, if one is left.
+    fn next(&mut self, list: &[u32], table: &[u32]) -> Option<(usize, Slot)>
+        ensures { MatchOption result (length table.now ≤ self.old.slot) (λ cell.
+            (self.old.slot < length table.now) × (cell.0 ≡ self.old.at) × (cell.1.0 ≡ self.old.slot % 2 ^ 32)
+            × (self.old.at < length list.now → self.new.at ≡ end_at list.now self.old.at)
+            × (self.new.slot ≡ self.old.slot + max 1 (width_in table.now cell.1.0))) }
+    {
+        if table.len() <= self.slot {
+            return None;
+        }
+        let at = self.at;
+        let slot = Slot((self.slot % 4294967296) as u32);
+        self.at = replaced_cells::next_at(list, at);
+        self.slot += slots_at(table, slot) as usize;
+        Some((at, slot))
+    }
 }
 
 // The flag of the cell at a slot, its record at a place, if it is asserted.
@@ -76,13 +87,9 @@ fn flag_cells(list: &[u32], table: &[u32], flags: &mut [u32])
         → read mode list.now ≡ accepted d replacements pairs → IsTable d table.now
         → flags.new ≡ flag_all flags.old (cell_nodes d.cells) }
 {
-    let mut at: usize = 4;
-    let mut index: usize = 0;
-    while index < table.len() {
-        let slot = Slot((index % 4294967296) as u32);
+    let mut walk = Walk { at: 4, slot: 0 };
+    while let Some((at, slot)) = walk.next(list, table) {
         flag_cell(list, table, flags, at, slot);
-        at = replaced_cells::next_at(list, at);
-        index += slots_at(table, slot) as usize;
     }
 }
 
@@ -98,10 +105,8 @@ fn void_of(table: &[u32], from_net: Net, to_net: Net) -> Driver
     ensures { result ≡ void_in table.now from_net.0 to_net.0 }
 {
     match slots::pair_of(table, from_net, to_net) {
-        Pair::Equal => Driver::NoNet,
         Pair::OfVoid => logic::driver_of(from_net),
-        Pair::OfDffs => Driver::NoNet,
-        Pair::Ordinary => Driver::NoNet,
+        _ => Driver::NoNet,
     }
 }
 
@@ -110,10 +115,8 @@ fn flag_pair(table: &[u32], flags: &mut [u32], from_net: Net, to_net: Net)
     ensures { flags.new ≡ flag_all flags.old
         (slots_in (void_in table.now from_net.0 to_net.0)) }
 {
-    match void_of(table, from_net, to_net) {
-        Driver::Constant(_) => {}
-        Driver::Output(slot) => logic::put(flags, slot.0 as usize, 1),
-        Driver::NoNet => {}
+    if let Driver::Output(slot) = void_of(table, from_net, to_net) {
+        logic::put(flags, slot.0 as usize, 1);
     }
 }
 
@@ -123,12 +126,10 @@ fn flag_pairs(list: &[u32], pairs: usize, table: &[u32], flags: &mut [u32])
         → read mode list.now ≡ accepted d replacements pairs → IsTable d table.now
         → flags.new ≡ flag_all flags.old (pair_nodes d d.net_reps) }
 {
-    let mut at = pairs;
-    while at < list.len() {
+    for at in (pairs..list.len()).step_by(2) {
         let from_net = net_at(list, at);
         let to_net = net_at(list, at + 1);
         flag_pair(table, flags, from_net, to_net);
-        at += 2;
     }
 }
 
@@ -170,13 +171,9 @@ fn fill_cells(list: &[u32], table: &[u32], edges: &mut [u32]) -> usize
         → Fills (cell_edges d d.cells) edges.old 0 edges.new result × (result ≤ replacements) }
 {
     let mut count: usize = 0;
-    let mut at: usize = 4;
-    let mut index: usize = 0;
-    while index < table.len() {
-        let slot = Slot((index % 4294967296) as u32);
+    let mut walk = Walk { at: 4, slot: 0 };
+    while let Some((at, slot)) = walk.next(list, table) {
         count = cell_edges(list, table, edges, count, at, slot);
-        at = replaced_cells::next_at(list, at);
-        index += slots_at(table, slot) as usize;
     }
     count
 }
@@ -197,9 +194,8 @@ fn void_edge(
         edges.old count edges.new result }
 {
     match replaced {
-        Driver::Constant(_) => count,
         Driver::Output(slot) => cell_reads::net_edge(list, table, edges, count, slot.0, false, at),
-        Driver::NoNet => count,
+        Driver::Constant(_) | Driver::NoNet => count,
     }
 }
 
@@ -212,13 +208,11 @@ fn fill_pairs(list: &[u32], pairs: usize, table: &[u32], edges: &mut [u32], star
         × (result ≤ length list.now) }
 {
     let mut count = start;
-    let mut at = pairs;
-    while at < list.len() {
+    for at in (pairs..list.len()).step_by(2) {
         let from_net = net_at(list, at);
         let to_net = net_at(list, at + 1);
         let replaced = void_of(table, from_net, to_net);
         count = void_edge(list, table, edges, count, replaced, at + 1);
-        at += 2;
     }
     count
 }

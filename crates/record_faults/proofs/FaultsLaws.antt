@@ -1,8 +1,9 @@
 -- Laws of the faults of a record.
 use mathlib.Core.Path.{◌≡◌, refl, sym, ap, ◌∙◌}
-use mathlib.Core.Bool.{Bool, true, false, not, cond, ◌&&◌, false≢true}
+use mathlib.Core.Bool.{Bool, true, false, not, cond, ◌&&◌}
 use mathlib.Core.List.{List}
-use mathlib.Core.Option.{Option, some, none}
+use mathlib.Core.Option as found
+use Rattle.std.specs.Prelude.{Some, None}
 use Prim.Native.Nat.{ℕ, zero, suc, ◌+◌, ◌-◌, ◌<◌}
 use native.Mathlib.Omega.{arith}
 use lib.ListN.{length, get_or, get_or-eq_default}
@@ -21,8 +22,7 @@ use Rattle.call_list.proofs.OperationsLaws.{declares_of}
 use Rattle.term_table.specs.Sorted.{ReadTo}
 use Rattle.name_table.specs.Named.{NamesTo, TopsTo}
 use Rattle.name_table.proofs.NamedLaws.{known_is}
-use Rattle.record_faults.specs.Faults.{word_sort, stands_by, wrong_by, wrong_as, again_by, head_by, on_wrong, fault_by}
-use Rattle.record_faults.specs.declared.Wrong.TheVariants.{None, At}
+use Rattle.record_faults.specs.Faults.{word_sort, stands_by, wrong_by, again_by, head_by, on_wrong, fault_by}
 
 -- What the tests of one argument say, taken from the words one by one.
 pub stands_is : (sort : ℕ → Sort) (w : List ℕ) (terms at i : ℕ) {arg : Argument} {first before word sb s : ℕ} {r : Bool}
@@ -41,20 +41,6 @@ head-inside w at h = go (ltb at (length w)) refl
         let none : ◌≡◌ {A = ℕ} (get_or w at 0) 0 = get_or-eq_default w 0 (ltb-false at (length w) e) in
         let z : ◌≡◌ {A = ℕ} 0 2 = sym (ap kind_of none) ∙ h in
         absurd (omega arith)
-
--- A head that stands is that of a whole record.
-pub head-whole : (names tops w : List ℕ) (at : ℕ) → head_by names tops w at ≡ true → at + count_at w at < length w
-head-whole names tops w at h = go (eqb (kind_of (get_or w at 0)) 2) (ltb (count_at w at) (length w - at)) refl h
-  where
-    rest : Bool
-    rest = cond (count_fits (operation_at w at) (count_at w at) (argument_at bare w at 0)) (not (again_by names tops w at))
-        false
-
-    go : (a b : Bool) → ltb (count_at w at) (length w - at) ≡ b → cond a (cond b rest false) false ≡ true
-        → at + count_at w at < length w
-    go true true e t = let z = ltb-true (count_at w at) (length w - at) e in omega arith
-    go true false e t = absurd (false≢true t)
-    go false b e t = absurd (false≢true t)
 
 -- A function that says the sorts of the terms so far.
 abbrev pub Says : (ℕ → Sort) → Context → Type 0
@@ -131,40 +117,31 @@ module _ {w : List ℕ} {at : ℕ} {x : Context} {table : List ℕ} {terms : ℕ
 
   -- The fault of a record is that of reading it.
   pub fault-none : (sort : ℕ → Sort) → Says sort x →
-      at < length w → x.checked ≡ false → fault_by sort names tops w terms at ≡ none → Right w at x
+      at < length w → x.checked ≡ false → fault_by sort names tops w terms at ≡ None → Right w at x
   fault-none sort says inside open-list e = go (head_by names tops w at) refl (wrong_by sort w terms at) refl e
     where
-      go : (h : Bool) → head_by names tops w at ≡ h → (o : Option ℕ) → wrong_by sort w terms at ≡ o
-          → cond h (on_wrong o (λ i. at + 1 + i)) (some at) ≡ none → Right w at x
-      go true h none q t = record {
+      go : (h : Bool) → head_by names tops w at ≡ h → (o : found.Option ℕ) → wrong_by sort w terms at ≡ o
+          → cond h (on_wrong o (λ i. at + 1 + i)) (Some at) ≡ None → Right w at x
+      go true h found.none q t = record {
         inside = inside;
         head = head-is inside open-list ∙ h;
         arguments = sym (wrong_is r sort says) ∙ q;
       }
-      go true h (some i) q t = absurd (let z : ◌≡◌ {A = ℕ} 0 1 = cc in omega arith)
+      go true h (found.some i) q t = absurd (let z : ◌≡◌ {A = ℕ} 0 1 = cc in omega arith)
       go false h o q t = absurd (let z : ◌≡◌ {A = ℕ} 0 1 = cc in omega arith)
 
   pub fault-some : (sort : ℕ → Sort) → Says sort x →
-      at < length w → x.checked ≡ false → (p n : ℕ) → fault_by sort names tops w terms at ≡ some p
+      at < length w → x.checked ≡ false → (p n : ℕ) → fault_by sort names tops w terms at ≡ Some p
       → read_from (suc n) w at x ≡ malformed p
   fault-some sort says inside open-list p n e = go (head_by names tops w at) refl (wrong_by sort w terms at) refl e
     where
-      go : (h : Bool) → head_by names tops w at ≡ h → (o : Option ℕ) → wrong_by sort w terms at ≡ o
-          → cond h (on_wrong o (λ i. at + 1 + i)) (some at) ≡ some p → read_from (suc n) w at x ≡ malformed p
-      go true h none q t = absurd (let z : ◌≡◌ {A = ℕ} 0 1 = cc in omega arith)
-      go true h (some i) q t =
+      go : (h : Bool) → head_by names tops w at ≡ h → (o : found.Option ℕ) → wrong_by sort w terms at ≡ o
+          → cond h (on_wrong o (λ i. at + 1 + i)) (Some at) ≡ Some p → read_from (suc n) w at x ≡ malformed p
+      go true h found.none q t = absurd (let z : ◌≡◌ {A = ℕ} 0 1 = cc in omega arith)
+      go true h (found.some i) q t =
           let place : at + 1 + i ≡ p = cc in
           read_wrong n w at x i inside (head-is inside open-list ∙ h) (sym (wrong_is r sort says) ∙ q)
           ∙ ap malformed place
       go false h o q t =
           let place : at ≡ p = cc in
           read_head n w at x inside (head-is inside open-list ∙ h) ∙ ap malformed place
-
--- The answer of `record_fault`, read back.
-pub wrong_at : (o : Option ℕ) {p : ℕ} → wrong_as o ≡ At p → o ≡ some p
-wrong_at none e = absurd (let z : ◌≡◌ {A = ℕ} 0 1 = cc in omega arith)
-wrong_at (some i) e = cc
-
-pub wrong_none : (o : Option ℕ) → wrong_as o ≡ None → o ≡ none
-wrong_none none e = refl
-wrong_none (some i) e = absurd (let z : ◌≡◌ {A = ℕ} 0 1 = cc in omega arith)

@@ -1,15 +1,13 @@
 -- Document 01, "Faults and what stays", 19. What the tables of the records before say of a record: the sorts of its
 -- words and its faults.
-use Rattle.std.specs.Prelude.{Bool, false, not, cond, ◌&&◌, List, ℕ, ◌+◌, ◌-◌, length, get_or, eqb, ltb}
-use Rattle.std.proofs.Math.Option.{Option, some, none}
+use Rattle.std.specs.Prelude.{Bool, false, not, cond, ◌&&◌, List, ℕ, ◌+◌, ◌-◌, length, get_or, eqb, ltb, Option, Some, None}
+use Rattle.std.proofs.Math.Option as found
 use Rattle.logic.specs.Word.{kind_of, payload_of}
 use Rattle.engine.specs.Sorts.{Sort, no_sort}
 use Rattle.engine.specs.Encode.{operation_at, count_at, bare, argument_at}
 use Rattle.engine.specs.WellFormed.{count_fits, argument_of, admits, first_failing}
 use Rattle.call_list.specs.Operations.{is_declare}
 use Rattle.name_table.specs.Names.{known_by}
-use Rattle.record_faults.specs.declared.Wrong.{Wrong}
-use Rattle.record_faults.specs.declared.Wrong.TheVariants.{None, At}
 
 -- ---- sorts
 
@@ -23,12 +21,8 @@ stands_by sort w terms at i =
     admits (argument_of (operation_at w at) i) (argument_at bare w at 0) (get_or w (at + i) 0) (argument_at bare w at i)
     (word_sort sort terms (get_or w (at + i) 0)) (word_sort sort terms (argument_at bare w at i))
 
-abbrev pub wrong_by : (ℕ → Sort) → List ℕ → ℕ → ℕ → Option ℕ
+abbrev pub wrong_by : (ℕ → Sort) → List ℕ → ℕ → ℕ → found.Option ℕ
 wrong_by sort w terms at = first_failing (stands_by sort w terms at) 0 (count_at w at)
-
-abbrev pub wrong_as : Option ℕ → Wrong
-wrong_as none = None
-wrong_as (some i) = At i
 
 -- ---- names
 
@@ -47,10 +41,10 @@ head_by names tops w at =
     false
 
 -- The place of the first fault of a record.
-abbrev pub on_wrong : Option ℕ → (ℕ → ℕ) → Option ℕ
-on_wrong none f = none
-on_wrong (some i) f = some (f i)
+abbrev pub on_wrong : found.Option ℕ → (ℕ → ℕ) → Option ℕ
+on_wrong found.none f = None
+on_wrong (found.some i) f = Some (f i)
 
 abbrev pub fault_by : (ℕ → Sort) → List ℕ → List ℕ → List ℕ → ℕ → ℕ → Option ℕ
 fault_by sort names tops w terms at =
-    cond (head_by names tops w at) (on_wrong (wrong_by sort w terms at) (λ i. at + 1 + i)) (some at)
+    cond (head_by names tops w at) (on_wrong (wrong_by sort w terms at) (λ i. at + 1 + i)) (Some at)

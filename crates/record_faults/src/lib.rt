@@ -5,69 +5,48 @@ ghost use Rattle.std.specs.Prelude.{◌≡◌, ◌+◌, ◌<◌, length};
 ghost use Rattle.engine.specs.Encode.{operation_at, count_at};
 ghost use Rattle.engine.specs.WellFormed.{first_failing};
 ghost use Rattle.call_list.specs.Operations.{op_from};
-ghost use Rattle.term_table.specs.Near.{sort_near};
-ghost use Rattle.record_faults.specs.Faults.{word_sort, stands_by, wrong_as, again_by, head_by, on_wrong, fault_by};
+ghost use Rattle.term_table.specs.Near.{sort_in};
+ghost use Rattle.record_faults.specs.Faults.{word_sort, stands_by, again_by, head_by, on_wrong, fault_by};
 
 use call_list::Operation;
-
-// The place of a fault of a record.
-#[derive(Clone, Copy)]
-pub enum Wrong {
-    None,
-    At(usize),
-}
+use term_table::Tables;
 
 // The sort of the term that a word refers to, if it refers to one of the terms so far.
-fn word_sort(
-    calls: &[u32],
-    sorts: &[u8],
-    recent: &[u8],
-    places: &[u32],
-    gap: u32,
-    terms: usize,
-    word: u32,
-) -> u32
+fn word_sort(tables: &Tables, terms: usize, word: u32) -> u32
     ensures { result ≡ word_sort
-        (sort_near sorts.now recent.now places.now gap calls.now terms)
+        (sort_in tables.now terms)
         terms word }
 {
-    if logic::kind(word) == 4 {
-        let k = logic::payload(word);
-        if (k as usize) < terms {
-            return term_table::term_sort(calls, sorts, recent, places, gap, terms, k);
-        }
-        return 65;
+    let k = logic::payload(word);
+    if logic::kind(word) == 4 && (k as usize) < terms {
+        term_table::term_sort(tables, terms, k)
+    } else {
+        65
     }
-    65
 }
 
 // The place of the first of n arguments of a record that may not stand where it does.
 fn wrong_from(
-    calls: &[u32],
-    sorts: &[u8],
-    recent: &[u8],
-    places: &[u32],
-    gap: u32,
+    tables: &Tables,
     terms: usize,
     at: usize,
     operation: Operation,
     n: usize,
-) -> Wrong
-    requires { (at + n < length calls.now) × (op_from operation ≡ operation_at calls.now at) }
+) -> Option<usize>
+    requires { (at + n < length tables.now.calls.now) × (op_from operation ≡ operation_at tables.now.calls.now at) }
     ensures { result
-        ≡ wrong_as (on_wrong (first_failing (stands_by
-        (sort_near sorts.now recent.now places.now gap calls.now terms)
-        calls.now terms at) 0 n)
-        (λ i. at + 1 + i)) }
+        ≡ on_wrong (first_failing (stands_by
+        (sort_in tables.now terms)
+        tables.now.calls.now terms at) 0 n)
+        (λ i. at + 1 + i) }
 {
-    let first = call_list::argument_word(calls, at, 0);
-    let mut before = logic::word_at(calls, at);
-    let mut sort_before = word_sort(calls, sorts, recent, places, gap, terms, before);
-    let mut i = 0;
-    while i < n {
-        let word = call_list::argument_word(calls, at, i);
-        let sort = word_sort(calls, sorts, recent, places, gap, terms, word);
-        if arguments::admitted(
+    let first = call_list::argument_word(tables.calls, at, 0);
+    let mut before = logic::word_at(tables.calls, at);
+    let mut sort_before = word_sort(tables, terms, before);
+    for i in 0..n {
+        let word = call_list::argument_word(tables.calls, at, i);
+        let sort = word_sort(tables, terms, word);
+        if !arguments::admitted(
             arguments::argument(operation, i),
             first,
             before,
@@ -75,14 +54,12 @@ fn wrong_from(
             sort_before,
             sort,
         ) {
-            before = word;
-            sort_before = sort;
-            i += 1;
-        } else {
-            return Wrong::At(call_list::argument_place(at, i));
+            return Some(call_list::argument_place(at, i));
         }
+        before = word;
+        sort_before = sort;
     }
-    Wrong::None
+    None
 }
 
 // Whether the record at a place declares a name again.
@@ -96,13 +73,11 @@ fn declares_again(
     requires { op_from operation ≡ operation_at calls.now at }
     ensures { result ≡ again_by names.now tops.now calls.now at }
 {
-    if call_list::is_declare(operation) {
-        let letter = call_list::argument_word(calls, at, 0);
-        let index = call_list::argument_word(calls, at, 1);
-        let suffix = call_list::argument_word(calls, at, 2);
-        return name_table::name_known(calls, names, tops, at, letter, index, suffix);
-    }
-    false
+    let letter = call_list::argument_word(calls, at, 0);
+    let index = call_list::argument_word(calls, at, 1);
+    let suffix = call_list::argument_word(calls, at, 2);
+    call_list::is_declare(operation)
+        && name_table::name_known(calls, names, tops, at, letter, index, suffix)
 }
 
 // Whether the head of the record at a place stands: a head, whole, of an operation with its count, no name declared
@@ -118,45 +93,30 @@ fn head_stands(
     requires { (op_from operation ≡ operation_at calls.now at) × (n ≡ count_at calls.now at) }
     ensures { result ≡ head_by names.now tops.now calls.now at }
 {
-    if logic::kind(logic::word_at(calls, at)) == 2 {
-        if (n as usize) < calls.len() - at {
-            if arguments::count_fits(operation, n, call_list::argument_word(calls, at, 0)) {
-                if declares_again(calls, names, tops, at, operation) {
-                    return false;
-                }
-                return true;
-            }
-            return false;
-        }
-        return false;
-    }
-    false
+    logic::kind(logic::word_at(calls, at)) == 2
+        && (n as usize) < calls.len() - at
+        && arguments::count_fits(operation, n, call_list::argument_word(calls, at, 0))
+        && !declares_again(calls, names, tops, at, operation)
 }
 
 // The place of the first fault of the record at a place, after the records before it.
 pub fn record_fault(
-    calls: &[u32],
-    sorts: &[u8],
-    recent: &[u8],
-    places: &[u32],
-    gap: u32,
+    tables: &Tables,
     names: &[u8],
     tops: &[u32],
     terms: usize,
     at: usize,
-) -> Wrong
+) -> Option<usize>
     ensures { result
-        ≡ wrong_as (fault_by
-        (sort_near sorts.now recent.now places.now gap calls.now terms)
-        names.now tops.now calls.now terms at) }
+        ≡ fault_by
+        (sort_in tables.now terms)
+        names.now tops.now tables.now.calls.now terms at }
 {
-    let operation = call_list::operation_at(calls, at);
-    let n = call_list::count_at(calls, at);
-    if head_stands(calls, names, tops, at, operation, n) {
-        wrong_from(
-            calls, sorts, recent, places, gap, terms, at, operation, n as usize,
-        )
+    let operation = call_list::operation_at(tables.calls, at);
+    let n = call_list::count_at(tables.calls, at);
+    if head_stands(tables.calls, names, tops, at, operation, n) {
+        wrong_from(tables, terms, at, operation, n as usize)
     } else {
-        Wrong::At(at)
+        Some(at)
     }
 }

@@ -7,82 +7,71 @@ use native.Mathlib.Omega.{arith}
 use lib.ListN.{length, get_or, get_or-eq_default}
 use lib.Dec.{ltb, leb, eqb}
 use borrow.Author.Tests.{ltb-true, ltb-false, leb-true}
+use Rattle.std.specs.Prelude.{Option, Some, None, Result, Ok, Err}
+use Rattle.logic.specs.declared.Fault.{Fault}
 use Rattle.logic.specs.Word.{kind_of, payload_of}
 use Rattle.logic.specs.Net.{driver_of}
 use Rattle.logic.specs.declared.Slot.{Slot}
 use Rattle.cell.specs.declared.Mode.{Mode}
 use Rattle.cell.specs.Operation.{operation_of, numbers_of, fields_of}
 use Rattle.cell.specs.declared.Operation.{Operation}
-use Rattle.cell.specs.declared.Decoded.{Decoded}
-use Rattle.cell.specs.declared.Decoded.TheVariants as D
 use Rattle.cell.specs.declared.Numbers.{Numbers}
 use Rattle.cell.specs.declared.Fields.{Fields}
-use Rattle.fields.specs.declared.Number.{Number}
-use Rattle.fields.specs.declared.Number.TheVariants as N
-use Rattle.fields.specs.declared.Scan.{Scan}
-use Rattle.fields.specs.declared.Scan.TheVariants.{Clean, Refused}
-use Rattle.fields.specs.declared.Bit.TheVariants as B
 use Rattle.fields.specs.declared.Head.{Head}
-use Rattle.fields.specs.declared.Head.TheVariants as H
-use Rattle.fields.specs.Field.{fault, on_number, on_scan, is_constant, is_known, most_kind, number_at, net_at, bit_at}
+use Rattle.fields.specs.Field.{fault, on_number, on_read, is_constant, is_known, most_kind, number_at, net_at, bit_at}
 use Rattle.fields.specs.Field.{scan_bit, constant_at, scan_many, nets_at, constants_at, ends_at}
 use Rattle.fields.specs.Pattern.{alternate_at, pattern_at, patterns_at}
 use Rattle.fields.specs.Head.{record_of, on_head, head_of, head_at}
 use Rattle.cell_reader.specs.declared.Leading.{Leading}
-use Rattle.cell_reader.specs.declared.Leading.TheVariants as L
 use Rattle.cell_reader.specs.declared.Record.{Record}
-use Rattle.cell_reader.specs.declared.Record.TheVariants as R
 use Rattle.cell.specs.Design.{Placed}
 use Rattle.cell_reader.specs.Parse.{number_in, cell_at}
 use Rattle.items.specs.declared.Header.{Header}
-use Rattle.items.specs.declared.Opening.{Opening}
-use Rattle.items.specs.declared.Opening.TheVariants as O
 use Rattle.placing.specs.declared.Placing.{Placing}
-use Rattle.placing.specs.declared.Placing.TheVariants as P
-use Rattle.items.specs.Step.{Step, on_step}
-use Rattle.items.specs.Step as T
-use Rattle.items.specs.Items.{Reading, stop, refuse, push, on_opening, counts_at, header_at, listed_number_at, listed_net_at}
+use Rattle.items.specs.Items.{Reading, stop, refuse, push, counts_at, header_at, listed_number_at, listed_net_at}
 use Rattle.items.specs.Items.{replaces, Test, replacement_at, ascending, new_cell, cell_reps_from}
 use Rattle.items.specs.Items.{pair_at, net_pair, net_reps_from, finish_at}
 use Rattle.placing.specs.Cells.{limit_of, on_placing, placed_at, cells_from, cells_of}
-use Rattle.voids.specs.declared.Item.{Item}
-use Rattle.voids.specs.declared.Item.TheVariants as I
 use Rattle.placing.specs.Slots.{at_slot, is_void}
 use Rattle.voids.specs.Voids.{void_driver, names_void, offends, void_at, clock_at, record_voids_at, replacement_voids_at}
-use Rattle.voids.specs.Voids.{pair_voids_at, item_voids_at, voids_at}
+use Rattle.voids.specs.Voids.{pair_voids_at, voids_at}
 use Rattle.design_list.specs.Read.{Read, refused, read_net_reps, read_cell_reps, read_cells, read}
 use Rattle.cell_reader.specs.Record.{on_leading, on_record, third_at, second_at, first_at, leading_at, tail_at, body_at}
 use Rattle.cell_reader.specs.Record.{contents_at, record_at}
 use Rattle.refusals.specs.Small.{Small, SmallRead}
+use Rattle.fields.specs.Head.{head}
+use Rattle.cell_reader.specs.Record.{leading}
+use Rattle.cell_reader.specs.Record.{cell_record}
+use Rattle.placing.specs.Cells.{placing}
 
 -- What each answer may be, where its places are at most `end`.
-abbrev SmallNumber : ℕ → Number → Type 0
-SmallNumber end (N.Value n next) = next ≤ end
-SmallNumber end (N.Refused e) = Small e
+abbrev SmallNumber : ℕ → Result (ℕ × ℕ) Fault → Type 0
+SmallNumber end (Ok (n, next)) = next ≤ end
+SmallNumber end (Err e) = Small e
 
-abbrev SmallScan : ℕ → Scan → Type 0
-SmallScan end (Clean next) = next ≤ end
-SmallScan end (Refused e) = Small e
+abbrev SmallScan : ℕ → Result ℕ Fault → Type 0
+SmallScan end (Ok next) = next ≤ end
+SmallScan end (Err e) = Small e
 
-abbrev SmallLeading : ℕ → Leading → Type 0
-SmallLeading end (L.Read n m next) = next ≤ end
-SmallLeading end (L.Refused e) = Small e
+abbrev SmallLeading : ℕ → Result Leading Fault → Type 0
+SmallLeading end (Ok l) = l.next ≤ end
+SmallLeading end (Err e) = Small e
 
-abbrev SmallRecord : ℕ → Record → Type 0
-SmallRecord end (R.Read op width next) = next ≤ end
-SmallRecord end (R.Refused e) = Small e
+abbrev SmallRecord : ℕ → Result Record Fault → Type 0
+SmallRecord end (Ok r) = r.next ≤ end
+SmallRecord end (Err e) = Small e
 
-abbrev SmallHead : ℕ → Head → Type 0
-SmallHead top (H.Record op first end) = (first ≤ end) × (end ≤ top)
-SmallHead top (H.Refused e) = Small e
+abbrev SmallHead : ℕ → Result Head Fault → Type 0
+SmallHead top (Ok h) = (h.first ≤ h.end) × (h.end ≤ top)
+SmallHead top (Err e) = Small e
 
-abbrev SmallPlacing : ℕ → Placing → Type 0
-SmallPlacing end (P.Placed op width after next) = next ≤ end
-SmallPlacing end (P.Refused e) = Small e
+abbrev SmallPlacing : ℕ → Result Placing Fault → Type 0
+SmallPlacing end (Ok p) = p.next ≤ end
+SmallPlacing end (Err e) = Small e
 
-abbrev SmallStep : ℕ → Step → Type 0
-SmallStep end (T.Read least next) = next ≤ end
-SmallStep end (T.Refused e) = Small e
+abbrev SmallStep : ℕ → Result (ℕ × ℕ) Fault → Type 0
+SmallStep end (Ok (least, next)) = next ≤ end
+SmallStep end (Err e) = Small e
 
 module _ (w : List ℕ) (end : ℕ) (low : end ≤ 16384) where
   number_small : (bound at : ℕ) → at ≤ end → SmallNumber end (number_at w bound end at)
@@ -92,8 +81,8 @@ module _ (w : List ℕ) (end : ℕ) (low : end ≤ 16384) where
       go :
           (a b c : Bool) → ltb at end ≡ a →
           SmallNumber end
-          (cond a (cond b (cond c (N.Value (payload_of (get_or w at 0)) (at + 1)) (N.Refused (fault 4 at)))
-          (N.Refused (fault 2 at))) (N.Refused (fault 5 at)))
+          (cond a (cond b (cond c (Ok (payload_of (get_or w at 0), at + 1)) (Err (fault 4 at)))
+          (Err (fault 2 at))) (Err (fault 5 at)))
       go true true true e = let inside : at < end = ltb-true _ _ e in omega arith
       go true true false e = omega arith
       go true false c e = omega arith
@@ -107,8 +96,8 @@ module _ (w : List ℕ) (end : ℕ) (low : end ≤ 16384) where
       go :
           (a b c : Bool) → ltb at end ≡ a →
           SmallScan end
-          (cond a (cond b (cond c (Clean (at + 1)) (Refused (fault 6 at))) (Refused (fault 2 at)))
-          (Refused (fault 5 at)))
+          (cond a (cond b (cond c (Ok (at + 1)) (Err (fault 6 at))) (Err (fault 2 at)))
+          (Err (fault 5 at)))
       go true true true e = let inside : at < end = ltb-true _ _ e in omega arith
       go true true false e = omega arith
       go true false c e = omega arith
@@ -121,21 +110,21 @@ module _ (w : List ℕ) (end : ℕ) (low : end ≤ 16384) where
       go :
           (a b c : Bool) → ltb at end ≡ a →
           SmallScan end
-          (scan_bit (cond a (cond b (cond c (B.Constant (at + 1)) B.Other) (B.Refused (fault 2 at)))
-          (B.Refused (fault 5 at))) at)
+          (scan_bit (cond a (cond b (cond c (Ok (Some (at + 1))) (Ok None)) (Err (fault 2 at)))
+          (Err (fault 5 at))) at)
       go true true true e = let inside : at < end = ltb-true _ _ e in omega arith
       go true true false e = omega arith
       go true false c e = omega arith
       go false b c e = omega arith
 
   -- One scan after another, and many.
-  clean_small : (s : Scan) (f : ℕ → Scan) → SmallScan end s → ((n : ℕ) → n ≤ end → SmallScan end (f n)) →
-      SmallScan end (on_scan s Refused f)
-  clean_small (Clean n) f here rest = rest n here
-  clean_small (Refused e) f here rest = here
+  clean_small : (s : Result ℕ Fault) (f : ℕ → Result ℕ Fault) → SmallScan end s → ((n : ℕ) → n ≤ end → SmallScan end (f n)) →
+      SmallScan end (on_read s Err f)
+  clean_small (Ok n) f here rest = rest n here
+  clean_small (Err e) f here rest = here
 
   many_small :
-      (step : ℕ → Scan) → ((at : ℕ) → at ≤ end → SmallScan end (step at)) → (n at : ℕ) →
+      (step : ℕ → Result ℕ Fault) → ((at : ℕ) → at ≤ end → SmallScan end (step at)) → (n at : ℕ) →
       at ≤ end → SmallScan end (scan_many step n at)
   unfolding scan_many
   many_small step one zero at here = here
@@ -145,9 +134,9 @@ module _ (w : List ℕ) (end : ℕ) (low : end ≤ 16384) where
   unfolding pattern_at alternate_at
   pattern_small n at here = go (number_at w 64 end at) (number_small 64 at here)
     where
-      go : (c : Number) → SmallNumber end c → SmallScan end (on_number c Refused (scan_many (alternate_at w n end)))
-      go (N.Refused e) s = s
-      go (N.Value a next) s = many_small (alternate_at w n end) (many_small (constant_at w end) constant_small n) a next s
+      go : (c : Result (ℕ × ℕ) Fault) → SmallNumber end c → SmallScan end (on_number c Err (scan_many (alternate_at w n end)))
+      go (Err e) s = s
+      go (Ok (a, next)) s = many_small (alternate_at w n end) (many_small (constant_at w end) constant_small n) a next s
 
   patterns_small : (n k at : ℕ) → at ≤ end → SmallScan end (patterns_at w n end k at)
   unfolding patterns_at
@@ -157,7 +146,7 @@ module _ (w : List ℕ) (end : ℕ) (low : end ≤ 16384) where
   unfolding ends_at
   ends_small at here = go (eqb at end)
     where
-      go : (a : Bool) → SmallScan end (cond a (Clean end) (Refused (fault 5 at)))
+      go : (a : Bool) → SmallScan end (cond a (Ok end) (Err (fault 5 at)))
       go true = omega arith
       go false = omega arith
 
@@ -173,10 +162,10 @@ module _ (w : List ℕ) (end : ℕ) (low : end ≤ 16384) where
       clean_small (patterns_at w n end layout.patterns c) _ (patterns_small n layout.patterns c hc) ends_small)))
 
   value_small :
-      (v : Number) (f : ℕ → ℕ → Leading) → SmallNumber end v → ((n next : ℕ) → next ≤ end → SmallLeading end (f n next))
-      → SmallLeading end (on_number v L.Refused f)
-  value_small (N.Value n next) f here rest = rest n next here
-  value_small (N.Refused e) f here rest = here
+      (v : Result (ℕ × ℕ) Fault) (f : ℕ → ℕ → Result Leading Fault) → SmallNumber end v → ((n next : ℕ) → next ≤ end → SmallLeading end (f n next))
+      → SmallLeading end (on_number v Err f)
+  value_small (Ok (n, next)) f here rest = rest n next here
+  value_small (Err e) f here rest = here
 
   third_small : (numbers : Numbers) (n m at : ℕ) → at ≤ end → SmallLeading end (third_at w numbers end n m at)
   unfolding third_at
@@ -185,7 +174,7 @@ module _ (w : List ℕ) (end : ℕ) (low : end ≤ 16384) where
       go numbers.within (ltb n (offset + m)) next s)
     where
       go : (a b : Bool) (next : ℕ) → next ≤ end →
-          SmallLeading end (cond a (cond b (L.Refused (fault 9 at)) (L.Read n m next)) (L.Read n m next))
+          SmallLeading end (cond a (cond b (Err (fault 9 at)) (Ok (leading n m next))) (Ok (leading n m next)))
       go true true next s = omega arith
       go true false next s = s
       go false b next s = s
@@ -197,7 +186,7 @@ module _ (w : List ℕ) (end : ℕ) (low : end ≤ 16384) where
       go (eqb numbers.count 2) m next s)
     where
       go : (a : Bool) (m next : ℕ) → next ≤ end →
-          SmallLeading end (cond a (L.Read n m next) (third_at w numbers end n m next))
+          SmallLeading end (cond a (Ok (leading n m next)) (third_at w numbers end n m next))
       go true m next s = s
       go false m next s = third_small numbers n m next s
 
@@ -207,12 +196,12 @@ module _ (w : List ℕ) (end : ℕ) (low : end ≤ 16384) where
     where
       go :
           (a b : Bool) (n next : ℕ) → next ≤ end →
-          SmallLeading end (cond a (L.Refused (fault 7 at)) (cond b (L.Read n 0 next) (second_at w numbers end n next)))
+          SmallLeading end (cond a (Err (fault 7 at)) (cond b (Ok (leading n 0 next)) (second_at w numbers end n next)))
       go true b n next s = omega arith
       go false true n next s = s
       go false false n next s = second_small numbers n next s
 
-      none : (a : Bool) → SmallLeading end (cond a (L.Read 0 0 at) (first_at w numbers end at))
+      none : (a : Bool) → SmallLeading end (cond a (Ok (leading 0 0 at)) (first_at w numbers end at))
       none true = here
       none false =
           value_small (number_at w 63 end at) _ (number_small 63 at here)
@@ -224,36 +213,36 @@ module _ (w : List ℕ) (end : ℕ) (low : end ≤ 16384) where
   contents_small total op first here =
       go (leading_at w (numbers_of op) end first) (leading_small (numbers_of op) first here)
     where
-      body : (s : Scan) (width : ℕ) → SmallScan end s →
-          SmallRecord end (on_scan s R.Refused (λ (after : ℕ). R.Read op width after))
-      body (Clean next) width s = s
-      body (Refused e) width s = s
+      body : (s : Result ℕ Fault) (width : ℕ) → SmallScan end s →
+          SmallRecord end (on_read s Err (λ (after : ℕ). Ok (cell_record op width after)))
+      body (Ok next) width s = s
+      body (Err e) width s = s
 
       go :
-          (l : Leading) → SmallLeading end l →
+          (l : Result Leading Fault) → SmallLeading end l →
           SmallRecord end
-          (on_leading l R.Refused
-          (λ (n m next : ℕ). on_scan (body_at w total (fields_of op n m) n end next) R.Refused
-          (λ (after : ℕ). R.Read op (fields_of op n m).width after)))
-      go (L.Refused e) s = s
-      go (L.Read n m next) s =
-          body (body_at w total (fields_of op n m) n end next) (fields_of op n m).width
-          (body_small total (fields_of op n m) n next s)
+          (on_leading l Err
+          (λ (n m next : ℕ). on_read (body_at w total (fields_of op n m) n end next) Err
+          (λ (after : ℕ). Ok (cell_record op (fields_of op n m).width after))))
+      go (Err e) s = s
+      go (Ok l) s =
+          body (body_at w total (fields_of op l.n l.m) l.n end l.next) (fields_of op l.n l.m).width
+          (body_small total (fields_of op l.n l.m) l.n l.next s)
 
-abbrev SmallOpening : Opening → Type 0
-SmallOpening (O.Read h) = Unit {0}
-SmallOpening (O.Refused e) = Small e
+abbrev SmallOpening : Result Header Fault → Type 0
+SmallOpening (Ok h) = Unit {0}
+SmallOpening (Err e) = Small e
 
-abbrev RefusesSmall : Scan → Type 0
-RefusesSmall (Clean next) = Unit {0}
-RefusesSmall (Refused e) = Small e
+abbrev RefusesSmall : Result ℕ Fault → Type 0
+RefusesSmall (Ok next) = Unit {0}
+RefusesSmall (Err e) = Small e
 
-clean_refuses : (s : Scan) (f : ℕ → Scan) → RefusesSmall s → ((n : ℕ) → RefusesSmall (f n)) →
-    RefusesSmall (on_scan s Refused f)
-clean_refuses (Clean n) f here rest = rest n
-clean_refuses (Refused e) f here rest = here
+clean_refuses : (s : Result ℕ Fault) (f : ℕ → Result ℕ Fault) → RefusesSmall s → ((n : ℕ) → RefusesSmall (f n)) →
+    RefusesSmall (on_read s Err f)
+clean_refuses (Ok n) f here rest = rest n
+clean_refuses (Err e) f here rest = here
 
-many_refuses : (step : ℕ → Scan) → ((at : ℕ) → RefusesSmall (step at)) → (n at : ℕ) → RefusesSmall (scan_many step n at)
+many_refuses : (step : ℕ → Result ℕ Fault) → ((at : ℕ) → RefusesSmall (step at)) → (n at : ℕ) → RefusesSmall (scan_many step n at)
 unfolding scan_many
 many_refuses step one zero at = tt
 many_refuses step one (suc n) at = clean_refuses (step at) (scan_many step n) (one at) (many_refuses step one n)
@@ -268,33 +257,34 @@ module _ (w : List ℕ) (short : length w ≤ 16384) where
       count = payload_of (get_or w at 0) / 32
 
       known : (o : Operation) (c : Bool) → leb (at + 1 + count) (length w) ≡ c →
-          SmallHead (length w) (cond c (H.Record o (at + 1) (at + 1 + count)) (H.Refused (fault 1 (length w))))
+          SmallHead (length w) (cond c (Ok (head o (at + 1) (at + 1 + count))) (Err (fault 1 (length w))))
       known o true e = let fits : at + 1 + count ≤ length w = leb-true _ _ e in omega arith
       known o false e = omega arith
 
       go :
-          (a b : Bool) (d : Decoded) →
+          (a b : Bool) (d : Option Operation) →
           SmallHead (length w)
-          (cond a (cond b (head_of d count (length w) at) (H.Refused (fault 2 at))) (H.Refused (fault 1 (length w))))
-      go true true (D.Known o) = known o (leb (at + 1 + count) (length w)) refl
-      go true true D.Unknown = omega arith
+          (cond a (cond b (head_of d count (length w) at) (Err (fault 2 at))) (Err (fault 1 (length w))))
+      go true true (Some o) = known o (leb (at + 1 + count) (length w)) refl
+      go true true None = omega arith
       go true false d = omega arith
       go false b d = omega arith
 
-  wider : (end : ℕ) (r : Record) → end ≤ length w → SmallRecord end r → SmallRecord (length w) r
-  wider end (R.Read op width next) low s = omega arith
-  wider end (R.Refused e) low s = s
+  wider : (end : ℕ) (r : Result Record Fault) → end ≤ length w → SmallRecord end r → SmallRecord (length w) r
+  wider end (Ok r) low s = omega arith
+  wider end (Err e) low s = s
 
   record_small : (total at : ℕ) → at ≤ length w → SmallRecord (length w) (record_at w total at)
   unfolding record_at
   record_small total at here = go (head_at w at) (head_small at here)
     where
-      go : (h : Head) → SmallHead (length w) h →
+      go : (h : Result Head Fault) → SmallHead (length w) h →
           SmallRecord (length w)
-          (on_head h R.Refused (λ (op : Operation) (first end : ℕ). contents_at w total op end first))
-      go (H.Refused e) s = s
-      go (H.Record op first end) s =
-          wider end (contents_at w total op end first) s.1 (contents_small w end (omega arith) total op first s.0)
+          (on_head h Err (λ (op : Operation) (first end : ℕ). contents_at w total op end first))
+      go (Err e) s = s
+      go (Ok h) s =
+          wider h.end (contents_at w total h.op h.end h.first) s.1
+          (contents_small w h.end (omega (arith, s.1)) total h.op h.first s.0)
 
   placed_small : (base total slot at : ℕ) → at ≤ length w → SmallPlacing (length w) (placed_at w base total slot at)
   unfolding placed_at
@@ -303,18 +293,18 @@ module _ (w : List ℕ) (short : length w ≤ 16384) where
       fits :
           (a : Bool) (op : Operation) (width next : ℕ) → next ≤ length w →
           SmallPlacing (length w)
-          (cond a (P.Placed op width (record { 0 = slot + max 1 width }) next) (P.Refused (fault 11 at)))
+          (cond a (Ok (placing op width (record { 0 = slot + max 1 width }) next)) (Err (fault 11 at)))
       fits true op width next s = s
       fits false op width next s = omega arith
 
       go :
-          (r : Record) → SmallRecord (length w) r →
+          (r : Result Record Fault) → SmallRecord (length w) r →
           SmallPlacing (length w)
-          (on_record r P.Refused (λ (op : Operation) (width next : ℕ).
+          (on_record r Err (λ (op : Operation) (width next : ℕ).
           cond (leb (slot + max 1 width) (limit_of base total slot))
-          (P.Placed op width (record { 0 = slot + max 1 width }) next) (P.Refused (fault 11 at))))
-      go (R.Refused e) s = s
-      go (R.Read op width next) s = fits (leb (slot + max 1 width) (limit_of base total slot)) op width next s
+          (Ok (placing op width (record { 0 = slot + max 1 width }) next)) (Err (fault 11 at))))
+      go (Err e) s = s
+      go (Ok r) s = fits (leb (slot + max 1 r.width) (limit_of base total slot)) r.op r.width r.next s
 
   cells_small : (base total turns slot at : ℕ) →
       at ≤ length w → SmallScan (length w) (cells_from w base total turns slot at).scan
@@ -329,19 +319,19 @@ module _ (w : List ℕ) (short : length w ≤ 16384) where
           push (record { slot = slot; cell = cell_at w at }) (cells_from w base total turns after.0 next)
 
       more :
-          (a : Bool) (p : Placing) → SmallPlacing (length w) p →
+          (a : Bool) (p : Result Placing Fault) → SmallPlacing (length w) p →
           ((after next : ℕ) → next ≤ length w → SmallScan (length w) (cells_from w base total turns after next).scan) →
-          SmallScan (length w) (cond a (on_placing p refuse rest) (stop (Clean at))).scan
+          SmallScan (length w) (cond a (on_placing p refuse rest) (stop (Ok at))).scan
       more false p s next = here
-      more true (P.Refused e) s next = s
-      more true (P.Placed op width after place) s next = next after.0 place s
+      more true (Err e) s next = s
+      more true (Ok p) s next = next p.after.0 p.next s
 
   listed-number_small : (at : ℕ) → at ≤ length w → SmallNumber (length w) (listed_number_at w at)
   unfolding listed_number_at
   listed-number_small at here = go (ltb at (length w))
     where
       go : (a : Bool) →
-          SmallNumber (length w) (cond a (number_at w (2 ^ 29 - 1) (length w) at) (N.Refused (fault 1 (length w))))
+          SmallNumber (length w) (cond a (number_at w (2 ^ 29 - 1) (length w) at) (Err (fault 1 (length w))))
       go true = number_small w (length w) short (2 ^ 29 - 1) at here
       go false = omega arith
 
@@ -349,7 +339,7 @@ module _ (w : List ℕ) (short : length w ≤ 16384) where
   unfolding listed_net_at
   listed-net_small total at here = go (ltb at (length w))
     where
-      go : (a : Bool) → SmallScan (length w) (cond a (net_at w total false (length w) at) (Refused (fault 1 (length w))))
+      go : (a : Bool) → SmallScan (length w) (cond a (net_at w total false (length w) at) (Err (fault 1 (length w))))
       go true = net_small w (length w) short total false at here
       go false = omega arith
 
@@ -359,54 +349,54 @@ module _ (w : List ℕ) (short : length w ≤ 16384) where
   replacement_small total right least at here = numbered (listed_number_at w at) (listed-number_small at here)
     where
       chosen : (a : Bool) (slot next : ℕ) → next ≤ length w →
-          SmallStep (length w) (cond a (T.Read (slot + 1) next) (T.Refused (fault 12 at)))
+          SmallStep (length w) (cond a (Ok (slot + 1, next)) (Err (fault 12 at)))
       chosen true slot next s = s
       chosen false slot next s = omega arith
 
       made :
-          (slot : ℕ) (r : Record) → SmallRecord (length w) r →
+          (slot : ℕ) (r : Result Record Fault) → SmallRecord (length w) r →
           SmallStep (length w)
-          (on_record r T.Refused (λ (op : Operation) (width next : ℕ).
-          cond (right least slot op width) (T.Read (slot + 1) next) (T.Refused (fault 12 at))))
-      made slot (R.Refused e) s = s
-      made slot (R.Read op width next) s = chosen (right least slot op width) slot next s
+          (on_record r Err (λ (op : Operation) (width next : ℕ).
+          cond (right least slot op width) (Ok (slot + 1, next)) (Err (fault 12 at))))
+      made slot (Err e) s = s
+      made slot (Ok r) s = chosen (right least slot r.op r.width) slot r.next s
 
       numbered :
-          (n : Number) → SmallNumber (length w) n →
+          (n : Result (ℕ × ℕ) Fault) → SmallNumber (length w) n →
           SmallStep (length w)
-          (on_number n T.Refused (λ (slot start : ℕ).
-          on_record (record_at w total start) T.Refused (λ (op : Operation) (width next : ℕ).
-          cond (right least slot op width) (T.Read (slot + 1) next) (T.Refused (fault 12 at)))))
-      numbered (N.Refused e) s = s
-      numbered (N.Value slot start) s = made slot (record_at w total start) (record_small total start s)
+          (on_number n Err (λ (slot start : ℕ).
+          on_record (record_at w total start) Err (λ (op : Operation) (width next : ℕ).
+          cond (right least slot op width) (Ok (slot + 1, next)) (Err (fault 12 at)))))
+      numbered (Err e) s = s
+      numbered (Ok (slot, start)) s = made slot (record_at w total start) (record_small total start s)
 
   pair_small : (total least at : ℕ) → at ≤ length w → SmallStep (length w) (pair_at w total least at)
   unfolding pair_at
   pair_small total least at here = first (listed_net_at w total at) (listed-net_small total at here)
     where
       last : (a : Bool) (next : ℕ) → next ≤ length w →
-          SmallStep (length w) (cond a (T.Read (number_in w at + 1) next) (T.Refused (fault 13 at)))
+          SmallStep (length w) (cond a (Ok (number_in w at + 1, next)) (Err (fault 13 at)))
       last true next s = s
       last false next s = omega arith
 
       second :
-          (t : Scan) → SmallScan (length w) t →
+          (t : Result ℕ Fault) → SmallScan (length w) t →
           SmallStep (length w)
-          (on_scan t T.Refused (λ (next : ℕ). cond (leb least (number_in w at)) (T.Read (number_in w at + 1) next)
-          (T.Refused (fault 13 at))))
-      second (Refused e) s = s
-      second (Clean next) s = last (leb least (number_in w at)) next s
+          (on_read t Err (λ (next : ℕ). cond (leb least (number_in w at)) (Ok (number_in w at + 1, next))
+          (Err (fault 13 at))))
+      second (Err e) s = s
+      second (Ok next) s = last (leb least (number_in w at)) next s
 
       first :
-          (t : Scan) → SmallScan (length w) t →
+          (t : Result ℕ Fault) → SmallScan (length w) t →
           SmallStep (length w)
-          (on_scan t T.Refused (λ (to : ℕ). on_scan (listed_net_at w total to) T.Refused (λ (next : ℕ).
-          cond (leb least (number_in w at)) (T.Read (number_in w at + 1) next) (T.Refused (fault 13 at)))))
-      first (Refused e) s = s
-      first (Clean to) s = second (listed_net_at w total to) (listed-net_small total to s)
+          (on_read t Err (λ (to : ℕ). on_read (listed_net_at w total to) Err (λ (next : ℕ).
+          cond (leb least (number_in w at)) (Ok (number_in w at + 1, next)) (Err (fault 13 at)))))
+      first (Err e) s = s
+      first (Ok to) s = second (listed_net_at w total to) (listed-net_small total to s)
 
   ascending_small :
-      {A : Type 0} (step : ℕ → ℕ → Step) (item : ℕ → A) →
+      {A : Type 0} (step : ℕ → ℕ → Result (ℕ × ℕ) Fault) (item : ℕ → A) →
       ((least at : ℕ) → at ≤ length w → SmallStep (length w) (step least at)) →
       (k least at : ℕ) → at ≤ length w → SmallScan (length w) (ascending step item k least at).scan
   unfolding ascending
@@ -415,12 +405,12 @@ module _ (w : List ℕ) (short : length w ≤ 16384) where
       go (step least at) (one least at here) (λ above next s. ascending_small step item one k above next s)
     where
       go :
-          (t : Step) → SmallStep (length w) t →
+          (t : Result (ℕ × ℕ) Fault) → SmallStep (length w) t →
           ((above next : ℕ) → next ≤ length w → SmallScan (length w) (ascending step item k above next).scan) →
           SmallScan (length w)
-          (on_step t refuse (λ (above next : ℕ). push (item at) (ascending step item k above next))).scan
-      go (T.Refused e) s rest = s
-      go (T.Read above next) s rest = rest above next s
+          (on_number t refuse (λ (above next : ℕ). push (item at) (ascending step item k above next))).scan
+      go (Err e) s rest = s
+      go (Ok (above, next)) s rest = rest above next s
 
   -- The second pass refuses only at words of the list: past its end a word reads as constant 0.
   offends-inside : (void : ℕ → Bool) (clock at : ℕ) → offends w void clock at ≡ true → at < length w
@@ -446,7 +436,7 @@ module _ (w : List ℕ) (short : length w ≤ 16384) where
   unfolding void_at
   void_small void clock at = go (offends w void clock at) refl
     where
-      go : (a : Bool) → offends w void clock at ≡ a → RefusesSmall (cond a (Refused (fault 10 at)) (Clean (at + 1)))
+      go : (a : Bool) → offends w void clock at ≡ a → RefusesSmall (cond a (Err (fault 10 at)) (Ok (at + 1)))
       go true a = let inside = offends-inside void clock at a in omega (arith, inside)
       go false a = tt
 
@@ -455,53 +445,55 @@ module _ (w : List ℕ) (short : length w ≤ 16384) where
   fields_small void at = go (ltb at (length w))
     where
       go : (a : Bool) →
-          RefusesSmall (cond a (scan_many (void_at w void (clock_at w at)) (number_in w at / 32) (at + 1)) (Clean at))
+          RefusesSmall (cond a (scan_many (void_at w void (clock_at w at)) (number_in w at / 32) (at + 1)) (Ok at))
       go true =
           many_refuses (void_at w void (clock_at w at)) (void_small void (clock_at w at)) (number_in w at / 32) (at + 1)
       go false = tt
 
-  item_small : (void : ℕ → Bool) (item : Item) (at : ℕ) → RefusesSmall (item_voids_at w void item at)
-  unfolding replacement_voids_at pair_voids_at
-  item_small void I.Cell at = fields_small void at
-  item_small void I.Replacement at = go (ltb at (length w))
+  replaced_small : (void : ℕ → Bool) (at : ℕ) → RefusesSmall (replacement_voids_at w void at)
+  unfolding replacement_voids_at
+  replaced_small void at = go (ltb at (length w))
     where
-      go : (a : Bool) → RefusesSmall (cond a (record_voids_at w void (at + 1)) (Clean at))
+      go : (a : Bool) → RefusesSmall (cond a (record_voids_at w void (at + 1)) (Ok at))
       go true = fields_small void (at + 1)
       go false = tt
-  item_small void I.Pair at = go (ltb at (length w))
+
+  to_small : (void : ℕ → Bool) (at : ℕ) → RefusesSmall (pair_voids_at w void at)
+  unfolding pair_voids_at
+  to_small void at = go (ltb at (length w))
     where
-      go : (a : Bool) → RefusesSmall (cond a (void_at w void 0 (at + 1)) (Clean at))
+      go : (a : Bool) → RefusesSmall (cond a (void_at w void 0 (at + 1)) (Ok at))
       go true = void_small void 0 (at + 1)
       go false = tt
 
   voids_small : (void : ℕ → Bool) (cells reps pairs : ℕ) → RefusesSmall (voids_at w void cells reps pairs)
   unfolding voids_at
   voids_small void cells reps pairs =
-      clean_refuses (scan_many (item_voids_at w void I.Cell) cells 4) _
-      (many_refuses (item_voids_at w void I.Cell) (item_small void I.Cell) cells 4) (λ a.
-      clean_refuses (scan_many (item_voids_at w void I.Replacement) reps a) _
-      (many_refuses (item_voids_at w void I.Replacement) (item_small void I.Replacement) reps a) (λ b.
-      many_refuses (item_voids_at w void I.Pair) (item_small void I.Pair) pairs b))
+      clean_refuses (scan_many (record_voids_at w void) cells 4) _
+      (many_refuses (record_voids_at w void) (fields_small void) cells 4) (λ a.
+      clean_refuses (scan_many (replacement_voids_at w void) reps a) _
+      (many_refuses (replacement_voids_at w void) (replaced_small void) reps a) (λ b.
+      many_refuses (pair_voids_at w void) (to_small void) pairs b))
 
   finish_small : (at : ℕ) → at ≤ length w → RefusesSmall (finish_at w at)
   unfolding finish_at
   finish_small at here = go (eqb at (length w))
     where
-      go : (a : Bool) → RefusesSmall (cond a (Clean at) (Refused (fault 1 at)))
+      go : (a : Bool) → RefusesSmall (cond a (Ok at) (Err (fault 1 at)))
       go true = tt
       go false = omega arith
 
   -- The stages after the header.
   scan_small :
-      (s : Scan) (f : ℕ → Read) → SmallScan (length w) s → ((n : ℕ) → n ≤ length w → SmallRead (f n)) →
-      SmallRead (on_scan s refused f)
-  scan_small (Clean n) f here rest = rest n here
-  scan_small (Refused e) f here rest = here
+      (s : Result ℕ Fault) (f : ℕ → Read) → SmallScan (length w) s → ((n : ℕ) → n ≤ length w → SmallRead (f n)) →
+      SmallRead (on_read s refused f)
+  scan_small (Ok n) f here rest = rest n here
+  scan_small (Err e) f here rest = here
 
-  refuses_small : (s : Scan) (f : ℕ → Read) → RefusesSmall s → ((n : ℕ) → SmallRead (f n)) →
-      SmallRead (on_scan s refused f)
-  refuses_small (Clean n) f here rest = rest n
-  refuses_small (Refused e) f here rest = here
+  refuses_small : (s : Result ℕ Fault) (f : ℕ → Read) → RefusesSmall s → ((n : ℕ) → SmallRead (f n)) →
+      SmallRead (on_read s refused f)
+  refuses_small (Ok n) f here rest = rest n
+  refuses_small (Err e) f here rest = here
 
   net_reps_small :
       (mode : Mode) (h : Header) (cells reps : List Placed) (replacements pairs : ℕ) → pairs ≤ length w →
@@ -533,10 +525,10 @@ module _ (w : List ℕ) (short : length w ≤ 16384) where
 
   -- The header.
   header-number_small :
-      (v : Number) (f : ℕ → ℕ → Opening) → SmallNumber 4 v → ((n next : ℕ) → SmallOpening (f n next)) →
-      SmallOpening (on_number v O.Refused f)
-  header-number_small (N.Value n next) f here rest = rest n next
-  header-number_small (N.Refused e) f here rest = here
+      (v : Result (ℕ × ℕ) Fault) (f : ℕ → ℕ → Result Header Fault) → SmallNumber 4 v → ((n next : ℕ) → SmallOpening (f n next)) →
+      SmallOpening (on_number v Err f)
+  header-number_small (Ok (n, next)) f here rest = rest n next
+  header-number_small (Err e) f here rest = here
 
   header_small : SmallOpening (header_at w)
   unfolding header_at counts_at
@@ -552,16 +544,16 @@ pub read_small : (mode : Mode) (w : List ℕ) → SmallRead (read mode w)
 unfolding read
 read_small mode w = go (ltb 16384 (length w)) (ltb (length w) 4) refl refl
   where
-    opened : (short : length w ≤ 16384) → 4 ≤ length w → (o : Opening) → SmallOpening o →
-        SmallRead (on_opening o refused (read_cells mode w))
-    opened short long (O.Refused e) s = s
-    opened short long (O.Read h) s = cells-read_small w short mode h long
+    opened : (short : length w ≤ 16384) → 4 ≤ length w → (o : Result Header Fault) → SmallOpening o →
+        SmallRead (on_read o refused (read_cells mode w))
+    opened short long (Err e) s = s
+    opened short long (Ok h) s = cells-read_small w short mode h long
 
     go :
         (a b : Bool) → ltb 16384 (length w) ≡ a → ltb (length w) 4 ≡ b →
         SmallRead
         (cond a (refused (fault 4 16384))
-        (cond b (refused (fault 1 (length w))) (on_opening (header_at w) refused (read_cells mode w))))
+        (cond b (refused (fault 1 (length w))) (on_read (header_at w) refused (read_cells mode w))))
     go true b x y = omega arith
     go false true x y = let short : length w ≤ 16384 = ltb-false _ _ x in omega arith
     go false false x y = opened (ltb-false _ _ x) (ltb-false _ _ y) (header_at w) (header_small w (ltb-false _ _ x))

@@ -6,7 +6,7 @@ ghost use Rattle.std.specs.Prelude.{◌≡◌, true, ◌+◌, ◌<◌, length};
 ghost use Rattle.cell_reader.specs.Parse.{op_at, end_at};
 ghost use Rattle.replaced_cells.specs.Cursor.{is_next, rep_after, Readable};
 
-use cell::{Decoded, Operation};
+use cell::Operation;
 use logic::Slot;
 
 // The operation of the record at a place; a Note's where its head names none.
@@ -14,8 +14,8 @@ pub fn op_at(list: &[u32], at: usize) -> Operation
     ensures { result ≡ op_at list.now at }
 {
     match cell::operation_of(logic::payload(logic::word_at(list, at)) % 32) {
-        Decoded::Unknown => Operation::Note,
-        Decoded::Known(op) => op,
+        None => Operation::Note,
+        Some(op) => op,
     }
 }
 

@@ -1,2 +1,2 @@
 pub mod Same
-pub mod StepLaws
+pub mod SlotName

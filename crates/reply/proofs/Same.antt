@@ -1,44 +1,26 @@
--- Comparing a part of the text with a word, byte by byte.
-use mathlib.Core.Path.{◌≡◌, refl, sym, ap, ◌∙◌}
-use mathlib.Core.Bool.{Bool, true, false, ◌&&◌}
+-- Comparing a part of the text with a word.
+use mathlib.Core.Path.{◌≡◌, refl, sym, ap}
+use mathlib.Core.Bool.{Bool, ◌&&◌}
 use mathlib.Core.List.{List, [], ◌∷◌}
-use Prim.Native.Nat.{ℕ, suc, ◌+◌, ◌-◌, ◌<◌, ◌≤◌}
-use native.Mathlib.Nat.{add-suc}
-use native.Mathlib.Numerals.{add-one}
+use Prim.Native.Nat.{ℕ, ◌+◌, ◌-◌, ◌≤◌}
+use native.Mathlib.Omega.{arith}
 use lib.Dec.{eqb}
-use lib.ListN.{length, drop, get_or}
-use lib.Seq.{slice, slice-cons, slice_empty, drop-cons, drop-length, length-slice}
-use borrow.Author.Tests.{eq-eqb, ne_eqb}
+use lib.ListN.{take, drop}
+use lib.Pointwise.{pointwise}
+use lib.Seq.{slice}
+use Rattle.std.proofs.lemmas.List.{drop-take}
 use Rattle.reply.specs.Reply.{same}
 
-and-false : (b : Bool) → (b && false) ≡ false
-and-false true = refl
-and-false false = refl
-
--- Lists of different lengths differ.
-differs : (a b : List ℕ) → (length a ≡ length b → ⊥) → same a b ≡ false
+-- Spellings are equal where they are as long, and equal byte by byte.
+same_pointwise : (a b : List ℕ) → same a b ≡ pointwise eqb a b
 unfolding same
-differs [] [] h = absurd (h refl)
-differs [] (b ∷ bs) h = refl
-differs (a ∷ rest) [] h = refl
-differs (a ∷ rest) (b ∷ bs) h = rw (differs rest bs (λ e. h (ap suc e))) (and-false (eqb a b))
+same_pointwise [] [] = refl
+same_pointwise [] (y ∷ b) = refl
+same_pointwise (x ∷ a) [] = refl
+same_pointwise (x ∷ a) (y ∷ b) = ap (λ (r : Bool). eqb x y && r) (same_pointwise a b)
 
-module _ (text word : List ℕ) (start end : ℕ) (fits : end ≤ length text) where
-  pub same_length : (end - start ≡ length word → ⊥) → same (slice start end text) word ≡ false
-  same_length other = differs (slice start end text) word (λ e. other (sym (length-slice start end text fits) ∙ e))
-
-  pub same-done : (i : ℕ) → i ≡ length word → start + i ≡ end → same (slice (start + i) end text) (drop i word) ≡ true
-  unfolding same
-  same-done i all stop = rw (stop, all, slice_empty end text, drop-length word)
-
-  module _ (i : ℕ) (inside : start + i < end) (below : i < length word) where
-    pub same-stops : (get_or text (start + i) 0 ≡ get_or word i 0 → ⊥) → same (slice (start + i) end text) (drop i word)
-        ≡ false
-    unfolding same
-    same-stops other = rw (slice-cons (start + i) end text 0 inside fits, drop-cons word i 0 below, ne_eqb _ _ other)
-
-    pub same_goes : get_or text (start + i) 0 ≡ get_or word i 0
-        → same (slice (start + i) end text) (drop i word) ≡ same (slice (start + (i + 1)) end text) (drop (i + 1) word)
-    unfolding same
-    same_goes e =
-        rw (slice-cons (start + i) end text 0 inside fits, drop-cons word i 0 below, eq-eqb _ _ e, add-one i, add-suc)
+pub same_part : (text word : List ℕ) (start end : ℕ) → start ≤ end
+    → pointwise eqb (take (end - start) (drop start text)) word ≡ same (slice start end text) word
+same_part text word start end low =
+    let all : start + (end - start) ≡ end = omega arith in
+    rw (← drop-take start (end - start) text, all) (sym (same_pointwise (slice start end text) word))

@@ -7,7 +7,9 @@ use native.Mathlib.Omega.{arith}
 use lib.ListN.{length, get_or}
 use Rattle.logic.specs.declared.Fault.{Fault}
 use Rattle.builder.specs.declared.Counts.{Counts}
-use Rattle.requirement.specs.declared.Verified.TheVariants.{Refused, NothingAsked}
+use Rattle.std.specs.Prelude.{Result, Ok, Err}
+use Rattle.requirement.specs.declared.Verified.{Verified}
+use Rattle.requirement.specs.declared.Verified.TheVariants.{NothingAsked}
 use Rattle.cell.specs.Design.{Design, total}
 use Rattle.engine.specs.Call.{Call}
 use Rattle.engine.specs.Call as c
@@ -23,7 +25,6 @@ use Rattle.requirement.proofs.Theorem.{asked-each}
 use Rattle.requirement.proofs.WellFormed.{few_words, few-terms, few-temporaries}
 use Rattle.requirement.specs.Verified.{roomed, temporaries, counted, told, of_design, read_in, of_read, verified}
 use Rattle.requirement.specs.Verified.{room_for, in_room, of_read_unroomed}
-use Rattle.requirement.specs.declared.Room.{Room}
 use Rattle.requirement.proofs.RoomLaws.{short-words, short-slots, enough}
 use Rattle.requirement.specs.Verified.{unroomed, over, on_success, call_words, marks, calls_after, recorded_after}
 use Rattle.requirement.proofs.Required.{is-accepted, words_are}
@@ -94,16 +95,16 @@ temporaries_are d =
     omega arith
 
 pub refused_as_read : (mode : ℕ) (w : List ℕ) {e : Fault} → read_in mode w ≡ refused e → (room recorded : ℕ) →
-    verified mode w room recorded ≡ Refused e
+    verified mode w room recorded ≡ Err e
 unfolding verified
 refused_as_read mode w is room recorded = ap (λ r. of_read r room recorded) is
 
-pub unroomed-refused : (mode : ℕ) (w : List ℕ) {e : Fault} → read_in mode w ≡ refused e → unroomed mode w ≡ Refused e
+pub unroomed-refused : (mode : ℕ) (w : List ℕ) {e : Fault} → read_in mode w ≡ refused e → unroomed mode w ≡ Err e
 unfolding unroomed
 unroomed-refused mode w is = ap of_read_unroomed is
 
 pub unroomed-accepted : (mode : ℕ) (w : List ℕ) {d : Design} {reps pairs : ℕ} → read_in mode w ≡ accepted d reps pairs
-    → unroomed mode w ≡ of_design d
+    → unroomed mode w ≡ Ok (of_design d)
 unfolding unroomed
 unroomed-accepted mode w is = ap of_read_unroomed is
 
@@ -114,13 +115,13 @@ module _ (mode : ℕ) (w : List ℕ) {d : Design} {reps pairs : ℕ} (is : read_
   unfolding verified
   roomed_as = ap (λ r. of_read r room recorded) is
 
-  by_room : {r : Room} → r ≡ room_for (length (encode (verify d))) room (total d) recorded
+  by_room : {r : Result (Unit {0}) ℕ} → r ≡ room_for (length (encode (verify d))) room (total d) recorded
       → verified mode w room recorded ≡ in_room r (of_design d)
-  by_room found = roomed_as ∙ ap (λ (r : Room). in_room r (of_design d)) (sym found)
+  by_room found = roomed_as ∙ ap (λ (r : Result (Unit {0}) ℕ). in_room r (of_design d)) (sym found)
 
   -- With room, every accepted list is answered.
   pub answered : length (call_words mode w) ≤ room → total d ≤ recorded → verified mode w room recorded
-      ≡ told (built d).res (counted (verify d))
+      ≡ Ok (told (built d).res (counted (verify d)))
   answered calls marks =
       let words : length (encode (verify d)) ≤ room = rw (words_are mode w is) at calls in
       by_room (enough (length (encode (verify d))) room (total d) recorded words marks)
@@ -140,13 +141,13 @@ module _ (mode : ℕ) (w : List ℕ) {d : Design} {reps pairs : ℕ} (is : read_
 
   -- 14 at the room needed: the call slice first, then the recorded one.
   pub short_of_words : room < length (call_words mode w) → verified mode w room recorded
-      ≡ Refused (record { number = 14; place = length (call_words mode w) })
+      ≡ Err (record { number = 14; place = length (call_words mode w) })
   short_of_words short =
       let few : room < length (encode (verify d)) = rw (words_are mode w is) at short in
       by_room (short-words (length (encode (verify d))) room (total d) recorded few) ∙ rw (words_are mode w is)
 
   pub short_of_marks : length (call_words mode w) ≤ room → recorded < total d
-      → verified mode w room recorded ≡ Refused (record { number = 14; place = total d })
+      → verified mode w room recorded ≡ Err (record { number = 14; place = total d })
   short_of_marks calls short =
       let words : length (encode (verify d)) ≤ room = rw (words_are mode w is) at calls in
       by_room (short-slots (length (encode (verify d))) room (total d) recorded words short)
@@ -160,12 +161,15 @@ module _ (mode : ℕ) (w : List ℕ) {d : Design} {reps pairs : ℕ} (is : read_
 
   -- With room, nothing is asked exactly where there is no obligation.
   pub nothing-asked : length (call_words mode w) ≤ room → total d ≤ recorded
-      → (verified mode w room recorded ≡ NothingAsked (counted (verify d))) ↔ (obligations d ≡ [])
+      → (verified mode w room recorded ≡ Ok (NothingAsked (counted (verify d)))) ↔ (obligations d ≡ [])
   nothing-asked calls marks = (
-    λ e. none-asked (built d).res (obligations d) asked-obligations (sym (answered calls marks) ∙ e),
-    λ e. answered calls marks ∙ none_told (built d).res (asked-obligations ∙ ap length e),
+    λ e. none-asked (built d).res (obligations d) asked-obligations (answer-of (sym (answered calls marks) ∙ e)),
+    λ e. answered calls marks ∙ ap Ok (none_told (built d).res (asked-obligations ∙ ap length e)),
   )
     where
+      answer-of : {a b : Verified} → ◌≡◌ {A = Result Verified Fault} (Ok a) (Ok b) → a ≡ b
+      answer-of e = cc
+
       none-asked : {A : Type 0} (terms : List ℕ) (l : List A) → length terms ≡ length l
           → told terms (counted (verify d)) ≡ NothingAsked (counted (verify d)) → l ≡ []
       none-asked [] [] q e = refl
@@ -179,13 +183,13 @@ module _ (mode : ℕ) (w : List ℕ) {d : Design} {reps pairs : ℕ} (is : read_
 
 -- ---- the lent slices
 
-told_writes : (l : List ℕ) (n : Counts) (new old : List ℕ) → on_success (told l n) new old ≡ over new old
+told_writes : (l : List ℕ) (n : Counts) (new old : List ℕ) → on_success (Ok (told l n)) new old ≡ over new old
 told_writes [] n new old = refl
 told_writes (o ∷ l) n new old = refl
 
 module _ (mode : ℕ) (w calls recorded : List ℕ) where
   -- A refusal leaves both as they were.
-  pub untouched : {e : Fault} → verified mode w (length calls) (length recorded) ≡ Refused e
+  pub untouched : {e : Fault} → verified mode w (length calls) (length recorded) ≡ Err e
       → (calls_after mode w calls recorded ≡ calls) × (recorded_after mode w calls recorded ≡ recorded)
   unfolding calls_after recorded_after
   untouched e = (ap (λ v. on_success v (call_words mode w) calls) e, ap (λ v. on_success v (marks mode w) recorded) e)

@@ -21,7 +21,7 @@ use Rattle.engine.specs.Meaning.{terms}
 use Rattle.engine.specs.Encode.{encode}
 use Rattle.working_out.specs.Reading.{reads_past, Pair, equal, of_void, of_dffs, ordinary, pair_of}
 use Rattle.smt.specs.Prog.{curr, past}
-use Rattle.smt.specs.Builder.{cell, curr_value, output_nets}
+use Rattle.smt.specs.Builder.{curr_value, output_nets}
 use Rattle.bound.proofs.CostsLaws.{CostsOnly, encode_append}
 use Rattle.bound.specs.Costs.{sum_by}
 use Rattle.bound.proofs.Builder.{tv_eq_costs, tv_refines_costs, net_of_costs, net_costs}

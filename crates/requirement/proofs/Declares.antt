@@ -25,7 +25,7 @@ use Rattle.working_out.proofs.Replaced.{same-slot, pair-void}
 use Rattle.working_out.proofs.Nodes.{Kind, of_cell, of_replaced, kind}
 use Rattle.smt.specs.Prog.{Prog, ret, op, declare, bind, bind2, ◌>>=◌, Age, curr, past, Half, is_undef, is_one, TritVec}
 use Rattle.smt.specs.Builder.{net_of, collect, value_of, curr_net, curr_value, output_nets, cell}
-use Rattle.smt.specs.Emit.{St, emit, place, net_name, letter_of, suffix_of, at, learn, reread, bound, bound2, known}
+use Rattle.smt.specs.Emit.{St, emit, place, net_name, letter_of, suffix_of, learn, reread, bound, bound2}
 use Rattle.smt.proofs.WpLaws.{place_inj, stored, and-true}
 use Rattle.order.specs.Verify.{Step, declared, asserted, obliged, claim, replace_void_net, cell_steps, pair_steps, each_cell}
 use Rattle.order.specs.Verify.{each_pair, steps, work, start, built}

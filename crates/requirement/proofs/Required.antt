@@ -5,9 +5,8 @@ use mathlib.Core.List.{List}
 use Prim.Native.Nat.{ℕ, ◌*◌, ◌≤◌}
 use native.Mathlib.Omega.{arith}
 use lib.ListN.{length}
+use Rattle.std.specs.Prelude.{Option, Some, None}
 use Rattle.cell.specs.declared.Mode.{Mode}
-use Rattle.cell.specs.declared.Chosen.{Chosen}
-use Rattle.cell.specs.declared.Chosen.TheVariants.{Known, Unknown}
 use Rattle.cell.specs.Mode.{mode_of, number_of}
 use Rattle.cell.proofs.Modes.{number-mode}
 use Rattle.cell.specs.Design.{Design}
@@ -30,14 +29,14 @@ use Rattle.requirement.specs.Verified.{read_by, read_in, written_calls, call_wor
 -- ---- the mode
 
 -- A mode other than 0 or 1 is 23 at 0, whatever the list.
-pub mode-unknown : (mode : ℕ) (w : List ℕ) → mode_of mode ≡ Unknown →
+pub mode-unknown : (mode : ℕ) (w : List ℕ) → mode_of mode ≡ None →
     read_in mode w ≡ refused (record { number = 23; place = 0 })
 unfolding read_in
-mode-unknown mode w none = ap (λ (c : Chosen). read_by c w) none
+mode-unknown mode w none = ap (λ (c : Option Mode). read_by c w) none
 
 pub read-numbered : (mode : Mode) (w : List ℕ) → read_in (number_of mode) w ≡ read mode w
 unfolding read_in
-read-numbered mode w = ap (λ (c : Chosen). read_by c w) (number-mode mode)
+read-numbered mode w = ap (λ (c : Option Mode). read_by c w) (number-mode mode)
 
 -- ---- a list that is read as accepted
 
@@ -47,9 +46,9 @@ pub read_known : (mode : ℕ) (w : List ℕ) {d : Design} {r p : ℕ} → read_i
 unfolding read_in
 read_known mode w {d} {r} {p} e = go (mode_of mode) e
   where
-    go : (c : Chosen) → read_by c w ≡ accepted d r p → (m : Mode) × (read m w ≡ accepted d r p)
-    go Unknown e = absurd (let z : ◌≡◌ {A = ℕ} 0 1 = cc in omega arith)
-    go (Known m) e = (m, e)
+    go : (c : Option Mode) → read_by c w ≡ accepted d r p → (m : Mode) × (read m w ≡ accepted d r p)
+    go None e = absurd (let z : ◌≡◌ {A = ℕ} 0 1 = cc in omega arith)
+    go (Some m) e = (m, e)
 
 -- It has the words of its design.
 words_count : (mode : ℕ) (w : List ℕ) {d : Design} {r p : ℕ} → read_in mode w ≡ accepted d r p → length w ≡ design_words d

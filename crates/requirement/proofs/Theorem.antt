@@ -29,7 +29,7 @@ use Rattle.working_out.specs.WorkingOut.{trit_rule, worked_out, whole, Solves}
 use Rattle.working_out.proofs.WorkedOut as worked
 use Rattle.working_out.specs.Obligations.{Obligation, obligations, broken}
 use Rattle.smt.specs.Prog.{Prog, ret, op, declare, bind, bind2, ◌>>=◌, Age, curr, past, Half, is_undef, is_one}
-use Rattle.smt.specs.Emit.{St, Out, emit, place, net_name, at, learn, reread, after, known}
+use Rattle.smt.specs.Emit.{St, Out, emit, place, net_name, learn, reread, after, known}
 use Rattle.smt.specs.Formula.{TritBits, NetBits, net_bits}
 use Rattle.smt.proofs.Shows.{shown-is}
 use Rattle.smt.specs.CellBits.{past_bits}

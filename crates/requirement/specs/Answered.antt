@@ -1,7 +1,6 @@
 -- Document 01, "Faults and what stays". How small the counts of an accepted list are.
 use Rattle.std.specs.Prelude.{◌≤◌}
 use Rattle.builder.specs.declared.Counts.{Counts}
-use Rattle.requirement.specs.Verified.{temporaries}
 
 -- Counts that a word's payload holds, with room to spare.
 pub record Few (n : Counts) : Type 0 where

@@ -6,7 +6,6 @@ use Rattle.engine.specs.Call.{Call}
 use Rattle.smt.specs.Prog.{Age, curr, past, Half}
 use Rattle.smt.specs.Emit.{net_name}
 use Rattle.requirement.specs.Requirement3.{IsDeclared, Declared}
-use Rattle.requirement.specs.Verified.{marks}
 
 -- Marks and calls: a mark for each slot, 0 (none), 1 (n) or 2 (p). A slot marked none has no net declared, and both
 -- names of a marked slot are.

@@ -1,15 +1,14 @@
 -- Document 01: what the order of work answers for a list of words and the room lent for its calls and its recorded
 -- marks, and what it leaves in the two slices. Every count is a count in the calls themselves. Document 02, change 7:
 -- the caller chooses a mode, by its number.
-use Rattle.std.specs.Prelude.{◌≡◌, cond, List, [], ◌∷◌, ◌++◌, ℕ, zero, suc, ◌+◌, ltb, length, drop}
+use Rattle.std.specs.Prelude.{◌≡◌, cond, List, [], ◌∷◌, ◌++◌, ℕ, zero, suc, ◌+◌, ltb, length, drop, Result, Ok, Err}
+use Rattle.std.specs.Prelude.{Option, Some, None}
 use Rattle.builder.specs.declared.Counts.{Counts}
 use Rattle.requirement.specs.declared.Verified.{Verified}
-use Rattle.requirement.specs.declared.Verified.TheVariants.{Refused, NothingAsked, Asked}
-use Rattle.requirement.specs.declared.Room.{Room}
-use Rattle.requirement.specs.declared.Room.TheVariants.{Enough, Short}
+use Rattle.requirement.specs.declared.Verified.TheVariants.{NothingAsked, Asked}
+use Rattle.logic.specs.declared.Fault.{Fault}
+use Rattle.cell.specs.declared.Mode.{Mode}
 use Rattle.cell.specs.Design.{Design, total}
-use Rattle.cell.specs.declared.Chosen.{Chosen}
-use Rattle.cell.specs.declared.Chosen.TheVariants.{Known, Unknown}
 use Rattle.cell.specs.Mode.{mode_of}
 use Rattle.engine.specs.Call.{Letter, Suffix, Call}
 use Rattle.engine.specs.Call as c
@@ -43,9 +42,9 @@ counted cs =
 
 -- ---- the list in the mode: a mode other than 0 or 1 is 23 at 0, before the list is looked at
 
-abbrev pub read_by : Chosen → List ℕ → Read
-read_by Unknown w = refused (record { number = 23; place = 0 })
-read_by (Known mode) w = read mode w
+abbrev pub read_by : Option Mode → List ℕ → Read
+read_by None w = refused (record { number = 23; place = 0 })
+read_by (Some mode) w = read mode w
 
 unfoldable pub read_in : ℕ → List ℕ → Read
 read_in mode w = read_by (mode_of mode) w
@@ -67,32 +66,32 @@ abbrev pub of_design : Design → Verified
 of_design d = told (built d).res (counted (verify d))
 
 -- Whether so many call words and slots have room: the call slice before the recorded one, each at the room needed.
-unfoldable pub room_for : ℕ → ℕ → ℕ → ℕ → Room
+unfoldable pub room_for : ℕ → ℕ → ℕ → ℕ → Result (Unit {0}) ℕ
 room_for words room slots recorded =
-    cond (ltb room words) (Short words) (cond (ltb recorded slots) (Short slots) Enough)
+    cond (ltb room words) (Err words) (cond (ltb recorded slots) (Err slots) (Ok tt))
 
 -- Too little room is 14.
-abbrev pub in_room : Room → Verified → Verified
-in_room Enough answer = answer
-in_room (Short place) answer = Refused (record { number = 14; place = place })
+abbrev pub in_room : Result (Unit {0}) ℕ → Verified → Result Verified Fault
+in_room (Ok enough) answer = Ok answer
+in_room (Err place) answer = Err (record { number = 14; place = place })
 
-abbrev pub roomed : Design → ℕ → ℕ → Verified
+abbrev pub roomed : Design → ℕ → ℕ → Result Verified Fault
 roomed d room recorded = in_room (room_for (length (encode (verify d))) room (total d) recorded) (of_design d)
 
-abbrev pub of_read : Read → ℕ → ℕ → Verified
-of_read (refused e) room recorded = Refused e
+abbrev pub of_read : Read → ℕ → ℕ → Result Verified Fault
+of_read (refused e) room recorded = Err e
 of_read (accepted d reps pairs) room recorded = roomed d room recorded
 
 -- The answer for a list in a mode, with the room of the two slices.
-unfoldable pub verified : ℕ → List ℕ → ℕ → ℕ → Verified
+unfoldable pub verified : ℕ → List ℕ → ℕ → ℕ → Result Verified Fault
 verified mode w room recorded = of_read (read_in mode w) room recorded
 
-abbrev pub of_read_unroomed : Read → Verified
-of_read_unroomed (refused e) = Refused e
-of_read_unroomed (accepted d reps pairs) = of_design d
+abbrev pub of_read_unroomed : Read → Result Verified Fault
+of_read_unroomed (refused e) = Err e
+of_read_unroomed (accepted d reps pairs) = Ok (of_design d)
 
 -- The same, with any room that suffices.
-unfoldable pub unroomed : ℕ → List ℕ → Verified
+unfoldable pub unroomed : ℕ → List ℕ → Result Verified Fault
 unroomed mode w = of_read_unroomed (read_in mode w)
 
 -- ---- what the slices hold after it: a refusal changes nothing, success nothing past what it writes
@@ -100,10 +99,10 @@ unroomed mode w = of_read_unroomed (read_in mode w)
 abbrev pub over : List ℕ → List ℕ → List ℕ
 over new old = new ++ drop (length new) old
 
-abbrev pub on_success : Verified → List ℕ → List ℕ → List ℕ
-on_success (Refused e) new old = old
-on_success (NothingAsked n) new old = over new old
-on_success (Asked n) new old = over new old
+abbrev pub on_success : Result Verified Fault → List ℕ → List ℕ → List ℕ
+on_success (Err e) new old = old
+on_success (Ok (NothingAsked n)) new old = over new old
+on_success (Ok (Asked n)) new old = over new old
 
 abbrev pub written_calls : Read → List ℕ
 written_calls (refused e) = []
@@ -130,15 +129,14 @@ recorded_after mode w calls recorded =
 
 -- ---- document 01's numbers and values of each case: a refusal's number and place; otherwise 0 and the words
 
-abbrev pub number_of : Verified → ℕ
-number_of (Refused e) = e.number
-number_of (NothingAsked n) = 0
-number_of (Asked n) = 0
+abbrev pub number_of : Result Verified Fault → ℕ
+number_of (Err e) = e.number
+number_of (Ok answer) = 0
 
-abbrev pub value_of : Verified → ℕ
-value_of (Refused e) = e.place
-value_of (NothingAsked n) = n.words
-value_of (Asked n) = n.words
+abbrev pub value_of : Result Verified Fault → ℕ
+value_of (Err e) = e.place
+value_of (Ok (NothingAsked n)) = n.words
+value_of (Ok (Asked n)) = n.words
 
 -- ---- requirement 3, of a list of words in a mode: what every accepted list without a current loop must have, said of
 -- its call words

@@ -6,34 +6,26 @@ ghost use Rattle.std.specs.Prelude.{◌≡◌};
 ghost use Rattle.requirement.specs.Verified.{room_for, told_by};
 
 use builder::Counts;
-use logic::Fault;
 
-// A refusal, a list with no obligation, or one whose obligations are asked.
+// Of an accepted list: one with no obligation, or one whose obligations are asked.
 #[derive(Clone, Copy)]
 pub enum Verified {
-    Refused(Fault),
     NothingAsked(Counts),
     Asked(Counts),
 }
 
-// Whether two lent slices have room, or the room that the first short one needs.
-#[derive(Clone, Copy)]
-pub enum Room {
-    Enough,
-    Short(usize),
-}
-
-// Room for so many words in the call slice, then for so many slots in the recorded one.
-pub fn room_for(words: usize, room: usize, slots: usize, recorded: usize) -> Room
+// Room for so many words in the call slice, then for so many slots in the recorded one; an `Err` is the room that the
+// first short one needs.
+pub fn room_for(words: usize, room: usize, slots: usize, recorded: usize) -> Result<(), usize>
     ensures { result ≡ room_for words room slots recorded }
 {
     if room < words {
-        return Room::Short(words);
+        return Err(words);
     }
     if recorded < slots {
-        return Room::Short(slots);
+        return Err(slots);
     }
-    Room::Enough
+    Ok(())
 }
 
 // The answer where there is room, by the number of obligations.

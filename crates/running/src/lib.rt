@@ -2,7 +2,6 @@
 // it two functions in which the counts are a record that the caller lends.
 #![tactic(auto)]
 
-ghost use Rattle.std.specs.Prelude.{◌≡◌, min};
 ghost use Rattle.running.specs.Passes.{nothing, Passes};
 
 use builder::Counts;
@@ -13,12 +12,6 @@ use cell::Mode;
 pub struct Tally {
     pub counts: Counts,
     pub obligations: usize,
-}
-
-fn lesser(a: usize, b: usize) -> usize
-    ensures { result ≡ min a b }
-{
-    if a < b { a } else { b }
 }
 
 // The steps of an accepted list and `check`. The terms of its obligations stand in a lent table, and as many are asked
@@ -51,13 +44,11 @@ fn pass(
         eqs,
         c,
     );
-    let obligations = s.obligations;
-    let room = eqs.len();
-    let asked = lesser(obligations, room);
+    let asked = s.obligations.min(eqs.len());
     let counts = steps::check(calls, s.counts, &eqs[..asked]);
     Tally {
         counts,
-        obligations,
+        obligations: s.obligations,
     }
 }
 

@@ -1,19 +1,17 @@
 -- Laws of the definitions of Written.
-use mathlib.Core.Path.{◌≡◌, refl, sym, ap, ◌∙◌, subst}
+use mathlib.Core.Path.{◌≡◌, refl, sym, ◌∙◌, subst}
 use mathlib.Core.List.{List, ◌++◌}
-use mathlib.Core.Option.{some}
 use Prim.Native.Nat.{ℕ, ◌+◌, ◌^◌, ◌<◌, ◌≤◌}
 use native.Mathlib.Omega.{arith}
 use lib.ListN.{length, drop}
 use borrow.Author.Tests.{lt-ltb, le-ltb}
 use Rattle.engine.specs.Encode.{decode}
 use Rattle.engine.specs.Sorts.{Context}
-use Rattle.engine.specs.WellFormed.{Outcome, place_of, outcome, well_formed, malformed}
-use Rattle.checker.specs.declared.CallList.TheVariants.{WellFormed, Malformed}
+use Rattle.engine.specs.WellFormed.{Outcome, outcome, well_formed, malformed}
+use Rattle.std.specs.Prelude.{Some, None, Ok}
+use Rattle.checker.specs.declared.Counts.{Counts}
 use Rattle.engine.specs.Emit.{counted, Wrote}
 use Rattle.text.proofs.Write.{overwrite-fits}
-use Rattle.asked.specs.declared.Mark.TheVariants.{Fine, Bad}
-use Rattle.script.specs.declared.Written.TheVariants.{Bytes}
 use Rattle.asked.specs.Marks.{bad_mark}
 use Rattle.engine.proofs.ReadBack.{decode-formed}
 use Rattle.name_table.specs.Named.{NamesTo}
@@ -23,11 +21,11 @@ use Rattle.script.specs.Written.{script_of, refuse, room_for, marked, written}
 
 -- Marks first, then room.
 module _ (w marks : List ℕ) (room : ℕ) where
-  pub marked-bad : {slot : ℕ} → bad_mark (decode w) 0 marks ≡ Bad slot → marked w marks room ≡ refuse 2 slot
+  pub marked-bad : {slot : ℕ} → bad_mark (decode w) 0 marks ≡ Some slot → marked w marks room ≡ refuse 2 slot
   unfolding marked
   marked-bad e = rw e
 
-  pub marked_fine : bad_mark (decode w) 0 marks ≡ Fine → marked w marks room ≡ room_for (length (script_of w marks)) room
+  pub marked_fine : bad_mark (decode w) 0 marks ≡ None → marked w marks room ≡ room_for (length (script_of w marks)) room
   unfolding marked
   marked_fine e = rw e
 
@@ -40,7 +38,7 @@ module _ (text : List ℕ) (room needed : ℕ) (short : room < 2 ^ 63) (is-lengt
         let same : counted (length text) ≡ needed = omega arith in
         rw (lt-ltb room (length text) long, same)
 
-    pub room_enough : needed ≤ room → room_for (length text) room ≡ Bytes needed
+    pub room_enough : needed ≤ room → room_for (length text) room ≡ Ok needed
     room_enough h =
         let fits : length text ≤ room = omega arith in
         let same : length text ≡ needed = omega arith in
@@ -51,18 +49,14 @@ pub whole-text : {text before after : List ℕ} {r : ℕ} → Wrote before 0 tex
 whole-text {text} {before} wrote fits = wrote.words ∙ overwrite-fits before text fits
 
 -- What the checker answers.
-checked-formed : (o : Outcome) {terms declared : ℕ} → checked_as o ≡ WellFormed terms declared → (y : Context)
+checked-formed : (o : Outcome) {made : Counts} → checked_as o ≡ Ok made → (y : Context)
     × (o ≡ well_formed y)
 checked-formed (well_formed y) e = (y, refl)
 checked-formed (malformed at) e = let z : ◌≡◌ {A = ℕ} 0 1 = cc in absurd (omega arith)
 
-checked-malformed : (o : Outcome) {place : ℕ} → checked_as o ≡ Malformed place → place_of o ≡ some place
-checked-malformed (well_formed y) e = let z : ◌≡◌ {A = ℕ} 0 1 = cc in absurd (omega arith)
-checked-malformed (malformed at) {place} e = let same : at ≡ place = cc in ap some same
-
 -- The tables that the check leaves.
-pub has_tables : {gap : ℕ} {w places sorts names : List ℕ} {terms declared : ℕ} →
-    CheckedBy gap w places sorts names (WellFormed terms declared)
+pub has_tables : {gap : ℕ} {w places sorts names : List ℕ} {made : Counts} →
+    CheckedBy gap w places sorts names (Ok made)
     → HasTables gap w places sorts × HasNames w names
 has_tables {gap} {w} {places} {sorts} {names} k =
     let f = checked-formed (outcome w) (sym k.is) in
@@ -76,8 +70,3 @@ pub written-formed : (w marks : List ℕ) (room : ℕ) {y : Context} → outcome
     ≡ marked w marks room
 unfolding written
 written-formed w marks room e = rw e
-
-pub written-malformed : (w marks : List ℕ) (room : ℕ) {place : ℕ} → checked_as (outcome w) ≡ Malformed place →
-    written w marks room ≡ refuse 19 place
-unfolding written
-written-malformed w marks room e = rw (checked-malformed (outcome w) e)

@@ -11,17 +11,9 @@ ghost use Rattle.script.specs.Text.{lines, script};
 ghost use Rattle.script.specs.Walk.{gap_for, HasTables, HasNames};
 ghost use Rattle.script.specs.Written.{script_of, room_for, marked, written, Scripted};
 
-use asked::Mark;
 use call_list::Cursor;
-use checker::CallList;
 use logic::Fault;
-
-// What the writer answers: how many bytes it wrote, or a refusal with document 01's number and place.
-#[derive(Clone, Copy)]
-pub enum Written {
-    Bytes(usize),
-    Refused(Fault),
-}
+use term_table::Tables;
 
 // Writes the lines of a well-formed call list, with tables of the places of every `gap + 1`th term and of the sorts of
 // the first terms and of the latest.
@@ -44,7 +36,14 @@ fn put_records(
         declared: 0,
     };
     while seen.at < calls.len() {
-        at = lines::put_record(text, at, calls, places, gap, sorts, recent, seen);
+        let tables = Tables {
+            calls,
+            sorts,
+            recent,
+            places,
+            gap,
+        };
+        at = lines::put_record(text, at, &tables, seen);
         term_table::note_recent(calls, sorts, recent, places, gap, seen.at, seen.terms);
         seen = call_list::next(calls, seen);
     }
@@ -99,19 +98,19 @@ fn write_fitting(
     recent: &mut [u8],
     recorded: &[u8],
     text: &mut [u8],
-) -> Written
+) -> Result<usize, Fault>
     requires { HasTables gap calls.now places.now sorts.now }
     ensures { Scripted calls.now recorded.now text.old text.new result
         (room_for (length (script_of calls.now recorded.now)) (length text.old)) }
 {
     let needed = script_length(calls, places, gap, sorts, recent, recorded);
     if text.len() < needed {
-        return Written::Refused(Fault {
+        return Err(Fault {
             number: 15,
             place: needed,
         });
     }
-    Written::Bytes(put_script(text, calls, places, gap, sorts, recent, recorded))
+    Ok(put_script(text, calls, places, gap, sorts, recent, recorded))
 }
 
 // Writes the script of a well-formed call list, if its marks stand and the text has room.
@@ -124,18 +123,18 @@ fn write_marked(
     names: &[u8],
     recorded: &[u8],
     text: &mut [u8],
-) -> Written
+) -> Result<usize, Fault>
     requires { HasTables gap calls.now places.now sorts.now × HasNames calls.now names.now }
     ensures { Scripted calls.now recorded.now text.old text.new result
         (marked calls.now recorded.now (length text.old)) }
 {
-    match asked::bad_mark(calls, names, recorded) {
-        Mark::Bad(slot) => Written::Refused(Fault {
+    if let Some(slot) = asked::bad_mark(calls, names, recorded) {
+        return Err(Fault {
             number: 2,
             place: slot,
-        }),
-        Mark::Fine => write_fitting(calls, places, gap, sorts, recent, recorded, text),
+        });
     }
+    write_fitting(calls, places, gap, sorts, recent, recorded, text)
 }
 
 // How many terms a call list makes.
@@ -158,14 +157,16 @@ fn gap_for(calls: &[u32], places: usize) -> u32
     ensures { result ≡ gap_for calls.now places }
 {
     if terms_in(calls) <= places {
-        return 0;
+        0
+    } else {
+        term_places::gap_of(calls, places)
     }
-    term_places::gap_of(calls, places)
 }
 
 // Writes the script of a call list and its recorded marks into a lent text (faults 19, 2 and 15), with tables for the
 // places of every `gap + 1`th term, the sorts of the first terms and of the latest and the names of low indexes; what
 // they hold afterwards is free.
+#[tactic(auto, unfolding(crate::specs::Written::written))]
 fn write_script_by(
     calls: &[u32],
     recorded: &[u8],
@@ -175,17 +176,15 @@ fn write_script_by(
     sorts: &mut [u8],
     recent: &mut [u8],
     names: &mut [u8],
-) -> Written
+) -> Result<usize, Fault>
     ensures { Scripted calls.now recorded.now text.old text.new result
         (written calls.now recorded.now (length text.old)) }
 {
-    match checker::check_by(calls, places, gap, sorts, recent, names) {
-        CallList::Malformed(place) => Written::Refused(Fault { number: 19, place }),
-        CallList::WellFormed {
-            terms: _,
-            declared: _,
-        } => write_marked(calls, places, gap, sorts, recent, names, recorded, text),
-    }
+    checker::check_by(calls, places, gap, sorts, recent, names).map_err(|place| Fault {
+        number: 19,
+        place,
+    })?;
+    write_marked(calls, places, gap, sorts, recent, names, recorded, text)
 }
 
 // Writes the script of a call list and its recorded marks into a lent text: 19 for a malformed list, then 2, then 15 at
@@ -198,7 +197,7 @@ pub fn write_script_with(
     places: &mut [u32],
     sorts: &mut [u8],
     names: &mut [u8],
-) -> Written
+) -> Result<usize, Fault>
     ensures { Scripted calls.now recorded.now text.old text.new result
         (written calls.now recorded.now (length text.old)) }
 {
@@ -218,7 +217,7 @@ pub fn write_script_with(
 
 // Writes the script of a call list and its recorded marks into a lent text: 19 for a malformed list, then 2, then 15 at
 // the room needed.
-pub fn write_script(calls: &[u32], recorded: &[u8], text: &mut [u8]) -> Written
+pub fn write_script(calls: &[u32], recorded: &[u8], text: &mut [u8]) -> Result<usize, Fault>
     ensures { Scripted calls.now recorded.now text.old text.new result
         (written calls.now recorded.now (length text.old)) }
 {

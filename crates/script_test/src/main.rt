@@ -5,7 +5,7 @@
 
 ghost use Rattle.std.specs.Prelude.{◌≤◌, length};
 
-use script::Written;
+use logic::Fault;
 
 // The word whose lowest byte stands at a place; 0 past the end.
 fn word(input: &[u8], at: usize) -> u32
@@ -24,10 +24,10 @@ fn print_refusal(number: u32, place: usize) {
     io::write_all(1, b"\n");
 }
 
-fn print_script(given: Written, text: &[u8]) {
+fn print_script(given: Result<usize, Fault>, text: &[u8]) {
     match given {
-        Written::Refused(fault) => print_refusal(fault.number, fault.place),
-        Written::Bytes(n) => {
+        Err(fault) => print_refusal(fault.number, fault.place),
+        Ok(n) => {
             if n <= text.len() {
                 io::write_all(1, &text[..n]);
             }
@@ -49,19 +49,15 @@ fn case(input: &[u8], start: usize, n: usize, marks: usize, room: usize)
 {
     let mut calls = [0u32; 4096];
     let mut at = start;
-    let mut i = 0;
-    while i < n {
+    for i in 0..n {
         if input.len() - at < 4 {
             return;
         }
         logic::put(&mut calls, i, word(input, at));
         at += 4;
-        i += 1;
     }
-    if i <= 4096 {
-        if marks <= input.len() - at {
-            write(&calls[..i], &input[at..at + marks], room);
-        }
+    if n <= 4096 && marks <= input.len() - at {
+        write(&calls[..n], &input[at..at + marks], room);
     }
 }
 

@@ -9,6 +9,8 @@ use Prim.Native.Nat.{ℕ, zero, suc, ◌+◌}
 use native.Mathlib.Omega.{arith}
 use lib.ListN.{length, get_or, take, drop}
 use borrow.Author.Tests.{eq-eqb}
+use Rattle.std.specs.Prelude.{Result}
+use Rattle.logic.specs.declared.Fault.{Fault}
 use Rattle.cell.specs.Design.{Design, total}
 use Rattle.engine.specs.Call.{Name, Call}
 use Rattle.engine.specs.Call as c
@@ -93,7 +95,7 @@ list_scripted mode w is room =
     ∙ marks-done (decode (call_words mode w)) (marks mode w) (length (marks mode w)) (omega arith))
 
 -- So for the words and the marks that `verify` leaves in the caller's slices: never 19, never 2.
-pub said_scripted : {mode : ℕ} {w calls recorded : List ℕ} {r : Verified} {n : Counts}
+pub said_scripted : {mode : ℕ} {w calls recorded : List ℕ} {r : Result Verified Fault} {n : Counts}
     (s : Said mode w calls recorded r n) (room : ℕ)
     → written (take n.words calls) (take (total s.d) recorded) room
     ≡ room_for (length (script_of (take n.words calls) (take (total s.d) recorded))) room

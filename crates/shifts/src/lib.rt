@@ -57,17 +57,15 @@ fn prepare_at(
         value.counts,
     );
     let amount_mul = arith::amount_times(calls, amount.counts, width, amount.value, stride);
-    let value = value.value;
-    let amount = amount.value;
-    let term = amount_mul.term;
-    let counts = amount_mul.counts;
-    let prepared = Prepared {
-        width,
-        value,
-        amount,
-        amount_mul: term,
-    };
-    BuiltPrepared { prepared, counts }
+    BuiltPrepared {
+        prepared: Prepared {
+            width,
+            value: value.value,
+            amount: amount.value,
+            amount_mul: amount_mul.term,
+        },
+        counts: amount_mul.counts,
+    }
 }
 
 // `prepare_shift` of a value of n nets; the amount and the stride are those of the fields.

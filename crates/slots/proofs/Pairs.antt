@@ -3,7 +3,7 @@
 use mathlib.Core.Path.{◌≡◌, refl, sym, ap, ◌∙◌}
 use mathlib.Core.Bool.{Bool, true, false, ◌&&◌, false≢true}
 use mathlib.Core.List.{List}
-use Prim.Native.Nat.{ℕ, ◌<◌, ◌^◌}
+use Prim.Native.Nat.{ℕ, zero, suc, ◌<◌, ◌^◌}
 use native.Mathlib.Omega.{arith}
 use lib.Dec.{eqb}
 use borrow.Author.Tests.{eqb-true, eqb-false, eq-eqb, ne_eqb}
@@ -16,7 +16,9 @@ use Rattle.cell.specs.Design.{Design, total}
 use Rattle.right.specs.Nets.{Within}
 use Rattle.working_out.specs.Reading.{same_net, net_role, pair_of}
 use Rattle.slots.specs.Tells.{standing_of, Tells}
-use Rattle.slots.specs.Pairs.{pair_kind, standing_at, pair_in, IsKind}
+use Rattle.slots.specs.Pairs.{pair_kind, standing_at, standing_by, pair_in, IsKind}
+use Rattle.slots.specs.declared.Standing.{Standing}
+use Rattle.slots.specs.declared.Standing.TheVariants.{Void, Dff, Other}
 use Rattle.slots.specs.declared.Pair.{Pair}
 use Rattle.slots.specs.declared.Pair.TheVariants.{Equal, OfVoid, OfDffs, Ordinary}
 use Rattle.slots.proofs.Roles.{void_stands, dff_stands}
@@ -92,15 +94,47 @@ is-kind {table} {from} {to} kind same = record {
 pub kind-equal : (table : List ℕ) (from to : ℕ) → from ≡ to → IsKind table from to Equal
 kind-equal table from to same = is-kind Equal (rw (eq-eqb from to same))
 
-module _ (table : List ℕ) (from to : ℕ) (apart : from ≡ to → ⊥) {a b : ℕ}
-    (from_is : a ≡ standing_at table (driver_of from))
-    (to_is : b ≡ standing_at table (driver_of to)) where
-  pub kind-void : a ≡ 0 → IsKind table from to OfVoid
-  kind-void void = is-kind OfVoid (rw (ne_eqb from to apart, ← from_is, eq-eqb a 0 void))
+-- ---- What a number says of what stands at a slot.
+pub other-by : (n : ℕ) → (n ≡ 0 → ⊥) → (n ≡ 1 → ⊥) → Other ≡ standing_by n
+other-by zero void dff = absurd (void refl)
+other-by (suc zero) void dff = absurd (dff refl)
+other-by (suc (suc n)) void dff = refl
 
-  pub kind_dffs : (a ≡ 0 → ⊥) → eqb a 1 && eqb b 1 ≡ true → IsKind table from to OfDffs
-  kind_dffs no-void both = is-kind OfDffs (rw (ne_eqb from to apart, ← from_is, ← to_is, ne_eqb a 0 no-void, both))
+void-by : (n : ℕ) → Void ≡ standing_by n → n ≡ 0
+void-by zero e = refl
+void-by (suc zero) e = let z : ◌≡◌ {A = ℕ} 0 1 = cc in absurd (omega arith)
+void-by (suc (suc n)) e = let z : ◌≡◌ {A = ℕ} 0 1 = cc in absurd (omega arith)
 
-  pub kind-ordinary : (a ≡ 0 → ⊥) → eqb a 1 && eqb b 1 ≡ false → IsKind table from to Ordinary
+dff-by : (n : ℕ) → Dff ≡ standing_by n → n ≡ 1
+dff-by zero e = let z : ◌≡◌ {A = ℕ} 0 1 = cc in absurd (omega arith)
+dff-by (suc zero) e = refl
+dff-by (suc (suc n)) e = let z : ◌≡◌ {A = ℕ} 0 1 = cc in absurd (omega arith)
+
+not-both : (x y : ℕ) → (x ≡ 1 → y ≡ 1 → ⊥) → eqb x 1 && eqb y 1 ≡ false
+not-both x y apart = go (eqb x 1) (eqb y 1) refl refl
+  where
+    go : (p q : Bool) → eqb x 1 ≡ p → eqb y 1 ≡ q → eqb x 1 && eqb y 1 ≡ false
+    go false q a b = rw a
+    go true false a b = rw (a, b)
+    go true true a b = absurd (apart (eqb-true x 1 a) (eqb-true y 1 b))
+
+module _ (table : List ℕ) (from to : ℕ) (apart : from ≡ to → ⊥) {a b : Standing}
+    (from_is : a ≡ standing_by (standing_at table (driver_of from)))
+    (to_is : b ≡ standing_by (standing_at table (driver_of to))) where
+  pub kind-void : a ≡ Void → IsKind table from to OfVoid
+  kind-void void =
+      let none = void-by _ (sym void ∙ from_is) in
+      is-kind OfVoid (rw (ne_eqb from to apart, none))
+
+  pub kind_dffs : a ≡ Dff → b ≡ Dff → IsKind table from to OfDffs
+  kind_dffs one other =
+      let first = dff-by _ (sym one ∙ from_is) in
+      let second = dff-by _ (sym other ∙ to_is) in
+      is-kind OfDffs (rw (ne_eqb from to apart, first, second))
+
+  pub kind-ordinary : (a ≡ Void → ⊥) → (a ≡ Dff → b ≡ Dff → ⊥) → IsKind table from to Ordinary
   kind-ordinary no-void one =
-      is-kind Ordinary (rw (ne_eqb from to apart, ← from_is, ← to_is, ne_eqb a 0 no-void, one))
+      let void = ne_eqb (standing_at table (driver_of from)) 0 (λ e. no-void (from_is ∙ ap standing_by e)) in
+      let dffs = not-both (standing_at table (driver_of from)) (standing_at table (driver_of to))
+      (λ e f. one (from_is ∙ ap standing_by e) (to_is ∙ ap standing_by f)) in
+      is-kind Ordinary (rw (ne_eqb from to apart, void, dffs))

@@ -1,5 +1,5 @@
 -- Document 01, "Modules", order of work. What a net replacement is, by the words of the slot table.
-use Rattle.std.specs.Prelude.{◌≡◌, cond, ◌&&◌, List, ℕ, ◌<◌, ◌^◌, eqb}
+use Rattle.std.specs.Prelude.{◌≡◌, cond, ◌&&◌, List, ℕ, zero, suc, ◌<◌, ◌^◌, eqb}
 use Rattle.logic.specs.Net.{net_of, driver_of}
 use Rattle.logic.specs.declared.Driver.{Driver}
 use Rattle.logic.specs.declared.Driver.TheVariants.{Constant, Output, NoNet}
@@ -8,6 +8,8 @@ use Rattle.right.specs.Nets.{Within}
 use Rattle.working_out.specs.Reading.{equal, of_void, of_dffs, ordinary, pair_of}
 use Rattle.working_out.specs.Reading as m
 use Rattle.slots.specs.Tells.{standing_in, Tells}
+use Rattle.slots.specs.declared.Standing.{Standing}
+use Rattle.slots.specs.declared.Standing.TheVariants.{Void, Dff, Other}
 use Rattle.slots.specs.declared.Pair.{Pair}
 use Rattle.slots.specs.declared.Pair.TheVariants.{Equal, OfVoid, OfDffs, Ordinary}
 
@@ -23,6 +25,12 @@ abbrev pub standing_at : List ℕ → Driver → ℕ
 standing_at table (Constant t) = 2
 standing_at table (Output i) = standing_in table i.0
 standing_at table NoNet = 2
+
+-- The same number under the code's names.
+abbrev pub standing_by : ℕ → Standing
+standing_by zero = Void
+standing_by (suc zero) = Dff
+standing_by (suc (suc n)) = Other
 
 -- Document 01, "Reading nets": a replacement of equal nets counts as none; a Void's; a Dff's by a Dff's; any other.
 abbrev pub pair_in : List ℕ → ℕ → ℕ → m.Pair

@@ -4,7 +4,7 @@
 ghost use Rattle.std.specs.Prelude.{◌≡◌};
 ghost use Rattle.logic.specs.Net.{driver_of};
 ghost use Rattle.slots.specs.Tells.{width_in};
-ghost use Rattle.slots.specs.Pairs.{standing_at, IsKind};
+ghost use Rattle.slots.specs.Pairs.{standing_at, standing_by, IsKind};
 
 use logic::{Driver, Net, Slot};
 
@@ -17,6 +17,14 @@ pub enum Pair {
     Ordinary,
 }
 
+// What stands at a slot: a Void, a Dff, any other cell, or no cell.
+#[derive(Clone, Copy)]
+enum Standing {
+    Void,
+    Dff,
+    Other,
+}
+
 // The output width of the cell that a slot belongs to, by the slot's word.
 pub fn width_at(table: &[u32], slot: Slot) -> u32
     ensures { result ≡ width_in table.now slot.0 }
@@ -24,14 +32,17 @@ pub fn width_at(table: &[u32], slot: Slot) -> u32
     logic::word_at(table, slot.0 as usize) / 8 % 128
 }
 
-// What stands at the slot of a net, as `get_cell` asks: 0 a Void, 1 a Dff, 2 any other cell, or no cell.
-fn standing_at(table: &[u32], net: Net) -> u32
-    ensures { result ≡ standing_at table.now (driver_of net.0) }
+// What stands at the slot of a net, as `get_cell` asks.
+fn standing_at(table: &[u32], net: Net) -> Standing
+    ensures { result ≡ standing_by (standing_at table.now (driver_of net.0)) }
 {
     match logic::driver_of(net) {
-        Driver::Constant(_) => 2,
-        Driver::Output(slot) => logic::word_at(table, slot.0 as usize) % 4,
-        Driver::NoNet => 2,
+        Driver::Output(slot) => match logic::word_at(table, slot.0 as usize) % 4 {
+            0 => Standing::Void,
+            1 => Standing::Dff,
+            _ => Standing::Other,
+        },
+        _ => Standing::Other,
     }
 }
 
@@ -44,11 +55,9 @@ pub fn pair_of(table: &[u32], from_net: Net, to_net: Net) -> Pair
     }
     let from = standing_at(table, from_net);
     let to = standing_at(table, to_net);
-    if from == 0 {
-        return Pair::OfVoid;
+    match (from, to) {
+        (Standing::Void, _) => Pair::OfVoid,
+        (Standing::Dff, Standing::Dff) => Pair::OfDffs,
+        _ => Pair::Ordinary,
     }
-    if from == 1 && to == 1 {
-        return Pair::OfDffs;
-    }
-    Pair::Ordinary
 }

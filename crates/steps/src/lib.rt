@@ -42,21 +42,7 @@ fn claim(
 fn is_input(op: Operation) -> bool
     ensures { result ≡ is_input_of op }
 {
-    match op {
-        Operation::Void => false,
-        Operation::Note => false,
-        Operation::IoBuf => false,
-        Operation::Input => true,
-        Operation::Unary(_) => false,
-        Operation::Binary(_) => false,
-        Operation::Mux => false,
-        Operation::Adc => false,
-        Operation::Aig => false,
-        Operation::Shift(_) => false,
-        Operation::Match => false,
-        Operation::Assign => false,
-        Operation::Dff => false,
-    }
+    matches!(op, Operation::Input)
 }
 
 // A cell added: its claim is asserted; an Input's nets are declared, so that they are in the example even if unused.
@@ -120,7 +106,7 @@ pub fn query(calls: &mut [u32], c: Counts, eqs: &[u32]) -> Built
 pub fn check(calls: &mut [u32], c: Counts, eqs: &[u32]) -> Counts
     ensures { Asks eqs.now calls.old c calls.new result }
 {
-    if eqs.len() == 0 {
+    if eqs.is_empty() {
         return c;
     }
     let not_and_eqs = query(calls, c, eqs);

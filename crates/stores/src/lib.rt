@@ -8,10 +8,8 @@ ghost use Rattle.std.proofs.lemmas.List.Edits.{sets};
 pub fn fill(words: &mut [u32], start: usize, end: usize, word: u32)
     ensures { words.new ≡ sets words.old start (replicate (end - start) word) }
 {
-    let mut at = start;
-    while at < end {
+    for at in start..end {
         logic::put(words, at, word);
-        at += 1;
     }
 }
 
@@ -19,19 +17,14 @@ pub fn fill(words: &mut [u32], start: usize, end: usize, word: u32)
 pub fn clear_words(words: &mut [u32])
     ensures { words.new ≡ replicate (length words.old) 0 }
 {
-    let end = words.len();
-    fill(words, 0, end, 0);
+    words.fill(0);
 }
 
 // 0 in every byte.
 pub fn clear(bytes: &mut [u8])
     ensures { bytes.new ≡ replicate (length bytes.old) 0 }
 {
-    let mut at: usize = 0;
-    while at < bytes.len() {
-        bytes[at] = 0;
-        at += 1;
-    }
+    bytes.fill(0);
 }
 
 // The first n words of a slice, copied to another.
@@ -39,9 +32,7 @@ pub fn copy(out: &mut [u32], words: &[u32], n: usize)
     ensures { n ≤ length words.now
         → out.new ≡ sets out.old 0 (take n words.now) }
 {
-    let mut i: usize = 0;
-    while i < n {
+    for i in 0..n {
         logic::put(out, i, logic::word_at(words, i));
-        i += 1;
     }
 }

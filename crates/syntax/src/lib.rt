@@ -44,28 +44,23 @@ fn put_compare(text: &mut [u8], at: usize, op: Compare) -> usize
 }
 
 // Writes the name of an operation; one that is not applied by name has none.
+#[tactic(auto, using(engine::proofs::EmitLaws::wrote_none))]
 pub fn put_operation(text: &mut [u8], at: usize, operation: Operation) -> usize
     ensures { Wrote text.old at (operation_text (op_from operation)) text.new result }
 {
     match operation {
         Operation::Term(term) => match term {
-            TermOp::BoolLit => at,
-            TermOp::BoolIte => text::put_bytes(text, at, b"ite"),
+            TermOp::BoolLit | TermOp::Lit | TermOp::Extract => at,
+            TermOp::BoolIte | TermOp::Ite => text::put_bytes(text, at, b"ite"),
             TermOp::Not => text::put_bytes(text, at, b"not"),
             TermOp::And => text::put_bytes(text, at, b"and"),
-            TermOp::Lit => at,
             TermOp::Equal => text::put_bytes(text, at, b"="),
-            TermOp::Ite => text::put_bytes(text, at, b"ite"),
             TermOp::Concat => text::put_bytes(text, at, b"concat"),
-            TermOp::Extract => at,
             TermOp::BvNot => text::put_bytes(text, at, b"bvnot"),
             TermOp::Binary(op) => put_binary(text, at, op),
             TermOp::Compare(op) => put_compare(text, at, op),
         },
-        Operation::Declare => at,
-        Operation::Assert => at,
-        Operation::Check => at,
-        Operation::Unknown => at,
+        _ => at,
     }
 }
 

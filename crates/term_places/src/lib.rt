@@ -14,16 +14,13 @@ pub fn near_place(calls: &[u32], places: &[u32], gap: u32, k: u32) -> usize
 {
     let step = gap as usize + 1;
     let slot = k as usize / step;
-    if calls.len() <= 4294967296 {
-        if slot < places.len() {
-            let from = logic::word_at(places, slot) as usize;
-            let left = (k as usize % step) as u32;
-            if left == 0 {
-                return from;
-            }
-            return call_list::place_from(calls, from, left);
+    if calls.len() <= 4294967296 && slot < places.len() {
+        let from = logic::word_at(places, slot) as usize;
+        let left = (k as usize % step) as u32;
+        if left == 0 {
+            return from;
         }
-        return call_list::place_of_term(calls, Term(k));
+        return call_list::place_from(calls, from, left);
     }
     call_list::place_of_term(calls, Term(k))
 }

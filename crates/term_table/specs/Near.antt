@@ -7,6 +7,7 @@ use Rattle.engine.specs.Structure.{origin_of, choose, guarded, sort_from}
 use Rattle.engine.specs.declared.Origin.{Origin}
 use Rattle.engine.specs.declared.Origin.TheVariants.{Given}
 use Rattle.term_places.specs.Places.{place_near}
+use Rattle.term_table.specs.declared.Tables.{Tables}
 
 -- Term k is one of the latest, of `terms` terms so far.
 abbrev pub is_recent : List ℕ → ℕ → ℕ → Bool
@@ -27,6 +28,13 @@ sort_via (suc n) known k = sort_from (sort_via n known) (known k)
 
 abbrev pub sort_near : List ℕ → List ℕ → List ℕ → ℕ → List ℕ → ℕ → ℕ → Sort
 sort_near sorts recent places gap w terms k = sort_via (suc k) (origin_near sorts recent places gap w terms) k
+
+-- The same, from a list's tables.
+abbrev pub origin_in : Tables → ℕ → ℕ → Origin
+origin_in t terms k = origin_near t.sorts.now t.recent.now t.places.now t.gap t.calls.now terms k
+
+abbrev pub sort_in : Tables → ℕ → ℕ → Sort
+sort_in t terms k = sort_near t.sorts.now t.recent.now t.places.now t.gap t.calls.now terms k
 
 -- The sort of the term that the record at a place makes, by the sorts of terms.
 abbrev pub record_by : (ℕ → Sort) → List ℕ → ℕ → Sort

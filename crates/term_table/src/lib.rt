@@ -4,9 +4,20 @@
 
 ghost use Rattle.std.specs.Prelude.{◌≡◌, cond, ◌+◌, ◌%◌, ◌<◌, length, get_or, set, leb};
 ghost use Rattle.engine.specs.Structure.{capped, guarded};
-ghost use Rattle.term_table.specs.Near.{is_recent, origin_near, sort_near, record_by, note_sort, note_recent};
+ghost use Rattle.term_table.specs.Near.{is_recent, sort_near, record_by, note_sort, note_recent, origin_in, sort_in};
 
 use engine::Origin;
+
+// A call list with its tables: the sorts of the first terms, a ring of those of the latest, and the places of every
+// `gap + 1`th term.
+#[derive(Clone, Copy)]
+pub struct Tables<'a> {
+    pub calls: &'a [u32],
+    pub sorts: &'a [u8],
+    pub recent: &'a [u8],
+    pub places: &'a [u32],
+    pub gap: u32,
+}
 
 // The number at a place of a table, 0 past its end.
 fn entry(table: &[u8], at: usize) -> u32
@@ -23,13 +34,11 @@ fn entry(table: &[u8], at: usize) -> u32
 fn capped_sum(a: u32, b: u32) -> u32
     ensures { result ≡ capped (a + b) }
 {
-    if 65 <= a {
-        return 65;
+    if 65 <= a || 65 <= b || 65 <= a + b {
+        65
+    } else {
+        a + b
     }
-    if 65 <= b {
-        return 65;
-    }
-    if 65 <= a + b { 65 } else { a + b }
 }
 
 // An origin that goes by terms earlier than k.
@@ -38,21 +47,9 @@ fn earlier_origin(k: u32, origin: Origin) -> Origin
 {
     match origin {
         Origin::Given(s) => Origin::Given(s),
-        Origin::Same(a) => {
-            if a.0 < k {
-                return Origin::Same(a);
-            }
-            Origin::Given(65)
-        }
-        Origin::Joined(a, b) => {
-            if a.0 < k {
-                if b.0 < k {
-                    return Origin::Joined(a, b);
-                }
-                return Origin::Given(65);
-            }
-            Origin::Given(65)
-        }
+        Origin::Same(a) if a.0 < k => Origin::Same(a),
+        Origin::Joined(a, b) if a.0 < k && b.0 < k => Origin::Joined(a, b),
+        _ => Origin::Given(65),
     }
 }
 
@@ -60,11 +57,7 @@ fn earlier_origin(k: u32, origin: Origin) -> Origin
 fn is_recent(recent: &[u8], terms: usize, k: u32) -> bool
     ensures { result ≡ is_recent recent.now terms k }
 {
-    if (k as usize) < terms {
-        terms - k as usize <= recent.len()
-    } else {
-        false
-    }
+    (k as usize) < terms && terms - k as usize <= recent.len()
 }
 
 // What the ring has of a term.
@@ -79,50 +72,28 @@ fn ring_entry(recent: &[u8], k: usize) -> u32
 
 // What is known of the sort of a term: from the table of the first terms or the ring of the latest its sort, else what
 // its record says.
-fn term_origin(
-    calls: &[u32],
-    sorts: &[u8],
-    recent: &[u8],
-    places: &[u32],
-    gap: u32,
-    terms: usize,
-    k: u32,
-) -> Origin
-    ensures { result
-        ≡ origin_near sorts.now recent.now places.now
-        gap calls.now terms k }
+fn term_origin(tables: &Tables, terms: usize, k: u32) -> Origin
+    ensures { result ≡ origin_in tables.now terms k }
 {
-    if (k as usize) < sorts.len() {
-        return Origin::Given(entry(sorts, k as usize));
+    if (k as usize) < tables.sorts.len() {
+        return Origin::Given(entry(tables.sorts, k as usize));
     }
-    if is_recent(recent, terms, k) {
-        return Origin::Given(ring_entry(recent, k as usize));
+    if is_recent(tables.recent, terms, k) {
+        return Origin::Given(ring_entry(tables.recent, k as usize));
     }
-    earlier_origin(
-        k,
-        origins::origin_at(calls, term_places::near_place(calls, places, gap, k)),
-    )
+    let place = term_places::near_place(tables.calls, tables.places, tables.gap, k);
+    earlier_origin(k, origins::origin_at(tables.calls, place))
 }
 
 // The sort of a term, through the terms that it goes by. Of a join the second is looked up and the first gone on with,
 // so that no calls nest deeper than joins do: in a well-formed list 63 times.
-fn sort_through(
-    calls: &[u32],
-    sorts: &[u8],
-    recent: &[u8],
-    places: &[u32],
-    gap: u32,
-    terms: usize,
-    term: u32,
-) -> u32
-    ensures { result
-        ≡ sort_near sorts.now recent.now places.now
-        gap calls.now terms term }
+fn sort_through(tables: &Tables, terms: usize, term: u32) -> u32
+    ensures { result ≡ sort_in tables.now terms term }
 {
     let mut k = term;
     let mut total = 0;
     loop {
-        match term_origin(calls, sorts, recent, places, gap, terms, k) {
+        match term_origin(tables, terms, k) {
             Origin::Given(s) => {
                 return capped_sum(total, s);
             }
@@ -130,10 +101,7 @@ fn sort_through(
                 k = a.0;
             }
             Origin::Joined(a, b) => {
-                total = capped_sum(
-                    total,
-                    sort_through(calls, sorts, recent, places, gap, terms, b.0),
-                );
+                total = capped_sum(total, sort_through(tables, terms, b.0));
                 k = a.0;
             }
         }
@@ -141,47 +109,26 @@ fn sort_through(
 }
 
 // The sort of a term, of so many so far.
-pub fn term_sort(
-    calls: &[u32],
-    sorts: &[u8],
-    recent: &[u8],
-    places: &[u32],
-    gap: u32,
-    terms: usize,
-    term: u32,
-) -> u32
-    ensures { result
-        ≡ sort_near sorts.now recent.now places.now
-        gap calls.now terms term }
+pub fn term_sort(tables: &Tables, terms: usize, term: u32) -> u32
+    ensures { result ≡ sort_in tables.now terms term }
 {
     let k = term as usize;
-    if k < sorts.len() {
-        return capped_sum(0, sorts[k] as u32);
+    if k < tables.sorts.len() {
+        return capped_sum(0, tables.sorts[k] as u32);
     }
-    sort_through(calls, sorts, recent, places, gap, terms, term)
+    sort_through(tables, terms, term)
 }
 
 // The sort of the term that the record at a place makes, of so many so far.
-pub fn sort_at(
-    calls: &[u32],
-    sorts: &[u8],
-    recent: &[u8],
-    places: &[u32],
-    gap: u32,
-    terms: usize,
-    at: usize,
-) -> u32
-    ensures { result
-        ≡ record_by
-        (sort_near sorts.now recent.now places.now gap calls.now terms)
-        calls.now at }
+pub fn sort_at(tables: &Tables, terms: usize, at: usize) -> u32
+    ensures { result ≡ record_by (sort_in tables.now terms) tables.now.calls.now at }
 {
-    match origins::origin_at(calls, at) {
+    match origins::origin_at(tables.calls, at) {
         Origin::Given(s) => capped_sum(0, s),
-        Origin::Same(a) => term_sort(calls, sorts, recent, places, gap, terms, a.0),
+        Origin::Same(a) => term_sort(tables, terms, a.0),
         Origin::Joined(a, b) => capped_sum(
-            term_sort(calls, sorts, recent, places, gap, terms, a.0),
-            term_sort(calls, sorts, recent, places, gap, terms, b.0),
+            term_sort(tables, terms, a.0),
+            term_sort(tables, terms, b.0),
         ),
     }
 }
@@ -203,10 +150,7 @@ fn put_recent(sorts: &[u8], recent: &mut [u8], k: usize, value: u32)
         ≡ cond (leb (length sorts.now) k)
         (set recent.old (k % length recent.old) value) recent.old }
 {
-    if sorts.len() <= k {
-        if recent.len() == 0 {
-            return;
-        }
+    if sorts.len() <= k && recent.len() != 0 {
         let slot = k % recent.len();
         put_byte(recent, slot, value);
     }
@@ -228,11 +172,16 @@ pub fn note_recent(
         (sort_near sorts.now recent.old places.now gap calls.now terms)
         sorts.now recent.old calls.now at terms }
 {
-    if sorts.len() <= terms {
-        if call_list::makes_term(call_list::operation_at(calls, at)) {
-            let sort = sort_at(calls, sorts, recent, places, gap, terms, at);
-            put_recent(sorts, recent, terms, sort);
-        }
+    if sorts.len() <= terms && call_list::makes_term(call_list::operation_at(calls, at)) {
+        let tables = Tables {
+            calls,
+            sorts,
+            recent,
+            places,
+            gap,
+        };
+        let sort = sort_at(&tables, terms, at);
+        put_recent(sorts, recent, terms, sort);
     }
 }
 
@@ -256,7 +205,14 @@ pub fn note_sort(
         sorts.old recent.old calls.now at terms) }
 {
     if call_list::makes_term(call_list::operation_at(calls, at)) {
-        let sort = sort_at(calls, sorts, recent, places, gap, terms, at);
+        let tables = Tables {
+            calls,
+            sorts,
+            recent,
+            places,
+            gap,
+        };
+        let sort = sort_at(&tables, terms, at);
         put_byte(sorts, terms, sort);
         put_recent(sorts, recent, terms, sort);
     }

@@ -3,7 +3,6 @@ use mathlib.Core.Path.{◌≡◌, refl, ap}
 use mathlib.Core.Bool.{Bool, true, false}
 use mathlib.Core.List.{List, [], ◌∷◌, ◌++◌}
 use Prim.Native.Nat.{ℕ, zero, suc, ◌+◌, ◌/◌, ◌%◌, ◌<◌, ◌≤◌, ◌^◌}
-use Prim.Native.String.{[] as []ˢ}
 use native.Mathlib.Omega.{arith}
 use native.Mathlib.Nat.{pow-suc}
 use lib.Dec.{ltb}
@@ -76,3 +75,6 @@ decimal-length (suc k) n low = go (ltb n 10) refl (λ below. decimal-length k (n
         let power = pow-suc 10 (suc k) in
         let shorter = ih (omega arith) in
         rw (decimal-more n (ltb-false _ _ e), length-append) (omega arith)
+
+-- How many digits a number has.
+pub ruleset lengths = (length-one, length_two, length_three, length_four, length_above, decimal-length)

@@ -55,3 +55,6 @@ module _ {text₀ text : List ℕ} {at n left end : ℕ} (here : Stored text₀ 
       ap (λ (l : List ℕ). set l at (48 + left)) (here.stored ∙ ap (λ (k : ℕ). overwrite text₀ k here.digits) next)
       ∙ overwrite-first text₀ at (48 + left) here.digits
       ∙ ap (overwrite text₀ at) (sym (here.whole ∙ ap (λ (l : List ℕ). l ++ here.digits) (decimal_digit left small)))
+
+-- What a turn of the loop goes by.
+pub ruleset turns = (stored-none, stored_more)

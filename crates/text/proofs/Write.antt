@@ -1,13 +1,17 @@
 -- What writing bytes into a lent text does, in terms of the writing of words: what falls past the text's end is
 -- dropped, and the next place is counted all the same, so that a text of no bytes tells how much room the whole needs.
 use mathlib.Core.Path.{◌≡◌, refl, sym, ap, ◌∙◌}
+use mathlib.Core.Bool.{Bool, true, false}
 use mathlib.Core.List.{List, [], ◌∷◌, ◌++◌}
-use Prim.Native.Nat.{ℕ, suc, ◌+◌, ◌-◌, ◌<◌, ◌≤◌, ◌^◌}
+use Prim.Native.Nat.{ℕ, suc, min, ◌+◌, ◌-◌, ◌<◌, ◌≤◌, ◌^◌}
 use native.Mathlib.Nat.{zero-add}
 use native.Mathlib.Numerals.{add-one}
 use native.Mathlib.Omega.{arith}
-use lib.ListN.{length, take, drop, get_or, set, take-append-drop}
-use lib.Seq.{sets-eq, set_comm, take-suc, take_at, length-take-le}
+use lib.Dec.{leb}
+use borrow.Author.Tests.{leb-true, leb-false}
+use lib.ListN.{length, take, drop, set, take-append-drop, drop_of_length-le}
+use Rattle.std.proofs.Common.{append_assoc}
+use lib.Seq.{sets-eq, set_comm, take_at, drop-drop, length-take-le}
 use Rattle.engine.specs.Emit.{Wrote, overwrite, counted}
 use Rattle.engine.proofs.EmitLaws.{length-overwrite, overwrite_out, overwrite_append}
 
@@ -26,26 +30,32 @@ pub overwrite-fits : (text bytes : List ℕ) → length bytes ≤ length text �
 unfolding overwrite
 overwrite-fits text bytes fits = sets-eq bytes text 0 (omega arith) ∙ rw zero-add
 
--- One byte more of a list of bytes.
-pub overwrite-next : (text : List ℕ) (at : ℕ) (bytes : List ℕ) (i : ℕ) → i < length bytes
-    → set (overwrite text at (take i bytes)) (at + i) (get_or bytes i 0) ≡ overwrite text at (take (i + 1) bytes)
-unfolding overwrite
-overwrite-next text at bytes i inside =
-    let long : length (take i bytes) ≡ i = length-take-le i bytes (omega arith) in
-    sym (rw (add-one i, take-suc bytes i 0 inside)
-    (overwrite_append text at (take i bytes) (get_or bytes i 0 ∷ []) ∙ rw long))
-
 -- Only the bytes for which there is room change the text.
-pub overwrite-room : (text : List ℕ) (at : ℕ) (bytes : List ℕ) → length text - at ≤ length bytes
-    → overwrite text at (take (length text - at) bytes) ≡ overwrite text at bytes
-overwrite-room text at bytes few =
-    let room = length text - at in
-    let long : length (take room bytes) ≡ room = length-take-le room bytes few in
-    let same = length-overwrite text at (take room bytes) in
-    sym (ap (overwrite text at) (sym (take-append-drop room bytes))
-    ∙ overwrite_append text at (take room bytes) (drop room bytes)
-    ∙ overwrite_out (overwrite text at (take room bytes)) (at + length (take room bytes)) (drop room bytes)
-    (omega arith))
+pub overwrite_part : (text : List ℕ) (at n : ℕ) (bytes : List ℕ) → at < length text
+    → n ≡ min (length bytes) (length text - at)
+    → take at text ++ (take n bytes ++ drop (at + n - at) (drop at text)) ≡ overwrite text at bytes
+unfolding overwrite
+overwrite_part text at n bytes inside is =
+    let long : length (take n bytes) ≡ n = length-take-le n bytes (omega arith) in
+    let part : at + n - at ≡ n = omega arith in
+    sym (ap (overwrite text at) (sym (take-append-drop n bytes))
+    ∙ overwrite_append text at (take n bytes) (drop n bytes)
+    ∙ past (leb (length text) (at + n)) refl
+    ∙ sets-eq (take n bytes) text at (omega arith)
+    ∙ rw (long, part, drop-drop n at text, append_assoc))
+  where
+    past : (b : Bool) → leb (length text) (at + n) ≡ b
+        → overwrite (overwrite text at (take n bytes)) (at + length (take n bytes)) (drop n bytes)
+        ≡ overwrite text at (take n bytes)
+    past true e =
+        let full = leb-true _ _ e in
+        let long : length (take n bytes) ≡ n = length-take-le n bytes (omega arith) in
+        let same : length (overwrite text at (take n bytes)) ≡ length text = length-overwrite text at (take n bytes) in
+        overwrite_out (overwrite text at (take n bytes)) (at + length (take n bytes)) (drop n bytes) (omega arith)
+    past false e =
+        let more = leb-false _ _ e in
+        let none : length bytes ≤ n = omega arith in
+        rw (drop_of_length-le bytes none) (overwrite-none (overwrite text at (take n bytes)) (at + length (take n bytes)))
 
 -- A byte before others.
 set_before : (bytes text : List ℕ) (at place b : ℕ) → at < place
@@ -83,3 +93,6 @@ module _ {text text1 : List ℕ} {next : ℕ} {bytes : List ℕ} (wrote : Wrote 
 
   pub start_bytes : take next text1 ≡ bytes
   start_bytes = rw (wrote.words, start-place, overwrite-fits text bytes fits) (take_at bytes _ _ refl)
+
+-- What writing does.
+pub ruleset writing = (wrote_byte, wrote-past, overwrite_part)

@@ -24,6 +24,7 @@ pub fn set_byte(text: &mut [u8], at: usize, byte: u8)
 }
 
 // Writes a byte at a place and gives the next one; past the text's end it only counts.
+#[tactic(auto, using(crate::proofs::Write::writing))]
 pub fn put_byte(text: &mut [u8], at: usize, byte: u8) -> usize
     ensures { Wrote text.old at (byte ∷ []) text.new result }
 {
@@ -31,35 +32,20 @@ pub fn put_byte(text: &mut [u8], at: usize, byte: u8) -> usize
     counting::counted_sum(at, 1)
 }
 
-// Stores the first n of some bytes from a place on.
-fn copy_bytes(text: &mut [u8], at: usize, bytes: &[u8], n: usize)
-    requires { (n ≤ length bytes.now) × (n ≤ length text.old - at) }
-    ensures { text.new ≡ overwrite text.old at (take n bytes.now) }
-{
-    let mut i = 0;
-    while i < n {
-        text[at + i] = bytes[i];
-        i += 1;
-    }
-}
-
-// Writes bytes from a place on and gives the next place.
+// Writes bytes from a place on and gives the next place; only those for which there is room are stored.
+#[tactic(auto, using(crate::proofs::Write::writing))]
 pub fn put_bytes(text: &mut [u8], at: usize, bytes: &[u8]) -> usize
     ensures { Wrote text.old at bytes.now text.new result }
 {
-    if text.len() <= at {
-        return counting::counted_sum(at, bytes.len());
+    if at < text.len() {
+        let stored = bytes.len().min(text.len() - at);
+        text[at..at + stored].copy_from_slice(&bytes[..stored]);
     }
-    let room = text.len() - at;
-    if room < bytes.len() {
-        copy_bytes(text, at, bytes, room);
-        return counting::counted_sum(at, bytes.len());
-    }
-    copy_bytes(text, at, bytes, bytes.len());
     counting::counted_sum(at, bytes.len())
 }
 
 // How many decimal digits a number has.
+#[tactic(auto, using(crate::proofs::BytesLaws::lengths))]
 fn digit_count(n: usize) -> usize
     ensures { result ≡ length (decimal n) }
 {
@@ -82,6 +68,7 @@ fn digit_count(n: usize) -> usize
 }
 
 // Stores the decimal digits of a number, of which there are so many, from a place on, the last one first.
+#[tactic(auto, using(crate::proofs::Digits::turns))]
 fn store_digits(text: &mut [u8], at: usize, n: usize, count: usize)
     requires { (count ≡ length (decimal n)) × (at + count < 2 ^ 64) }
     ensures { text.new ≡ overwrite text.old at (decimal n) }
@@ -97,13 +84,13 @@ fn store_digits(text: &mut [u8], at: usize, n: usize, count: usize)
 }
 
 // Writes a number in decimal from a place on and gives the next place.
+#[tactic(auto, using(crate::proofs::BytesLaws::lengths, crate::proofs::Write::writing))]
 pub fn put_number(text: &mut [u8], at: usize, n: usize) -> usize
     ensures { Wrote text.old at (decimal n) text.new result }
 {
     let count = digit_count(n);
     if at < text.len() {
         store_digits(text, at, n, count);
-        return counting::counted_sum(at, count);
     }
     counting::counted_sum(at, count)
 }

@@ -182,19 +182,6 @@ pub record Releasing (edges flags : List ℕ) (a e : ℕ) (waits tree : List ℕ
   pub counts : Counts flags (still_waiting edges (done_in flags) a k) waits tree
 
 module _ {edges flags link head : List ℕ} {a : ℕ} (h : Links edges link head (length edges)) where
-  -- At the last edge that reads the node nothing is taken off yet.
-  pub release_start : {waits tree : List ℕ} → a < 4096
-      → Counts flags (still_waiting edges (done_in flags) a (length edges)) waits tree
-      → Releasing edges flags a (get_or head a 0) waits tree
-  release_start low c = record { k = length edges; within = omega arith; last = h.heads.at a low; counts = c }
-
-  -- The edges are few, so that a place fits a word.
-  pub release_low : {e : ℕ} {waits tree : List ℕ} → Releasing edges flags a e waits tree → e ≤ 16384
-  release_low r =
-      let within = r.within in
-      let few = h.few in
-      omega (arith, r.last, last_le edges a r.k)
-
   module _ {e : ℕ} {waits tree : List ℕ} (r : Releasing edges flags a e waits tree) (more : 0 < e) where
     -- The edge at hand reads the node, and its link leads to the one before it that does.
     at_edge : last_of edges a r.k ≡ suc (e - 1)

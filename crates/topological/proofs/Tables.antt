@@ -6,7 +6,7 @@ use mathlib.Core.List.{List}
 use Prim.Native.Nat.{ℕ, zero, suc, ◌≤◌, ◌<◌}
 use native.Mathlib.Omega.{arith}
 use native.Mathlib.Decide.{ℕ_discrete, dec_lt}
-use lib.ListN.{get_or, length, set, length-set, replicate, length-replicate, get_or-eq_default}
+use lib.ListN.{get_or, set, length-set, replicate, length-replicate, get_or-eq_default}
 use lib.Seq.{get_or-set_same, get_or-set_other}
 use Rattle.lowest_set.specs.Tree.{Holds}
 use Rattle.topological.specs.State.{Words}

@@ -13,6 +13,8 @@ use Rattle.working_out.specs.Order.{option, lowest}
 use Rattle.working_out.specs.Graph.{mark, undone, is_ready, lowest_ready, order}
 use Rattle.working_out.proofs.GraphLaws.{ready-is, undone-mark}
 use Rattle.loops.specs.Edges.{has_edge, done_in, clear_all, order_in}
+use Rattle.std.specs.Prelude.{Some, None}
+use Rattle.std.specs.Prelude as std
 use Rattle.lowest_set.specs.Tree.{Holds, lowest_of}
 use Rattle.topological.specs.Waiting.{waiting}
 use Rattle.topological.specs.State.{Counts, ready_by}
@@ -80,82 +82,70 @@ module _ (edges flags : List ℕ) (few : length flags ≤ 4096) where
       go a past true e = rw e
       go a past false e = absurd (omega (arith, undone-low flags a e))
 
-  -- A turn: the lowest ready node is not done, and the order is that node and the order without it.
+  -- A turn: the lowest ready node is a number, and not done, and the order is that node and the order without it.
   pub record Turn (a : ℕ) : Type 0 where
+    pub low : a < 4096
     pub undone : done_in flags a ≡ false
     pub rest : order_in edges flags ≡ a ∷ order_in edges (set flags a 0)
 
   -- The lowest of the set, where it has one, is the node of the turn.
-  turn_is : (a : ℕ) → a ≡ lowest_of (ready_by (done_in flags) (waiting edges (done_in flags) (length edges)))
-      → a < 4096 → Turn a
-  turn_is a e low = go (lowest_ready (length flags) (has_edge edges) (done_in flags)) refl (rw lowest-is-ready at e)
+  turn_is : (a : ℕ) → Some a ≡ lowest_of (ready_by (done_in flags) (waiting edges (done_in flags) (length edges)))
+      → Turn a
+  turn_is a e = go (lowest_ready (length flags) (has_edge edges) (done_in flags)) refl (rw lowest-is-ready at e)
     where
       go : (o : Option ℕ) → lowest_ready (length flags) (has_edge edges) (done_in flags) ≡ o
-          → a ≡ option o 4096 (λ i. i) → Turn a
-      go none f g = absurd (omega arith)
-      go (some b) f g = record {
-        undone = (ready-is (length flags) (has_edge edges) (done_in flags) a (rw g f)).not_done;
-        rest =
-            rw (length-set flags a 0, flag_cleared flags a)
-            (order-some (length flags) (has_edge edges) (done_in flags) a (rw g f));
-      }
+          → Some a ≡ option o None Some → Turn a
+      go none f g = cc
+      go (some b) f g =
+          let same : a ≡ b = cc in
+          let ready = ready-is (length flags) (has_edge edges) (done_in flags) a (rw same f) in
+          record {
+            low = omega (arith, ready.low);
+            undone = ready.not_done;
+            rest =
+                rw (length-set flags a 0, flag_cleared flags a)
+                (order-some (length flags) (has_edge edges) (done_in flags) a (rw same f));
+          }
 
   -- No node is ready: nothing of the order is left.
-  order-end : (a : ℕ) → a ≡ lowest_of (ready_by (done_in flags) (waiting edges (done_in flags) (length edges)))
-      → 4096 ≤ a → order_in edges flags ≡ []
-  order-end a e high = go (lowest_ready (length flags) (has_edge edges) (done_in flags)) refl (rw lowest-is-ready at e)
+  order-end : None ≡ lowest_of (ready_by (done_in flags) (waiting edges (done_in flags) (length edges)))
+      → order_in edges flags ≡ []
+  order-end e = go (lowest_ready (length flags) (has_edge edges) (done_in flags)) refl (rw lowest-is-ready at e)
     where
       go : (o : Option ℕ) → lowest_ready (length flags) (has_edge edges) (done_in flags) ≡ o
-          → a ≡ option o 4096 (λ i. i) → order_in edges flags ≡ []
+          → None ≡ option o None Some → order_in edges flags ≡ []
       go none f g = order-none (length flags) (has_edge edges) (undone (length flags) (done_in flags)) (done_in flags) f
-      go (some b) f g =
-          let low = (ready-is (length flags) (has_edge edges) (done_in flags) b f).low in
-          absurd (omega arith)
+      go (some b) f g = cc
 
--- Between two turns: what is written, cleared and counted from here on comes to the whole, and a is the lowest ready
--- node, 4,096 where there is none.
-pub record Turning (edges flags₀ slots₀ flags waits tree slots : List ℕ) (k a : ℕ) : Type 0 where
+-- Between two turns: what is written, cleared and counted from here on comes to the whole.
+pub record Turning (edges flags₀ slots₀ flags waits tree slots : List ℕ) (k : ℕ) : Type 0 where
   pub few : length flags ≤ 4096
   pub order : sets slots₀ 0 (order_in edges flags₀) ≡ sets slots k (order_in edges flags)
   pub left : clear_all flags₀ (order_in edges flags₀) ≡ clear_all flags (order_in edges flags)
   pub many : length (order_in edges flags₀) ≡ k + length (order_in edges flags)
   pub counts : Counts flags (waiting edges (done_in flags) (length edges)) waits tree
-  pub lowest : a ≡ lowest_of (ready_by (done_in flags) (waiting edges (done_in flags) (length edges)))
 
--- A number is the lowest of the set that a tree holds.
-abbrev pub Finds : List ℕ → ℕ → Type 0
-Finds tree a = (members : ℕ → Bool) → Holds tree members → a ≡ lowest_of members
+-- A number is the lowest of the set that a tree holds, or there is none.
+abbrev pub Finds : List ℕ → std.Option ℕ → Type 0
+Finds tree found = (members : ℕ → Bool) → Holds tree members → found ≡ lowest_of members
 
--- Before the first turn.
-pub turns_start : {edges flags waits tree slots : List ℕ} {a : ℕ} → length flags ≤ 4096
-    → Counts flags (waiting edges (done_in flags) (length edges)) waits tree → Finds tree a
-    → Turning edges flags slots flags waits tree slots 0 a
-turns_start few counts finds = record {
-  few = few;
-  order = refl;
-  left = refl;
-  many = omega arith;
-  counts = counts;
-  lowest = finds _ counts.ready;
-}
-
-module _ {edges flags₀ slots₀ flags waits tree slots : List ℕ} {k a : ℕ}
-    (t : Turning edges flags₀ slots₀ flags waits tree slots k a) where
+module _ {edges flags₀ slots₀ flags waits tree slots : List ℕ} {k : ℕ}
+    (t : Turning edges flags₀ slots₀ flags waits tree slots k) where
   -- No node is ready: all is written and cleared.
-  pub turns_end : 4096 ≤ a → Sorted edges flags₀ slots₀ flags slots k
+  pub turns_end : Finds tree None → Sorted edges flags₀ slots₀ flags slots k
   unfolding clear_all
-  turns_end high =
-      let none = order-end edges flags t.few a t.lowest high in
+  turns_end finds =
+      let none = order-end edges flags t.few (finds _ t.counts.ready) in
       record {
         order = sym (t.order ∙ rw none);
         left = sym (t.left ∙ rw none);
         many = sym (t.many ∙ rw none (omega arith));
       }
 
-  module _ (low : a < 4096) where
+  module _ {a : ℕ} (finds : Finds tree (Some a)) where
     -- The turn that comes.
     pub turn : Turn edges flags t.few a
-    turn = turn_is edges flags t.few a t.lowest low
+    turn = turn_is edges flags t.few a (finds _ t.counts.ready)
 
     -- With a turn to come there is room to count it.
     pub turn_room : k < length flags₀
@@ -167,15 +157,14 @@ module _ {edges flags₀ slots₀ flags waits tree slots : List ℕ} {k a : ℕ}
       turn_less = rw cleared (omega (arith, ap length turn.rest))
 
       -- The turn of node a.
-      pub turn_next : {waits' tree' slots' : List ℕ} {b : ℕ} → slots' ≡ set slots k a
-          → Counts flags' (waiting edges (done_in flags') (length edges)) waits' tree' → Finds tree' b
-          → Turning edges flags₀ slots₀ flags' waits' tree' slots' (k + 1) b
+      pub turn_next : {waits' tree' slots' : List ℕ} → slots' ≡ set slots k a
+          → Counts flags' (waiting edges (done_in flags') (length edges)) waits' tree'
+          → Turning edges flags₀ slots₀ flags' waits' tree' slots' (k + 1)
       unfolding clear_all
-      turn_next written counts finds = record {
+      turn_next written counts = record {
         few = let size = t.few in omega (arith, ap length cleared, length-set flags a 0);
         order = t.order ∙ rw (turn.rest, cleared, written, add-one k);
         left = t.left ∙ rw (turn.rest, cleared);
         many = t.many ∙ rw (turn.rest, cleared) (omega arith);
         counts = counts;
-        lowest = finds _ counts.ready;
       }

@@ -23,41 +23,25 @@ fn read_of(edge: u32) -> usize
     (edge % 4096) as usize
 }
 
-// Links an edge with the last before it that reads the same node.
-fn link_edge(edges: &[u32], link: &mut [u32], head: &mut [u32], e: usize)
-    requires { (e < length edges.now) × Links edges.now link.old head.old e }
-    ensures { Links edges.now link.new head.new (e + 1) }
-{
-    let read = read_of(edges[e]);
-    let last = logic::word_at(head, read);
-    logic::put(link, e, last);
-    logic::put(head, read, e as u32 + 1);
+// The reads, each with the last before it that reads the same node, and for each node the last that reads it.
+#[derive(Clone, Copy)]
+struct Linked<'a> {
+    edges: &'a [u32],
+    link: &'a [u32],
+    head: &'a [u32],
+    ghost linked: { Links edges.now link.now head.now (length edges.now) },
 }
 
-// Links all edges by the nodes read.
+// Links all edges by the nodes read, each with the last before it that reads the same node.
 fn link_edges(edges: &[u32], link: &mut [u32], head: &mut [u32])
     requires { Links edges.now link.old head.old 0 }
     ensures { Links edges.now link.new head.new (length edges.now) }
 {
-    let mut e: usize = 0;
-    while e < edges.len() {
-        link_edge(edges, link, head, e);
-        e += 1;
-    }
-}
-
-// Counts an edge for its reader, where the node read is not done.
-fn count_edge(edges: &[u32], flags: &[u32], waits: &mut [u32], e: usize)
-    requires { (length edges.now ≤ 16384) × (e < length edges.now)
-        × Words waits.old (waiting edges.now (done_in flags.now) e) }
-    ensures { Words waits.new
-        (waiting edges.now (done_in flags.now) (e + 1)) }
-{
-    let edge = edges[e];
-    if logic::word_at(flags, read_of(edge)) != 0 {
-        let reader = reader_of(edge);
-        let many = logic::word_at(waits, reader);
-        logic::put(waits, reader, many + 1);
+    for (e, edge) in edges.iter().enumerate() {
+        let read = read_of(*edge);
+        let last = logic::word_at(head, read);
+        logic::put(link, e, last);
+        logic::put(head, read, e as u32 + 1);
     }
 }
 
@@ -67,10 +51,12 @@ fn count_waits(edges: &[u32], flags: &[u32], waits: &mut [u32])
     ensures { Words waits.new (waiting edges.now (done_in flags.now)
         (length edges.now)) }
 {
-    let mut e: usize = 0;
-    while e < edges.len() {
-        count_edge(edges, flags, waits, e);
-        e += 1;
+    for edge in edges {
+        if logic::word_at(flags, read_of(*edge)) != 0 {
+            let reader = reader_of(*edge);
+            let many = logic::word_at(waits, reader);
+            logic::put(waits, reader, many + 1);
+        }
     }
 }
 
@@ -80,10 +66,8 @@ fn insert_ready(flags: &[u32], waits: &[u32], tree: &mut [u32], a: u32)
         → Holds tree.new (joined members
         (ready_by (done_in flags.now) (λ i. get_or waits.now i 0) a) a) }
 {
-    if logic::word_at(flags, a as usize) != 0 {
-        if logic::word_at(waits, a as usize) == 0 {
-            lowest_set::insert(tree, a);
-        }
+    if logic::word_at(flags, a as usize) != 0 && logic::word_at(waits, a as usize) == 0 {
+        lowest_set::insert(tree, a);
     }
 }
 
@@ -93,10 +77,8 @@ fn start_ready(flags: &[u32], waits: &[u32], tree: &mut [u32])
     ensures { Holds tree.new
         (ready_by (done_in flags.now) (λ i. get_or waits.now i 0)) }
 {
-    let mut a: usize = 0;
-    while a < flags.len() {
+    for a in 0..flags.len() {
         insert_ready(flags, waits, tree, a as u32);
-        a += 1;
     }
 }
 
@@ -112,76 +94,61 @@ fn settle(flags: &[u32], waits: &mut [u32], tree: &mut [u32], a: u32)
     }
 }
 
-// Takes off all reads of node a, which is done.
-fn release(
-    edges: &[u32],
-    flags: &[u32],
-    link: &[u32],
-    head: &[u32],
-    waits: &mut [u32],
-    tree: &mut [u32],
-    a: u32,
-)
-    requires { (a < 4096) × Links edges.now link.now head.now (length edges.now)
-        × Counts flags.now (still_waiting edges.now (done_in flags.now) a (length edges.now))
-        waits.old tree.old }
-    ensures { Counts flags.now (waiting edges.now (done_in flags.now)
-        (length edges.now)) waits.new tree.new }
-{
-    let mut e = logic::word_at(head, a as usize);
-    while 0 < e {
-        let p = (e - 1) as usize;
-        settle(flags, waits, tree, logic::word_at(edges, p) / 4096);
-        e = logic::word_at(link, p);
+impl Linked<'_> {
+    // Takes off all reads of node a, which is done.
+    fn release(&self, flags: &[u32], waits: &mut [u32], tree: &mut [u32], a: u32)
+        requires { (a < 4096)
+            × Counts flags.now (still_waiting self.now.edges.now (done_in flags.now) a (length self.now.edges.now))
+            waits.old tree.old }
+        ensures { Counts flags.now (waiting self.now.edges.now (done_in flags.now)
+            (length self.now.edges.now)) waits.new tree.new }
+    {
+        let mut e = logic::word_at(self.head, a as usize);
+        while let Some(p) = e.checked_sub(1) {
+            settle(
+                flags,
+                waits,
+                tree,
+                logic::word_at(self.edges, p as usize) / 4096,
+            );
+            e = logic::word_at(self.link, p as usize);
+        }
     }
-}
 
-// Node a is done.
-fn take(
-    edges: &[u32],
-    flags: &mut [u32],
-    link: &[u32],
-    head: &[u32],
-    waits: &mut [u32],
-    tree: &mut [u32],
-    a: u32,
-)
-    requires { (a < 4096) × (done_in flags.old a ≡ false)
-        × Links edges.now link.now head.now (length edges.now)
-        × Counts flags.old (waiting edges.now (done_in flags.old) (length edges.now)) waits.old tree.old }
-    ensures { (flags.new ≡ set flags.old a 0) × Counts flags.new
-        (waiting edges.now (done_in flags.new) (length edges.now))
-        waits.new tree.new }
-{
-    logic::put(flags, a as usize, 0);
-    lowest_set::remove(tree, a);
-    release(edges, flags, link, head, waits, tree, a);
-}
-
-// Takes the lowest ready node as long as there is one.
-fn take_turns(
-    edges: &[u32],
-    flags: &mut [u32],
-    link: &[u32],
-    head: &[u32],
-    waits: &mut [u32],
-    tree: &mut [u32],
-    slots: &mut [u32],
-) -> usize
-    requires { (length flags.old ≤ 4096) × Links edges.now link.now head.now (length edges.now)
-        × Counts flags.old (waiting edges.now (done_in flags.old) (length edges.now)) waits.old tree.old }
-    ensures { Sorted edges.now flags.old slots.old flags.new
-        slots.new result }
-{
-    let mut k: usize = 0;
-    let mut a = lowest_set::lowest(tree);
-    while a < 4096 {
-        logic::put(slots, k, a);
-        k += 1;
-        take(edges, flags, link, head, waits, tree, a);
-        a = lowest_set::lowest(tree);
+    // Node a is done.
+    fn take(&self, flags: &mut [u32], waits: &mut [u32], tree: &mut [u32], a: u32)
+        requires { (a < 4096) × (done_in flags.old a ≡ false)
+            × Counts flags.old (waiting self.now.edges.now (done_in flags.old) (length self.now.edges.now)) waits.old tree.old }
+        ensures { (flags.new ≡ set flags.old a 0) × Counts flags.new
+            (waiting self.now.edges.now (done_in flags.new) (length self.now.edges.now))
+            waits.new tree.new }
+    {
+        logic::put(flags, a as usize, 0);
+        lowest_set::remove(tree, a);
+        self.release(flags, waits, tree, a);
     }
-    k
+
+    // Takes the lowest ready node as long as there is one.
+    fn take_turns(
+        &self,
+        flags: &mut [u32],
+        waits: &mut [u32],
+        tree: &mut [u32],
+        slots: &mut [u32],
+    ) -> usize
+        requires { (length flags.old ≤ 4096)
+            × Counts flags.old (waiting self.now.edges.now (done_in flags.old) (length self.now.edges.now)) waits.old tree.old }
+        ensures { Sorted self.now.edges.now flags.old slots.old flags.new
+            slots.new result }
+    {
+        let mut k: usize = 0;
+        while let Some(a) = lowest_set::lowest(tree) {
+            logic::put(slots, k, a);
+            self.take(flags, waits, tree, a);
+            k += 1;
+        }
+        k
+    }
 }
 
 // The order, of at most 16,384 reads and 4,096 flags.
@@ -197,7 +164,12 @@ fn sort_within(edges: &[u32], flags: &mut [u32], slots: &mut [u32]) -> usize
     link_edges(edges, &mut link, &mut head);
     count_waits(edges, flags, &mut waits);
     start_ready(flags, &waits, &mut tree);
-    take_turns(edges, flags, &link, &head, &mut waits, &mut tree, slots)
+    let linked = Linked {
+        edges,
+        link: &link,
+        head: &head,
+    };
+    linked.take_turns(flags, &mut waits, &mut tree, slots)
 }
 
 // Writes the order of the nodes that are not done, the lowest ready one always next, and clears their flags: those that
@@ -207,11 +179,8 @@ pub fn sort(edges: &[u32], flags: &mut [u32], slots: &mut [u32]) -> usize
         → Sorted edges.now flags.old slots.old flags.new
         slots.new result }
 {
-    if edges.len() <= 16384 {
-        if flags.len() <= 4096 {
-            return sort_within(edges, flags, slots);
-        }
+    if 16384 < edges.len() || 4096 < flags.len() {
         return 0;
     }
-    0
+    sort_within(edges, flags, slots)
 }

@@ -9,8 +9,7 @@ use native.Mathlib.Omega.{arith}
 use lib.ListN.{length, take, drop}
 use lib.Seq.{take_at}
 use Rattle.logic.specs.declared.Fault.{Fault}
-use Rattle.little_endian.specs.declared.Input.{Input}
-use Rattle.little_endian.specs.declared.Input.TheVariants as input
+use Rattle.std.specs.Prelude.{Result, Ok, Err}
 use Rattle.little_endian.specs.Words.{words_of, input_of}
 use Rattle.cell.specs.Design.{Design}
 use Rattle.cell.specs.declared.Mode.TheVariants.{Ported}
@@ -21,13 +20,9 @@ use Rattle.working_out.specs.Loop.{Loop, has_loop}
 use Rattle.working_out.proofs.Solutions.{loop_decided}
 use Rattle.working_out.specs.Obligations.{Obligation, obligations}
 use Rattle.requirement.specs.declared.Verified.{Verified}
-use Rattle.requirement.specs.declared.Verified.TheVariants as design
 use Rattle.requirement.specs.declared.Verified.TheVariants.{NothingAsked, Asked}
 use Rattle.requirement.specs.Verified.{read_in, verified, call_words, marks}
 use Rattle.design.specs.Said.{Said}
-use Rattle.script.specs.declared.Written.{Written}
-use Rattle.script.specs.declared.Written.TheVariants as script
-use Rattle.script.specs.declared.Written.TheVariants.{Bytes}
 use Rattle.script.specs.Written.{script_of, written, Scripted}
 use Rattle.program.specs.Output.{Texts, refusal_line, loop_text, script_or, of_verified, list_output, of_input, output_in}
 use Rattle.program.specs.Output.{output}
@@ -39,8 +34,8 @@ use Rattle.unsat.proofs.Unsat.{what_unsat-says}
 -- ---- the words that `verify` leaves
 
 -- Where something is asked and there is no current loop, the list puts questions.
-module _ {mode : ℕ} {w calls recorded : List ℕ} {r : Verified} {n : Counts} (s : Said mode w calls recorded r n)
-    (asked : r ≡ Asked n) (no_loop : Loop s.d → ⊥) where
+module _ {mode : ℕ} {w calls recorded : List ℕ} {r : Result Verified Fault} {n : Counts} (s : Said mode w calls recorded r n)
+    (asked : r ≡ Ok (Asked n)) (no_loop : Loop s.d → ⊥) where
   pub said_questions : Questions mode w s.d
   said_questions = record {
     replacements = s.replacements;
@@ -50,7 +45,7 @@ module _ {mode : ℕ} {w calls recorded : List ℕ} {r : Verified} {n : Counts} 
     some = some (obligations s.d) refl;
   }
     where
-      two : NothingAsked n ≡ Asked n → ⊥
+      two : ◌≡◌ {A = Result Verified Fault} (Ok (NothingAsked n)) (Ok (Asked n)) → ⊥
       two e = let z : ◌≡◌ {A = ℕ} 0 1 = cc in omega arith
 
       some : (l : List Obligation) → obligations s.d ≡ l → 0 < length (obligations s.d)
@@ -66,7 +61,7 @@ module _ {mode : ℕ} {w calls recorded : List ℕ} {r : Verified} {n : Counts} 
 
 -- A text of so many bytes, which the writer wrote for the list's words and marks.
 pub writer_says : (mode : ℕ) (w : List ℕ) {d : Design} (before after : List ℕ) {n : ℕ} → Questions mode w d
-    → Scripted (call_words mode w) (marks mode w) before after (Bytes n)
+    → Scripted (call_words mode w) (marks mode w) before after (Ok n)
     (written (call_words mode w) (marks mode w) (length before))
     → ScriptSays mode w d (take n after)
 writer_says mode w {d} before after {n} q done =
@@ -105,15 +100,14 @@ program_says bytes {d} q = of_input_lem (input_of bytes)
     Told : Texts → Type 0
     Told out = ((e : Fault) × (out.line ++ out.text ≡ refusal_line e)) ⊎ ScriptSays 0 w d (out.line ++ out.text)
 
-    of_script : (a : Written) → Told (script_or a texts)
-    of_script (Bytes n) = inr (record { has = rw (unnamed w q); says = what_unsat-says 0 w d q })
-    of_script (script.Refused e) = inl (e, refl)
+    of_script : (a : Result ℕ Fault) → Told (script_or a texts)
+    of_script (Ok n) = inr (record { has = rw (unnamed w q); says = what_unsat-says 0 w d q })
+    of_script (Err e) = inl (e, refl)
 
-    of_verified_lem : (a : Verified) → Told (of_verified a (script_or (written (call_words 0 w) (marks 0 w) 65536) texts))
-    of_verified_lem (design.Refused e) = inl (e, refl)
-    of_verified_lem (NothingAsked n) = of_script (written (call_words 0 w) (marks 0 w) 65536)
-    of_verified_lem (Asked n) = of_script (written (call_words 0 w) (marks 0 w) 65536)
+    of_verified_lem : (a : Result Verified Fault) → Told (of_verified a (script_or (written (call_words 0 w) (marks 0 w) 65536) texts))
+    of_verified_lem (Err e) = inl (e, refl)
+    of_verified_lem (Ok a) = of_script (written (call_words 0 w) (marks 0 w) 65536)
 
-    of_input_lem : (a : Input) → Told (of_input a w 65536)
-    of_input_lem (input.Refused e) = inl (e, refl)
-    of_input_lem (input.Words n) = of_verified_lem (verified 0 w 16384 4096)
+    of_input_lem : (a : Result ℕ Fault) → Told (of_input a w 65536)
+    of_input_lem (Err e) = inl (e, refl)
+    of_input_lem (Ok n) = of_verified_lem (verified 0 w 16384 4096)

@@ -9,27 +9,26 @@ use native.Mathlib.Nat.{add-zero}
 use lib.ListN.{length, get_or, length-append}
 use lib.Dec.{ltb, eqb}
 use borrow.Author.Tests.{lt-ltb, le-ltb, le-leb, eq-eqb, ne_eqb}
+use Rattle.std.specs.Prelude.{Some, Ok, Err}
 use Rattle.logic.specs.Word.{head_word, number_word}
 use Rattle.logic.proofs.WordLaws.{kind_of_word, payload_of_word}
 use Rattle.cell.specs.Operation.{operation_of, number_of}
 use Rattle.cell.proofs.Numbered.{number_operation}
 use Rattle.cell.specs.declared.Operation.{Operation}
-use Rattle.cell.specs.declared.Decoded.TheVariants.{Known}
 use Rattle.cell.specs.declared.Numbers.{Numbers}
 use Rattle.cell.specs.declared.Fields.{Fields}
 use Rattle.cell.specs.Each.{Each}
-use Rattle.fields.specs.declared.Scan.TheVariants.{Clean}
-use Rattle.fields.specs.declared.Head.TheVariants as H
 use Rattle.fields.specs.Field.{fault, net_at, constant_at, ends_at}
 use Rattle.fields.specs.Pattern.{patterns_at}
 use Rattle.fields.specs.Head.{head_at}
 use Rattle.fields.specs.Head as Head
-use Rattle.cell_reader.specs.declared.Leading.TheVariants as L
 use Rattle.cell_reader.specs.Record.{third_at, second_at, first_at, leading_at, tail_at, body_at}
 use Rattle.cell_reader.specs.Parse.{number_in, op_at}
 use Rattle.valid.proofs.Stands.{word_at, Stands, stands_first, stands_rest, stands_tail, stands_inside}
 use Rattle.valid.proofs.Stands.{scan-words}
 use Rattle.valid.proofs.Fields.{number-right, Named, Fixed, net-right, constant-right}
+use Rattle.cell_reader.specs.Record.{leading}
+use Rattle.fields.specs.Head.{head}
 
 -- ---- Heads.
 module _
@@ -45,13 +44,13 @@ module _
   pub head-count : number_in w at / 32 ≡ count
   head-count = let low = (number_operation op).1 in let is = head_payload in omega arith
 
-  head_decoded : operation_of (number_in w at % 32) ≡ Known op
+  head_decoded : operation_of (number_in w at % 32) ≡ Some op
   head_decoded = rw head-number (number_operation op).0
 
   pub head_operation : op_at w at ≡ op
   head_operation = rw head_decoded
 
-  pub head-right : head_at w at ≡ H.Record op (at + 1) (at + 1 + count)
+  pub head-right : head_at w at ≡ Ok (head op (at + 1) (at + 1 + count))
   unfolding head_at Head.record_of
   head-right =
       rw (
@@ -77,7 +76,7 @@ pub record Leads (numbers : Numbers) (ns : List ℕ) : Type 0 where
 module _ (w : List ℕ) (numbers : Numbers) (end : ℕ) where
   third_right :
       (n m k at : ℕ) → Stands w end at (number_word k ∷ []) → k < 2 ^ 29 → cond numbers.within (k + m) 0 ≤ n →
-      third_at w numbers end n m at ≡ L.Read n m (at + 1)
+      third_at w numbers end n m at ≡ Ok (leading n m (at + 1))
   unfolding third_at
   third_right n m k at s low within =
       rw (number-right w (2 ^ 29 - 1) end at k (stands_inside s) s.reads.0 low (omega arith))
@@ -85,14 +84,14 @@ module _ (w : List ℕ) (numbers : Numbers) (end : ℕ) where
     where
       go :
           (b : Bool) → cond b (k + m) 0 ≤ n →
-          cond b (cond (ltb n (k + m)) (L.Refused (fault 9 at)) (L.Read n m (at + 1))) (L.Read n m (at + 1))
-          ≡ L.Read n m (at + 1)
+          cond b (cond (ltb n (k + m)) (Err (fault 9 at)) (Ok (leading n m (at + 1)))) (Ok (leading n m (at + 1)))
+          ≡ Ok (leading n m (at + 1))
       go false low = refl
       go true low = rw (le-ltb n (k + m) low)
 
   second-right :
       (n m at : ℕ) (rest : List ℕ) → Stands w end at (map number_word (m ∷ rest)) → Leads numbers (n ∷ m ∷ rest) →
-      second_at w numbers end n at ≡ L.Read n m (at + length (m ∷ rest))
+      second_at w numbers end n at ≡ Ok (leading n m (at + length (m ∷ rest)))
   unfolding second_at
   second-right n m at [] s leads =
       rw (
@@ -112,7 +111,7 @@ module _ (w : List ℕ) (numbers : Numbers) (end : ℕ) where
 
   pub leading-right :
       (ns : List ℕ) (at : ℕ) → Stands w end at (map number_word ns) → Leads numbers ns →
-      leading_at w numbers end at ≡ L.Read (get_or ns 0 0) (get_or ns 1 0) (at + length ns)
+      leading_at w numbers end at ≡ Ok (leading (get_or ns 0 0) (get_or ns 1 0) (at + length ns))
   unfolding leading_at first_at
   leading-right [] at s leads = rw (leads.count, add-zero)
   leading-right (n ∷ []) at s leads =
@@ -145,12 +144,12 @@ module _ (w : List ℕ) (total : ℕ) (layout : Fields) (n end : ℕ) (controls 
     pub nets-named : Each (Named total false) nets
     pub constants_fixed : Each Fixed constants
     pub patterns-right : (place : ℕ) → Stands w end place patterns →
-        patterns_at w n end layout.patterns place ≡ Clean (place + length patterns)
+        patterns_at w n end layout.patterns place ≡ Ok (place + length patterns)
     pub ends : end ≡ at + length (controls ++ (nets ++ (constants ++ patterns)))
 
   pub body-right :
       (at : ℕ) → Stands w end at (controls ++ (nets ++ (constants ++ patterns))) → Follows at →
-      body_at w total layout n end at ≡ Clean end
+      body_at w total layout n end at ≡ Ok end
   unfolding body_at tail_at ends_at
   body-right at s follows =
       let s₁ = stands_rest controls (nets ++ (constants ++ patterns)) s in

@@ -4,20 +4,16 @@ use mathlib.Core.List.{List, [], ◌∷◌}
 use Prim.Native.Nat.{ℕ, ◌-◌, ◌≤◌}
 use native.Mathlib.Omega.{arith}
 use lib.ListN.{length}
+use Rattle.std.specs.Prelude.{Result, Ok, Err}
+use Rattle.logic.specs.declared.Fault.{Fault}
 use Rattle.logic.specs.Word.{number_word}
 use Rattle.cell.specs.declared.Mode.{Mode}
 use Rattle.cell.specs.Design.{Design, total}
 use Rattle.right.specs.Valid.{Valid}
-use Rattle.fields.specs.declared.Number.{Number}
-use Rattle.fields.specs.declared.Number.TheVariants as N
-use Rattle.fields.specs.declared.Scan.TheVariants.{Clean}
 use Rattle.fields.specs.Field.{on_number, number_at}
 use Rattle.fields.specs.Accepted.{IsNumber}
 use Rattle.fields.proofs.AcceptedLaws.{number_read}
 use Rattle.items.specs.declared.Header.{Header}
-use Rattle.items.specs.declared.Opening.{Opening}
-use Rattle.items.specs.declared.Opening.TheVariants as O
-use Rattle.items.specs.Step.{Step}
 use Rattle.placing.specs.Slots.{at_slot}
 use Rattle.items.specs.Items.{counts_at, header_at, replaces, ascending, replacement_at, new_cell, pair_at, net_pair}
 use Rattle.design_list.specs.Read.{read, accepted}
@@ -31,15 +27,15 @@ use Rattle.valid.proofs.Stands.{Reads, word_at}
 use Rattle.valid.proofs.Spans.{number_word_lem}
 
 -- A number of the header was read, and what follows it.
-record Onward (v : Number) (f : ℕ → ℕ → Opening) (h : Header) : Type 0 where
+record Onward (v : Result (ℕ × ℕ) Fault) (f : ℕ → ℕ → Result Header Fault) (h : Header) : Type 0 where
   number : ℕ
   next : ℕ
-  value : v ≡ N.Value number next
-  rest : f number next ≡ O.Read h
+  value : v ≡ Ok (number, next)
+  rest : f number next ≡ Ok h
 
-onward : (v : Number) (f : ℕ → ℕ → Opening) {h : Header} → on_number v O.Refused f ≡ O.Read h → Onward v f h
-onward (N.Value n next) f e = record { number = n; next = next; value = refl; rest = e }
-onward (N.Refused fault) f e = let z : ◌≡◌ {A = ℕ} 0 1 = cc in absurd (omega arith)
+onward : (v : Result (ℕ × ℕ) Fault) (f : ℕ → ℕ → Result Header Fault) {h : Header} → on_number v Err f ≡ Ok h → Onward v f h
+onward (Ok (n, next)) f e = record { number = n; next = next; value = refl; rest = e }
+onward (Err fault) f e = let z : ◌≡◌ {A = ℕ} 0 1 = cc in absurd (omega arith)
 
 -- A header that was read has at most 4,096 replacements of each kind, and its words are those of its numbers.
 pub record IsHeader (w : List ℕ) (h : Header) : Type 0 where
@@ -49,7 +45,7 @@ pub record IsHeader (w : List ℕ) (h : Header) : Type 0 where
       Reads (word_at w) 0
       (number_word h.base ∷ number_word h.added ∷ number_word h.cellreps ∷ number_word h.netreps ∷ [])
 
-pub header_is : (w : List ℕ) {h : Header} → header_at w ≡ O.Read h → IsHeader w h
+pub header_is : (w : List ℕ) {h : Header} → header_at w ≡ Ok h → IsHeader w h
 unfolding header_at counts_at
 header_is w {h} read =
     let base = onward (number_at w 4096 4 0) _ read in
@@ -77,8 +73,8 @@ header_is w {h} read =
 
 -- As many items as were to be read.
 many-items :
-    {A : Type 0} (step : ℕ → ℕ → Step) (item : ℕ → A) (k least at end : ℕ) →
-    (ascending step item k least at).scan ≡ Clean end → length (ascending step item k least at).items ≡ k
+    {A : Type 0} (step : ℕ → ℕ → Result (ℕ × ℕ) Fault) (item : ℕ → A) (k least at end : ℕ) →
+    (ascending step item k least at).scan ≡ Ok end → length (ascending step item k least at).items ≡ k
 many-items step item k least at end read =
     (climb_read (λ _ _ _ _. Unit {0}) item step (λ least at above next e. tt) k least at end read).many
 

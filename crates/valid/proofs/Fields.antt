@@ -8,6 +8,7 @@ use native.Mathlib.Omega.{arith}
 use lib.ListN.{length}
 use lib.Dec.{eqb}
 use borrow.Author.Tests.{lt-ltb, le-leb}
+use Rattle.std.specs.Prelude.{Ok}
 use Rattle.logic.specs.Word.{kind_of, payload_of, number_word}
 use Rattle.logic.proofs.WordLaws.{kind_of_word, payload_of_word}
 use Rattle.logic.specs.Net.{Net, constant, slot, net_of, payload_of_net}
@@ -17,8 +18,6 @@ use Rattle.logic.specs.declared.Trit.TheVariants.{Zero, One, Undef}
 use Rattle.cell.specs.Cell.{Control}
 use Rattle.cell.specs.Each.{Each}
 use Rattle.right.specs.Nets.{Within}
-use Rattle.fields.specs.declared.Number.TheVariants as N
-use Rattle.fields.specs.declared.Scan.TheVariants.{Clean}
 use Rattle.fields.specs.Field.{is_constant, is_known, most_kind, number_at, net_at, bit_at, constant_at, scan_many}
 use Rattle.cell_reader.specs.Parse.{number_in, net_in, control_in, trit_in, trits_in}
 use Rattle.valid.specs.Words.{net_word_of, control_word_of, trit_word_of}
@@ -31,7 +30,7 @@ module _ (w : List ℕ) where
 
   pub number-right :
       (bound end at n : ℕ) → at < end → word_at w at ≡ number_word n → n < 2 ^ 29 → n ≤ bound →
-      number_at w bound end at ≡ N.Value n (at + 1)
+      number_at w bound end at ≡ Ok (n, at + 1)
   unfolding number_at
   number-right bound end at n inside word low fits =
       rw (lt-ltb at end inside, word, kind_of_word 3 n, payload_of_word 3 n low, le-leb n bound fits)
@@ -77,12 +76,12 @@ pub record Fixed (word : ℕ) : Type 0 where
 module _ (w : List ℕ) (end at : ℕ) (inside : at < end) where
   pub net-right :
       {total : ℕ} {may_invert : Bool} → Named total may_invert (word_at w at) →
-      net_at w total may_invert end at ≡ Clean (at + 1)
+      net_at w total may_invert end at ≡ Ok (at + 1)
   unfolding net_at
   net-right {total} {may_invert} named =
       rw (lt-ltb at end inside, le-leb (kind_of (word_at w at)) (most_kind may_invert) named.kind, named.known)
 
-  pub constant-right : Fixed (word_at w at) → constant_at w end at ≡ Clean (at + 1)
+  pub constant-right : Fixed (word_at w at) → constant_at w end at ≡ Ok (at + 1)
   unfolding constant_at bit_at
   constant-right fixed = rw (lt-ltb at end inside, fixed.kind, fixed.constant)
 
@@ -155,7 +154,7 @@ each-any = each_all (λ _. Unit {0}) (λ _. tt)
 module _ (w : List ℕ) (end : ℕ) where
   pub constants-right :
       (ts : List Trit) (at : ℕ) → Stands w end at (map trit_word_of ts) →
-      scan_many (constant_at w end) (length (map trit_word_of ts)) at ≡ Clean (at + length (map trit_word_of ts))
+      scan_many (constant_at w end) (length (map trit_word_of ts)) at ≡ Ok (at + length (map trit_word_of ts))
   constants-right ts at s =
       scan-words w end (constant_at w end) Fixed (constant-right w end) (map trit_word_of ts) at s
       (each-words trit_word_of (λ _. Unit {0}) Fixed (λ t any. trit_fixed t) ts (each-any ts))

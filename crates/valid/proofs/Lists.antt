@@ -7,26 +7,21 @@ use native.Mathlib.Omega.{arith}
 use native.Mathlib.Nat.{zero-add}
 use lib.ListN.{length}
 use lib.Dec.{ltb, leb}
+use Rattle.std.specs.Prelude.{Result, Ok, Err}
+use Rattle.logic.specs.declared.Fault.{Fault}
 use Rattle.logic.specs.Word.{number_word}
 use Rattle.logic.proofs.TableLaws.{as_tab, tab_ext}
 use Rattle.cell.specs.declared.Mode.{Mode}
 use Rattle.cell.specs.Design.{Placed, Design, total}
 use Rattle.cell.specs.declared.Operation.{Operation}
-use Rattle.fields.specs.declared.Number.{Number}
-use Rattle.fields.specs.declared.Number.TheVariants as N
-use Rattle.fields.specs.declared.Scan.TheVariants as S
 use Rattle.fields.specs.Field.{fault, on_number, number_at}
 use Rattle.fields.specs.Accepted.{IsNumber}
 use Rattle.fields.proofs.AcceptedLaws.{number_read}
 use Rattle.cell_reader.specs.declared.Record.{Record}
-use Rattle.cell_reader.specs.declared.Record.TheVariants as R
 use Rattle.cell_reader.specs.Record.{on_record, record_at}
 use Rattle.cell_reader.specs.Parse.{number_in, cell_at}
 use Rattle.logic.specs.declared.Slot.{Slot}
 use Rattle.placing.specs.declared.Placing.{Placing}
-use Rattle.placing.specs.declared.Placing.TheVariants as P
-use Rattle.items.specs.Step.{Step}
-use Rattle.items.specs.Step as T
 use Rattle.placing.specs.Slots.{at_slot}
 use Rattle.items.specs.Items.{Reading, stop, refuse, push, ascending, listed_number_at, Test, replaces}
 use Rattle.items.specs.Items.{replacement_at, new_cell, pair_at, net_pair}
@@ -41,15 +36,19 @@ use Rattle.valid.proofs.Stands.{reads-tab, word_at}
 use Rattle.valid.proofs.Spans.{Spans, spans_none, spans_one, spans_then, number_word_lem, net_word_lem}
 use Rattle.valid.proofs.Written.{record_span}
 use Rattle.valid.proofs.Converse.{header_is, accepted-counts}
+use Rattle.cell_reader.specs.Record.{cell_record}
+use Rattle.placing.specs.Cells.{placing}
+use Rattle.placing.proofs.Laws.{placing_parts}
+use Rattle.fields.proofs.AcceptedLaws.{pair_parts}
 
 listed-number :
-    (w : List ℕ) (at : ℕ) {n next : ℕ} → listed_number_at w at ≡ N.Value n next →
+    (w : List ℕ) (at : ℕ) {n next : ℕ} → listed_number_at w at ≡ Ok (n, next) →
     IsNumber w (2 ^ 29 - 1) (length w) at n next
 unfolding listed_number_at
 listed-number w at {n} {next} = go (ltb at (length w))
   where
     go :
-        (b : Bool) → cond b (number_at w (2 ^ 29 - 1) (length w) at) (N.Refused (fault 1 (length w))) ≡ N.Value n next →
+        (b : Bool) → cond b (number_at w (2 ^ 29 - 1) (length w) at) (Err (fault 1 (length w))) ≡ Ok (n, next) →
         IsNumber w (2 ^ 29 - 1) (length w) at n next
     go true e = number_read w _ _ at e
     go false e = let z : ◌≡◌ {A = ℕ} 0 1 = cc in absurd (omega arith)
@@ -58,34 +57,31 @@ module _ (w : List ℕ) (total : ℕ) where
   -- ---- The cells.
   placed_record :
       (base slot at : ℕ) {op : Operation} {width next : ℕ} {after : Slot} →
-      placed_at w base total slot at ≡ P.Placed op width after next → record_at w total at ≡ R.Read op width next
+      placed_at w base total slot at ≡ Ok (placing op width after next) → record_at w total at ≡ Ok (cell_record op width next)
   unfolding placed_at
   placed_record base slot at {op} {width} {next} {after} = go (record_at w total at)
     where
       fits :
           (o : Operation) (width₁ next₁ : ℕ) (b : Bool) →
-          cond b (P.Placed o width₁ (record { 0 = slot + max 1 width₁ }) next₁) (P.Refused (fault 11 at))
-          ≡ P.Placed op width after next →
-          R.Read o width₁ next₁ ≡ R.Read op width next
+          cond b (Ok (placing o width₁ (record { 0 = slot + max 1 width₁ }) next₁)) (Err (fault 11 at))
+          ≡ Ok (placing op width after next) →
+          ◌≡◌ {A = Result Record Fault} (Ok (cell_record o width₁ next₁)) (Ok (cell_record op width next))
       fits o width₁ next₁ true e =
-          let same_op : o ≡ op = cc in
-          let same_width : width₁ ≡ width = cc in
-          let same_next : next₁ ≡ next = cc in
-          rw (same_op, same_width, same_next)
+          let parts = placing_parts e in rw (parts.0, parts.1.0, parts.1.1.1)
       fits o width₁ next₁ false e = let z : ◌≡◌ {A = ℕ} 0 1 = cc in absurd (omega arith)
 
       go :
-          (r : Record) →
-          on_record r P.Refused (λ (o : Operation) (width₁ next₁ : ℕ).
+          (r : Result Record Fault) →
+          on_record r Err (λ (o : Operation) (width₁ next₁ : ℕ).
           cond (leb (slot + max 1 width₁) (limit_of base total slot))
-          (P.Placed o width₁ (record { 0 = slot + max 1 width₁ }) next₁)
-          (P.Refused (fault 11 at)))
-          ≡ P.Placed op width after next → r ≡ R.Read op width next
-      go (R.Refused f) e = let z : ◌≡◌ {A = ℕ} 0 1 = cc in absurd (omega arith)
-      go (R.Read o width₁ next₁) e = fits o width₁ next₁ (leb (slot + max 1 width₁) (limit_of base total slot)) e
+          (Ok (placing o width₁ (record { 0 = slot + max 1 width₁ }) next₁))
+          (Err (fault 11 at)))
+          ≡ Ok (placing op width after next) → r ≡ Ok (cell_record op width next)
+      go (Err f) e = let z : ◌≡◌ {A = ℕ} 0 1 = cc in absurd (omega arith)
+      go (Ok r) e = fits r.op r.width r.next (leb (slot + max 1 r.width) (limit_of base total slot)) e
 
   cells_span :
-      (base turns slot at end : ℕ) → (cells_from w base total turns slot at).scan ≡ S.Clean end →
+      (base turns slot at end : ℕ) → (cells_from w base total turns slot at).scan ≡ Ok end →
       Spans w at (flat_map cell_words_of (cells_from w base total turns slot at).items) end
   unfolding cells_from flat_map
   cells_span base zero slot at end read = spans_none (cc)
@@ -98,20 +94,20 @@ module _ (w : List ℕ) (total : ℕ) where
 
       -- What is known of a reading: its words, if it met no fault.
       Written : Reading Placed → ℕ → Type 0
-      Written r from = r.scan ≡ S.Clean end → Spans w from (flat_map cell_words_of r.items) end
+      Written r from = r.scan ≡ Ok end → Spans w from (flat_map cell_words_of r.items) end
 
       go :
-          (p : Placing) → placed_at w base total slot at ≡ p →
+          (p : Result Placing Fault) → placed_at w base total slot at ≡ p →
           ((after next : ℕ) → Written (cells_from w base total turns after next) next) →
           Written (on_placing p refuse onward) at
-      go (P.Refused f) p rest e = let z : ◌≡◌ {A = ℕ} 0 1 = cc in absurd (omega arith)
-      go (P.Placed op width after next) p rest e =
+      go (Err f) p rest e = let z : ◌≡◌ {A = ℕ} 0 1 = cc in absurd (omega arith)
+      go (Ok cell) p rest e =
           spans_then (record_of (cell_at w at)) _ (record_span w total at (placed_record base slot at p))
-          (rest after.0 next e)
+          (rest cell.after.0 cell.next e)
 
       more :
           (b : Bool) → ((after next : ℕ) → Written (cells_from w base total turns after next) next) →
-          Written (cond b (on_placing (placed_at w base total slot at) refuse onward) (stop (S.Clean at))) at
+          Written (cond b (on_placing (placed_at w base total slot at) refuse onward) (stop (Ok at))) at
       more true rest e = go (placed_at w base total slot at) refl rest e
       more false rest e = spans_none (cc)
 
@@ -126,7 +122,7 @@ module _ (w : List ℕ) (total : ℕ) where
       spans_then (words (item at)) _ (one least at above next is) (climb_span R item words one rest)
 
   replacement_span :
-      (right : Test) (least at above next : ℕ) → replacement_at w total right least at ≡ T.Read above next →
+      (right : Test) (least at above next : ℕ) → replacement_at w total right least at ≡ Ok (above, next) →
       Spans w at (replacement_words_of (new_cell w at)) next
   unfolding replacement_at
   replacement_span right least at above next = slotted (listed_number_at w at) refl
@@ -135,35 +131,36 @@ module _ (w : List ℕ) (total : ℕ) where
       Goal = Spans w at (replacement_words_of (new_cell w at)) next
 
       recorded :
-          (slot start : ℕ) → listed_number_at w at ≡ N.Value slot start → (r : Record) → record_at w total start ≡ r →
-          on_record r T.Refused (λ (op : Operation) (width after : ℕ).
-          cond (right least slot op width) (T.Read (slot + 1) after) (T.Refused (fault 12 at)))
-          ≡ T.Read above next → Goal
-      recorded slot start v (R.Refused f) r e = let z : ◌≡◌ {A = ℕ} 0 1 = cc in absurd (omega arith)
-      recorded slot start v (R.Read op width after) r e =
+          (slot start : ℕ) → listed_number_at w at ≡ Ok (slot, start) → (r : Result Record Fault) → record_at w total start ≡ r →
+          on_record r Err (λ (op : Operation) (width after : ℕ).
+          cond {A = Result (ℕ × ℕ) Fault} (right least slot op width) (Ok (slot + 1, after)) (Err (fault 12 at)))
+          ≡ Ok (above, next) → Goal
+      recorded slot start v (Err f) r e = let z : ◌≡◌ {A = ℕ} 0 1 = cc in absurd (omega arith)
+      recorded slot start v (Ok x) r e =
           let is = listed-number w at v in
           let begins : start ≡ at + 1 = is.after in
-          let last : after ≡ next = passed (right least slot op width) e in
+          let last : x.next ≡ next = passed (right least slot x.op x.width) e in
           let new = rw (begins, last) at (record_span w total start r) in
           spans_then (number_word (number_in w at) ∷ []) (record_of (cell_at w (at + 1)))
           (spans_one (number_word_lem w at is.kind) refl) new
         where
           passed :
-              (b : Bool) → cond b (T.Read (slot + 1) after) (T.Refused (fault 12 at)) ≡ T.Read above next → after ≡ next
-          passed true e = cc
+              (b : Bool) → cond {A = Result (ℕ × ℕ) Fault} b (Ok (slot + 1, x.next)) (Err (fault 12 at))
+              ≡ Ok (above, next) → x.next ≡ next
+          passed true e = (pair_parts e).1
           passed false e = let z : ◌≡◌ {A = ℕ} 0 1 = cc in absurd (omega arith)
 
       slotted :
-          (v : Number) → listed_number_at w at ≡ v →
-          on_number v T.Refused (λ (slot start : ℕ).
-          on_record (record_at w total start) T.Refused (λ (op : Operation) (width after : ℕ).
-          cond (right least slot op width) (T.Read (slot + 1) after) (T.Refused (fault 12 at))))
-          ≡ T.Read above next → Goal
-      slotted (N.Refused f) v e = let z : ◌≡◌ {A = ℕ} 0 1 = cc in absurd (omega arith)
-      slotted (N.Value slot start) v e = recorded slot start v (record_at w total start) refl e
+          (v : Result (ℕ × ℕ) Fault) → listed_number_at w at ≡ v →
+          on_number v Err (λ (slot start : ℕ).
+          on_record (record_at w total start) Err (λ (op : Operation) (width after : ℕ).
+          cond {A = Result (ℕ × ℕ) Fault} (right least slot op width) (Ok (slot + 1, after)) (Err (fault 12 at))))
+          ≡ Ok (above, next) → Goal
+      slotted (Err f) v e = let z : ◌≡◌ {A = ℕ} 0 1 = cc in absurd (omega arith)
+      slotted (Ok (slot, start)) v e = recorded slot start v (record_at w total start) refl e
 
   pair_span :
-      (least at above next : ℕ) → pair_at w total least at ≡ T.Read above next →
+      (least at above next : ℕ) → pair_at w total least at ≡ Ok (above, next) →
       Spans w at (pair_words_of (net_pair w at)) next
   pair_span least at above next read =
       let is = pair_read w total least at above next read in
@@ -172,16 +169,16 @@ module _ (w : List ℕ) (total : ℕ) where
       (spans_one (net_word_lem w (at + 1) is.to_is.kind) (omega arith))
 
   ascending_span :
-      {A : Type 0} (step : ℕ → ℕ → Step) (item : ℕ → A) (words : A → List ℕ) →
-      ((least at above next : ℕ) → step least at ≡ T.Read above next → Spans w at (words (item at)) next) →
-      (k least at end : ℕ) → (ascending step item k least at).scan ≡ S.Clean end →
+      {A : Type 0} (step : ℕ → ℕ → Result (ℕ × ℕ) Fault) (item : ℕ → A) (words : A → List ℕ) →
+      ((least at above next : ℕ) → step least at ≡ Ok (above, next) → Spans w at (words (item at)) next) →
+      (k least at end : ℕ) → (ascending step item k least at).scan ≡ Ok end →
       Spans w at (flat_map words (ascending step item k least at).items) end
   ascending_span step item words one k least at end read =
       climb_span Stepped item words one
       (climb_read Stepped item step (λ least at above next e. e) k least at end read).climb
     where
       Stepped : ℕ → ℕ → ℕ → ℕ → Type 0
-      Stepped least at above next = step least at ≡ T.Read above next
+      Stepped least at above next = step least at ≡ Ok (above, next)
 
 -- ---- The whole list.
 -- A list whose words are those of another is that list.

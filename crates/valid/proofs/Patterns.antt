@@ -4,11 +4,11 @@ use mathlib.Core.List.{List, [], ◌∷◌, map, flat_map}
 use Prim.Native.Nat.{ℕ, suc, ◌+◌, ◌*◌, ◌≤◌}
 use native.Mathlib.Omega.{arith}
 use lib.ListN.{length, length-append, length-map}
+use Rattle.std.specs.Prelude.{Ok}
 use Rattle.logic.specs.Table.{tab}
 use Rattle.logic.proofs.TableLaws.{tab_ext}
 use Rattle.logic.specs.declared.Trit.{Trit}
 use Rattle.cell.specs.Each.{Each}
-use Rattle.fields.specs.declared.Scan.TheVariants.{Clean}
 use Rattle.fields.specs.Pattern.{alternate_at, pattern_at, patterns_at}
 use Rattle.cell_reader.specs.Parse.{trits_in, patterns_in}
 use Rattle.valid.specs.Words.{trit_word_of, pattern_words_of}
@@ -32,7 +32,7 @@ alternates_words n (a ∷ p) all =
 module _ (w : List ℕ) (n end : ℕ) where
   alternate-right :
       (at : ℕ) (a : List Trit) → Stands w end at (map trit_word_of a) → length a ≡ n →
-      alternate_at w n end at ≡ Clean (at + length (map trit_word_of a))
+      alternate_at w n end at ≡ Ok (at + length (map trit_word_of a))
   unfolding alternate_at
   alternate-right at a s size =
       let words : length (map trit_word_of a) ≡ n = length-map a trit_word_of ∙ size in
@@ -40,7 +40,7 @@ module _ (w : List ℕ) (n end : ℕ) where
 
   pattern_right :
       (at : ℕ) (p : List (List Trit)) → Stands w end at (pattern_words_of p) → Alternates n p →
-      pattern_at w n end at ≡ Clean (at + length (pattern_words_of p))
+      pattern_at w n end at ≡ Ok (at + length (pattern_words_of p))
   unfolding pattern_at pattern_words_of
   pattern_right at p s fits =
       let few = fits.0 in
@@ -52,7 +52,7 @@ module _ (w : List ℕ) (n end : ℕ) where
 
   pub patterns-right :
       (ps : List (List (List Trit))) (at : ℕ) → Stands w end at (flat_map pattern_words_of ps) → Each (Alternates n) ps →
-      patterns_at w n end (length ps) at ≡ Clean (at + length (flat_map pattern_words_of ps))
+      patterns_at w n end (length ps) at ≡ Ok (at + length (flat_map pattern_words_of ps))
   unfolding patterns_at
   patterns-right = scan-items w end (pattern_at w n end) pattern_words_of (Alternates n) pattern_right
 

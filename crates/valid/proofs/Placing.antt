@@ -9,11 +9,11 @@ use native.Mathlib.Nat.{add-zero}
 use lib.ListN.{length, length-append}
 use lib.Dec.{ltb}
 use borrow.Author.Tests.{ltb-true, lt-ltb, le-ltb, le-leb}
+use Rattle.std.specs.Prelude.{Ok}
 use Rattle.cell.specs.Cell.{Cell, slots_of}
 use Rattle.cell.specs.Design.{Placed}
 use Rattle.cell.specs.Each.{Each}
 use Rattle.right.specs.Laid.{Run}
-use Rattle.fields.specs.declared.Scan.TheVariants.{Clean}
 use Rattle.items.specs.Items.{Reading}
 use Rattle.placing.specs.Cells.{limit_of, placed_at, cells_from}
 use Rattle.valid.specs.Words.{record_of, cell_words_of}
@@ -23,7 +23,7 @@ use Rattle.valid.proofs.Cells.{cell-right}
 
 -- All items were read, up to a place.
 abbrev pub read_to : {A : Type 0} → List A → ℕ → Reading A
-read_to items place = record { items = items; scan = Clean place }
+read_to items place = record { items = items; scan = Ok place }
 
 run-low : (cells : List Placed) (s e : ℕ) → Run s cells e → s ≤ e
 run-low [] s e run = omega arith

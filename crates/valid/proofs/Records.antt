@@ -5,6 +5,7 @@ use mathlib.Core.List.{List, [], ◌∷◌, ◌++◌, map, flat_map}
 use Prim.Native.Nat.{ℕ, suc, ◌+◌, ◌≤◌}
 use native.Mathlib.Omega.{arith}
 use lib.ListN.{length, get_or, length-append, length-map}
+use Rattle.std.specs.Prelude.{Ok}
 use Rattle.logic.specs.Word.{number_word}
 use Rattle.logic.specs.Net.{Net}
 use Rattle.logic.specs.declared.Trit.{Trit}
@@ -16,7 +17,6 @@ use Rattle.cell.specs.Each.{Each}
 use Rattle.right.specs.Bounds.{Bounded}
 use Rattle.right.specs.Nets.{Within, nets_of}
 use Rattle.right.specs.Shape.{Shaped}
-use Rattle.cell_reader.specs.declared.Record.TheVariants as R
 use Rattle.cell_reader.specs.Record.{contents_at, record_at}
 use Rattle.accepted.proofs.Cells.{wide_binary, wide_shift}
 use Rattle.valid.specs.Words.{net_word_of, control_word_of, trit_word_of, pattern_words_of, operation_of_cell, contents_of}
@@ -25,6 +25,7 @@ use Rattle.valid.proofs.Stands.{Stands, stands_first, stands_rest, stands_tail, 
 use Rattle.valid.proofs.Fields.{Named, Fixed, inverted-kind, net-named, control-named, trit_fixed, each-any}
 use Rattle.valid.proofs.Patterns.{Alternates, patterns-right}
 use Rattle.valid.proofs.Bodies.{head-right, Leads, leading-right, Follows, body-right}
+use Rattle.cell_reader.specs.Record.{cell_record}
 
 -- The number n of a cell's body, and what follows its numbers.
 abbrev pub first_of : Cell → ℕ
@@ -176,7 +177,7 @@ module _
 
   pub record_right :
       Stands w (length w) at (record_of c) →
-      record_at w total at ≡ R.Read (operation_of_cell c) (output_len c) (at + length (record_of c))
+      record_at w total at ≡ Ok (cell_record (operation_of_cell c) (output_len c) (at + length (record_of c)))
   unfolding record_at contents_at record_of
   record_right s =
       let counts = right-counts right in

@@ -8,6 +8,8 @@ use native.Mathlib.Omega.{arith}
 use native.Mathlib.Nat.{add-zero}
 use lib.ListN.{length, length-append}
 use borrow.Author.Tests.{lt-ltb, le-leb}
+use Rattle.std.specs.Prelude.{Result, Ok}
+use Rattle.logic.specs.declared.Fault.{Fault}
 use Rattle.logic.specs.Net.{Net, payload_of_net}
 use Rattle.cell.specs.Cell.{output_len}
 use Rattle.cell.specs.Design.{Placed, NetPair, Design, total}
@@ -15,9 +17,6 @@ use Rattle.cell.specs.Each.{Each}
 use Rattle.cell.proofs.EachLaws.{each_map}
 use Rattle.right.specs.Nets.{Within}
 use Rattle.right.specs.Laid.{Ascending, PairWithin}
-use Rattle.fields.specs.declared.Scan.TheVariants.{Clean}
-use Rattle.items.specs.Step.{Step}
-use Rattle.items.specs.Step as T
 use Rattle.items.specs.Items.{ascending, listed_number_at, listed_net_at, Test, replacement_at, new_cell, pair_at, net_pair}
 use Rattle.valid.specs.Words.{net_word_of, operation_of_cell, record_of, replacement_words_of, pair_words_of}
 use Rattle.valid.proofs.Stands.{word_at, Stands, stands_first, stands_rest, stands_tail, stands_inside}
@@ -29,12 +28,12 @@ use Rattle.valid.proofs.Placing.{read_to, placed}
 
 -- ---- Items one after another, strictly ascending by a number.
 -- An item was read at a place, and asks the next to be above it.
-record Taken {A : Type 0} (key : A → ℕ) (step : Step) (item : A) (next : ℕ) (x : A) : Type 0 where
-  stepped : step ≡ T.Read (key x + 1) next
+record Taken {A : Type 0} (key : A → ℕ) (step : Result (ℕ × ℕ) Fault) (item : A) (next : ℕ) (x : A) : Type 0 where
+  stepped : step ≡ Ok (key x + 1, next)
   same : item ≡ x
 
 module _
-    {A : Type 0} (w : List ℕ) (words : A → List ℕ) (P : A → Type 0) (key : A → ℕ) (step : ℕ → ℕ → Step) (item : ℕ → A)
+    {A : Type 0} (w : List ℕ) (words : A → List ℕ) (P : A → Type 0) (key : A → ℕ) (step : ℕ → ℕ → Result (ℕ × ℕ) Fault) (item : ℕ → A)
     (one : (least at : ℕ) (x : A) → Stands w (length w) at (words x) → P x → least ≤ key x →
     Taken key (step least at) (item at) (at + length (words x)) x) where
   ascending-right :
@@ -104,7 +103,7 @@ pair from to = record { from = from; to = to }
 module _ (w : List ℕ) (d : Design) (few : total d ≤ 4096) where
   listed-right :
       (at : ℕ) (n : Net) → at < length w → word_at w at ≡ net_word_of n → Within (total d) n →
-      listed_net_at w (total d) at ≡ Clean (at + 1)
+      listed_net_at w (total d) at ≡ Ok (at + 1)
   unfolding listed_net_at
   listed-right at n inside word within =
       rw (lt-ltb at (length w) inside) (net-right w (length w) at inside (rw word (net-named w (total d) few n within)))

@@ -8,6 +8,8 @@ use native.Mathlib.Omega.{arith}
 use lib.ListN.{length, length-append, length-map}
 use lib.Dec.{ltb, eqb}
 use borrow.Author.Tests.{eqb-true}
+use Rattle.std.specs.Prelude.{Result, Ok, Err, Some, None}
+use Rattle.logic.specs.declared.Fault.{Fault}
 use Rattle.logic.specs.Word.{kind_of, net_word, number_word}
 use Rattle.logic.proofs.WordLaws.{word_of_parts}
 use Rattle.logic.specs.Net.{Net, constant, slot, payload_of_net, driver_of_net}
@@ -16,11 +18,6 @@ use Rattle.logic.specs.declared.Driver.TheVariants.{NoNet}
 use Rattle.logic.specs.Table.{tab}
 use Rattle.logic.proofs.TableLaws.{tab_ext, length-tab}
 use Rattle.logic.specs.declared.Trit.{Trit}
-use Rattle.fields.specs.declared.Number.{Number}
-use Rattle.fields.specs.declared.Number.TheVariants as N
-use Rattle.fields.specs.declared.Scan.{Scan}
-use Rattle.fields.specs.declared.Scan.TheVariants as S
-use Rattle.fields.specs.declared.Bit.TheVariants as B
 use Rattle.fields.specs.Field.{fault, on_number, constant_driver, is_constant, number_at, net_at, bit_at}
 use Rattle.fields.specs.Field.{scan_bit, constant_at, scan_many}
 use Rattle.fields.specs.Pattern.{alternate_at, pattern_at, patterns_at}
@@ -88,8 +85,8 @@ module _ {A : Type 0} (w : List ℕ) (word : A → ℕ) (item : ℕ → A) where
 
   -- A run of fields.
   pub spans_many :
-      (step : ℕ → Scan) → ((at next : ℕ) → step at ≡ S.Clean next → (next ≡ at + 1) × SameWord at) →
-      (n at next : ℕ) → scan_many step n at ≡ S.Clean next → Spans w at (map word (tab n (λ i. item (at + i)))) next
+      (step : ℕ → Result ℕ Fault) → ((at next : ℕ) → step at ≡ Ok next → (next ≡ at + 1) × SameWord at) →
+      (n at next : ℕ) → scan_many step n at ≡ Ok next → Spans w at (map word (tab n (λ i. item (at + i)))) next
   spans_many step one n at next read =
       let all = many_read step SameWord one n at next read in spans_tab n at next all.0 all.1
 
@@ -123,7 +120,7 @@ module _ (w : List ℕ) (at : ℕ) where
       go false (slot i) e = let z : ◌≡◌ {A = ℕ} 0 1 = cc in absurd (omega arith)
 
   pub constant_word :
-      (end next : ℕ) → constant_at w end at ≡ S.Clean next →
+      (end next : ℕ) → constant_at w end at ≡ Ok next →
       (next ≡ at + 1) × (word_at w at ≡ trit_word_of (trit_in w at))
   unfolding constant_at bit_at trit_word_of
   constant_word end next =
@@ -132,10 +129,10 @@ module _ (w : List ℕ) (at : ℕ) where
       go :
           (inside right is : Bool) → eqb (kind_of (word_at w at)) 0 ≡ right → is_constant (number_in w at) ≡ is →
           scan_bit
-          (cond inside (cond right (cond is (B.Constant (at + 1)) B.Other) (B.Refused (fault 2 at)))
-          (B.Refused (fault 5 at)))
+          (cond inside (cond right (cond is (Ok (Some (at + 1))) (Ok None)) (Err (fault 2 at)))
+          (Err (fault 5 at)))
           at
-          ≡ S.Clean next →
+          ≡ Ok next →
           (next ≡ at + 1) × (word_at w at ≡ net_word (payload_of_net (constant (trit_in w at))))
       go true true true k c e =
           let plain : kind_of (word_at w at) ≡ 0 = eqb-true _ _ k in (
@@ -149,27 +146,27 @@ module _ (w : List ℕ) (at : ℕ) where
 -- ---- Vectors.
 module _ (w : List ℕ) (total end : ℕ) where
   pub nets_span :
-      (n at next : ℕ) → scan_many (net_at w total false end) n at ≡ S.Clean next →
+      (n at next : ℕ) → scan_many (net_at w total false end) n at ≡ Ok next →
       Spans w at (map net_word_of (nets_in w n at)) next
   nets_span =
       spans_many w net_word_of (net_in w) (net_at w total false end)
       (λ at next e. let is = net-read w total false end at e in (is.0, net_word_lem w at is.1.kind))
 
   pub controls_span :
-      (n at next : ℕ) → scan_many (net_at w total true end) n at ≡ S.Clean next →
+      (n at next : ℕ) → scan_many (net_at w total true end) n at ≡ Ok next →
       Spans w at (map control_word_of (tab n (λ i. control_in w (at + i)))) next
   controls_span =
       spans_many w control_word_of (control_in w) (net_at w total true end)
       (λ at next e. let is = net-read w total true end at e in (is.0, control_word_lem w at is.1.kind))
 
   pub constants_span :
-      (n at next : ℕ) → scan_many (constant_at w end) n at ≡ S.Clean next →
+      (n at next : ℕ) → scan_many (constant_at w end) n at ≡ Ok next →
       Spans w at (map trit_word_of (trits_in w n at)) next
   constants_span = spans_many w trit_word_of (trit_in w) (constant_at w end) (λ at next e. constant_word w at end next e)
 
   -- ---- Patterns.
   alternates_span :
-      (n a at next : ℕ) → scan_many (alternate_at w n end) a at ≡ S.Clean next →
+      (n a at next : ℕ) → scan_many (alternate_at w n end) a at ≡ Ok next →
       Spans w at (flat_map (map trit_word_of) (tab a (λ i. trits_in w n (at + i * n)))) next
   unfolding scan_many alternate_at tab flat_map
   alternates_span n zero at next read = spans_none (cc)
@@ -186,7 +183,7 @@ module _ (w : List ℕ) (total end : ℕ) where
       rw (start, same) (spans_then (map trit_word_of (trits_in w n at)) _ here rest)
 
   pub patterns_span :
-      (n k at next : ℕ) → patterns_at w n end k at ≡ S.Clean next →
+      (n k at next : ℕ) → patterns_at w n end k at ≡ Ok next →
       Spans w at (flat_map pattern_words_of (patterns_in w n k at)) next
   unfolding patterns_at pattern_at scan_many patterns_in flat_map pattern_words_of
   patterns_span n zero at next read = spans_none (cc)
@@ -198,12 +195,12 @@ module _ (w : List ℕ) (total end : ℕ) where
       alternates = tab (number_in w at) (λ i. trits_in w n (at + 1 + i * n))
 
       go :
-          (v : Number) → number_at w 64 end at ≡ v → {place : ℕ} →
-          on_number v S.Refused (scan_many (alternate_at w n end)) ≡ S.Clean place →
+          (v : Result (ℕ × ℕ) Fault) → number_at w 64 end at ≡ v → {place : ℕ} →
+          on_number v Err (scan_many (alternate_at w n end)) ≡ Ok place →
           Spans w place (flat_map pattern_words_of (patterns_in w n k place)) next →
           Spans w at (flat_map pattern_words_of (alternates ∷ patterns_in w n k (at + 1 + number_in w at * n))) next
-      go (N.Refused f) v e rest = let z : ◌≡◌ {A = ℕ} 0 1 = cc in absurd (omega arith)
-      go (N.Value a start) v {place} e rest =
+      go (Err f) v e rest = let z : ◌≡◌ {A = ℕ} 0 1 = cc in absurd (omega arith)
+      go (Ok (a, start)) v {place} e rest =
           let is = number_read w 64 end at v in
           let value : a ≡ number_in w at = is.value in
           let after : start ≡ at + 1 = is.after in

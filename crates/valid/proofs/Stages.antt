@@ -6,18 +6,16 @@ use Prim.Native.Nat.{ℕ, ◌+◌, ◌-◌, ◌≤◌}
 use native.Mathlib.Omega.{arith}
 use lib.ListN.{length, length-append}
 use borrow.Author.Tests.{le-ltb, eq-eqb}
+use Rattle.std.specs.Prelude.{Ok}
 use Rattle.cell.specs.Design.{Placed, NetPair, Design, total}
 use Rattle.cell.specs.Each.{Each}
 use Rattle.right.specs.Voids.{nets_beside_clock}
 use Rattle.right.specs.Valid.{Valid}
-use Rattle.fields.specs.declared.Scan.TheVariants.{Clean}
 use Rattle.items.specs.declared.Header.{Header}
-use Rattle.items.specs.declared.Opening.TheVariants as O
-use Rattle.voids.specs.declared.Item.TheVariants as I
 use Rattle.placing.specs.Slots.{at_slot}
 use Rattle.items.specs.Items.{counts_at, header_at, replaces, cell_reps_from, net_reps_from, finish_at}
 use Rattle.placing.specs.Cells.{cells_of}
-use Rattle.voids.specs.Voids.{item_voids_at, voids_at}
+use Rattle.voids.specs.Voids.{record_voids_at, replacement_voids_at, pair_voids_at, voids_at}
 use Rattle.design_list.specs.Read.{Read, accepted, read_net_reps, read_cell_reps, read_cells, read}
 use Rattle.valid.specs.Words.{cell_words_of, replacement_words_of, pair_words_of, words_of_cells, words_of_replacements}
 use Rattle.valid.specs.Words.{words_of_pairs, words_of, replacements_at, pairs_at}
@@ -35,7 +33,7 @@ header_of d = record { base = d.base; added = d.added; cellreps = length d.cell_
 
 module _
     (w : List ℕ) (d : Design) (valid : Valid d) (short : length w ≤ 16384) (s : Stands w (length w) 0 (words_of d)) where
-  header-right : header_at w ≡ O.Read (header_of d)
+  header-right : header_at w ≡ Ok (header_of d)
   unfolding header_at counts_at
   header-right =
       let slots = valid.slots in
@@ -87,26 +85,26 @@ module _
   -- The second pass.
   voids-read :
       voids_at w (voids d) (length d.cells) (length d.cell_reps) (length d.net_reps)
-      ≡ Clean (pairs_at d + length (words_of_pairs d))
+      ≡ Ok (pairs_at d + length (words_of_pairs d))
   unfolding voids_at
   voids-read =
       rw (
-        scan-items w (length w) (item_voids_at w (voids d) I.Cell) cell_words_of
+        scan-items w (length w) (record_voids_at w (voids d)) cell_words_of
             (λ (p : Placed). Each (Readable d) (nets_beside_clock p.cell))
             (λ at p. record_voids d valid.slots valid.laid.run w short at p.cell)
             d.cells 4 cells_stand (cells_readable d valid),
-        scan-items w (length w) (item_voids_at w (voids d) I.Replacement) replacement_words_of
+        scan-items w (length w) (replacement_voids_at w (voids d)) replacement_words_of
             (λ (p : Placed). Each (Readable d) (nets_beside_clock p.cell))
             (replacement-voids d valid.slots valid.laid.run w short)
             d.cell_reps (replacements_at d) replacements_stand (replacements_readable d valid),
       )
-      (scan-items w (length w) (item_voids_at w (voids d) I.Pair) pair_words_of (λ (p : NetPair). Readable d p.to)
+      (scan-items w (length w) (pair_voids_at w (voids d)) pair_words_of (λ (p : NetPair). Readable d p.to)
       (pair-voids d valid.slots valid.laid.run w short)
       d.net_reps (pairs_at d) pairs_stand (pairs_readable d valid))
 
   finish_right :
       length w ≡ length (words_of d) →
-      finish_at w (pairs_at d + length (words_of_pairs d)) ≡ Clean (pairs_at d + length (words_of_pairs d))
+      finish_at w (pairs_at d + length (words_of_pairs d)) ≡ Ok (pairs_at d + length (words_of_pairs d))
   unfolding finish_at
   finish_right same =
       rw (eq-eqb (pairs_at d + length (words_of_pairs d)) (length w)

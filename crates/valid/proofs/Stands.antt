@@ -5,12 +5,12 @@ use Prim.Native.Nat.{ℕ, zero, suc, ◌+◌, ◌≤◌, ◌<◌}
 use native.Mathlib.Omega.{arith}
 use native.Mathlib.Nat.{add-zero, zero-add}
 use lib.ListN.{length, get_or, length-append}
+use Rattle.std.specs.Prelude.{Result, Ok}
+use Rattle.logic.specs.declared.Fault.{Fault}
 use Rattle.logic.specs.Table.{tab}
 use Rattle.logic.proofs.TableLaws.{tab_ext}
 use Rattle.cell.specs.Each.{Each}
 use Rattle.cell.proofs.EachLaws.{each_append}
-use Rattle.fields.specs.declared.Scan.{Scan}
-use Rattle.fields.specs.declared.Scan.TheVariants.{Clean}
 use Rattle.fields.specs.Field.{scan_many}
 
 -- What is read at each place from a place on.
@@ -86,11 +86,11 @@ module _ {w : List ℕ} {end at : ℕ} where
   stands_before to low s = record { reads = s.reads; fits = low }
 
 -- ---- Scans.
-module _ (w : List ℕ) (end : ℕ) (step : ℕ → Scan) where
+module _ (w : List ℕ) (end : ℕ) (step : ℕ → Result ℕ Fault) where
   -- Word by word.
   pub scan-words :
-      (P : ℕ → Type 0) → ((at : ℕ) → at < end → P (word_at w at) → step at ≡ Clean (at + 1)) →
-      (xs : List ℕ) (at : ℕ) → Stands w end at xs → Each P xs → scan_many step (length xs) at ≡ Clean (at + length xs)
+      (P : ℕ → Type 0) → ((at : ℕ) → at < end → P (word_at w at) → step at ≡ Ok (at + 1)) →
+      (xs : List ℕ) (at : ℕ) → Stands w end at xs → Each P xs → scan_many step (length xs) at ≡ Ok (at + length xs)
   unfolding scan_many
   scan-words P one [] at s all = rw add-zero
   scan-words P one (x ∷ xs) at s all =
@@ -101,9 +101,9 @@ module _ (w : List ℕ) (end : ℕ) (step : ℕ → Scan) where
   -- Item by item, each of some words.
   pub scan-items :
       {A : Type 0} (words : A → List ℕ) (P : A → Type 0) →
-      ((at : ℕ) (x : A) → Stands w end at (words x) → P x → step at ≡ Clean (at + length (words x))) →
+      ((at : ℕ) (x : A) → Stands w end at (words x) → P x → step at ≡ Ok (at + length (words x))) →
       (xs : List A) (at : ℕ) → Stands w end at (flat_map words xs) → Each P xs →
-      scan_many step (length xs) at ≡ Clean (at + length (flat_map words xs))
+      scan_many step (length xs) at ≡ Ok (at + length (flat_map words xs))
   unfolding scan_many flat_map
   scan-items words P one [] at s all = rw add-zero
   scan-items words P one (x ∷ xs) at s all =

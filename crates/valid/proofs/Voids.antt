@@ -7,6 +7,7 @@ use native.Mathlib.Omega.{arith}
 use lib.ListN.{length}
 use lib.Dec.{ltb, leb, eqb}
 use borrow.Author.Tests.{ltb-true, lt-ltb, eq-eqb}
+use Rattle.std.specs.Prelude.{Ok}
 use Rattle.logic.specs.Word.{kind_of, payload_of, word_of, number_word}
 use Rattle.logic.proofs.WordLaws.{kind_of_word, payload_of_word}
 use Rattle.logic.specs.Net.{Net, constant, slot, payload_of_net}
@@ -22,7 +23,6 @@ use Rattle.cell.proofs.EachLaws.{each_append}
 use Rattle.right.specs.Nets.{Within, nets_of}
 use Rattle.right.specs.Voids.{nets_beside_clock, NoVoid}
 use Rattle.right.specs.Laid.{Run}
-use Rattle.fields.specs.declared.Scan.TheVariants.{Clean}
 use Rattle.fields.specs.Field.{scan_many}
 use Rattle.placing.specs.Slots as Slots
 use Rattle.placing.specs.Slots.{takes}
@@ -119,7 +119,7 @@ module _ (d : Design) (few : total d ≤ 4096) (run : Run 0 d.cells (total d)) w
       (each-items pattern_words_of (NoVoidWord d) pattern_no_void (contents_of c).patterns))
 
   module _ (w : List ℕ) where
-    void-right : (clock at : ℕ) → NoVoidWord d (word_at w at) → void_at w (voids d) clock at ≡ Clean (at + 1)
+    void-right : (clock at : ℕ) → NoVoidWord d (word_at w at) → void_at w (voids d) clock at ≡ Ok (at + 1)
     unfolding void_at offends
     void-right clock at q =
         rw (go (leb (kind_of (word_at w at)) 1) (eqb at clock) (names_void (voids d) (payload_of (word_at w at))) q)
@@ -130,7 +130,7 @@ module _ (d : Design) (few : total d ≤ 4096) (run : Run 0 d.cells (total d)) w
         go true false c e = e
 
     -- A Dff's clock is not looked at.
-    clock-right : (at : ℕ) → void_at w (voids d) at at ≡ Clean (at + 1)
+    clock-right : (at : ℕ) → void_at w (voids d) at at ≡ Ok (at + 1)
     unfolding void_at offends
     clock-right at = rw (eq-eqb at at refl, go (leb (kind_of (word_at w at)) 1))
       where
@@ -140,14 +140,14 @@ module _ (d : Design) (few : total d ≤ 4096) (run : Run 0 d.cells (total d)) w
 
     words_right :
         (clock end at : ℕ) (xs : List ℕ) → Stands w end at xs → Each (NoVoidWord d) xs →
-        scan_many (void_at w (voids d) clock) (length xs) at ≡ Clean (at + length xs)
+        scan_many (void_at w (voids d) clock) (length xs) at ≡ Ok (at + length xs)
     words_right clock end at xs s all =
         scan-words w end (void_at w (voids d) clock) (NoVoidWord d) (λ place inside. void-right clock place) xs at s all
 
     -- The words of a cell other than a Dff.
     plain :
         (c : Cell) (clock end at : ℕ) → Each (Readable d) (nets_of c) → Stands w end at (body_of c) →
-        scan_many (void_at w (voids d) clock) (length (body_of c)) at ≡ Clean (at + length (body_of c))
+        scan_many (void_at w (voids d) clock) (length (body_of c)) at ≡ Ok (at + length (body_of c))
     plain c clock end at readable s =
         words_right clock end at (body_of c) s
         (each_append (NoVoidWord d) (map number_word (contents_of c).numbers) _
@@ -163,7 +163,7 @@ module _ (d : Design) (few : total d ≤ 4096) (run : Run 0 d.cells (total d)) w
         (f : FlipFlop) (end at : ℕ) → Each (Readable d) (nets_beside_clock (C.dff f)) →
         Stands w end (at + 1) (body_of (C.dff f)) →
         scan_many (void_at w (voids d) (at + 3)) (length (body_of (C.dff f))) (at + 1)
-        ≡ Clean (at + 1 + length (body_of (C.dff f)))
+        ≡ Ok (at + 1 + length (body_of (C.dff f)))
     unfolding scan_many
     flip_flop f end at readable s =
         let after : List ℕ = map control_word_of (f.clear ∷ f.reset ∷ f.enable ∷ [])
@@ -190,7 +190,7 @@ module _ (d : Design) (few : total d ≤ 4096) (run : Run 0 d.cells (total d)) w
         (c : Cell) (end at : ℕ) → Each (Readable d) (nets_beside_clock c) → Stands w end (at + 1) (body_of c) →
         scan_many (void_at w (voids d) (cond (stands_dff (standing_of (operation_of_cell c))) (at + 3) 0)) (length (body_of c))
         (at + 1)
-        ≡ Clean (at + 1 + length (body_of c))
+        ≡ Ok (at + 1 + length (body_of c))
     body-voids C.void end at r s = plain C.void 0 end (at + 1) r s
     body-voids C.note end at r s = plain C.note 0 end (at + 1) r s
     body-voids (C.input n) end at r s = plain (C.input n) 0 end (at + 1) r s
@@ -209,7 +209,7 @@ module _ (d : Design) (few : total d ≤ 4096) (run : Run 0 d.cells (total d)) w
     module _ (short : length w ≤ 16384) where
       pub record_voids :
           (at : ℕ) (c : Cell) → Stands w (length w) at (record_of c) → Each (Readable d) (nets_beside_clock c) →
-          record_voids_at w (voids d) at ≡ Clean (at + length (record_of c))
+          record_voids_at w (voids d) at ≡ Ok (at + length (record_of c))
       unfolding record_voids_at clock_at record_of
       record_voids at c s readable =
           let fits = s.fits in
@@ -227,7 +227,7 @@ module _ (d : Design) (few : total d ≤ 4096) (run : Run 0 d.cells (total d)) w
       pub replacement-voids :
           (at : ℕ) (p : Placed) → Stands w (length w) at (replacement_words_of p) →
           Each (Readable d) (nets_beside_clock p.cell) →
-          replacement_voids_at w (voids d) at ≡ Clean (at + length (replacement_words_of p))
+          replacement_voids_at w (voids d) at ≡ Ok (at + length (replacement_words_of p))
       unfolding replacement_voids_at
       replacement-voids at p s readable =
           let place : at + suc (length (record_of p.cell)) ≡ at + 1 + length (record_of p.cell) = omega arith in
@@ -235,7 +235,7 @@ module _ (d : Design) (few : total d ≤ 4096) (run : Run 0 d.cells (total d)) w
 
       pub pair-voids :
           (at : ℕ) (p : NetPair) → Stands w (length w) at (pair_words_of p) → Readable d p.to →
-          pair_voids_at w (voids d) at ≡ Clean (at + 2)
+          pair_voids_at w (voids d) at ≡ Ok (at + 2)
       unfolding pair_voids_at
       pair-voids at p s readable =
           let place : at + 2 ≡ at + 1 + 1 = omega arith in

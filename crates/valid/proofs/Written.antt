@@ -7,6 +7,7 @@ use native.Mathlib.Omega.{arith}
 use lib.ListN.{length, length-map}
 use lib.Dec.{ltb, eqb}
 use borrow.Author.Tests.{ne_eqb}
+use Rattle.std.specs.Prelude.{Result, Ok, Err}
 use Rattle.logic.specs.Word.{kind_of, number_word}
 use Rattle.logic.specs.Table.{tab}
 use Rattle.logic.proofs.TableLaws.{length-tab}
@@ -16,19 +17,12 @@ use Rattle.cell.specs.Operation.{numbers_of, fields_of}
 use Rattle.cell.specs.declared.Operation.{Operation}
 use Rattle.cell.specs.declared.Numbers.{Numbers}
 use Rattle.cell.specs.declared.Fields.{Fields}
-use Rattle.fields.specs.declared.Number.{Number}
-use Rattle.fields.specs.declared.Number.TheVariants as N
-use Rattle.fields.specs.declared.Scan.{Scan}
-use Rattle.fields.specs.declared.Scan.TheVariants as S
 use Rattle.fields.specs.declared.Head.{Head}
-use Rattle.fields.specs.declared.Head.TheVariants as H
-use Rattle.fields.specs.Field.{on_number, on_scan, number_at}
+use Rattle.fields.specs.Field.{on_number, on_read, number_at}
 use Rattle.fields.specs.Head.{on_head, head_at}
 use Rattle.fields.proofs.AcceptedLaws.{number_read, IsHead, head_read}
 use Rattle.cell_reader.specs.declared.Leading.{Leading}
-use Rattle.cell_reader.specs.declared.Leading.TheVariants as L
 use Rattle.cell_reader.specs.declared.Record.{Record}
-use Rattle.cell_reader.specs.declared.Record.TheVariants as R
 use Rattle.cell_reader.specs.Record.{on_leading, third_at, second_at, first_at, leading_at, body_at}
 use Rattle.cell_reader.specs.Record.{contents_at, record_at}
 use Rattle.cell_reader.specs.Parse.{number_in, control_in, nets_in, trits_in, patterns_in, cell_in, op_at, cell_at}
@@ -40,32 +34,35 @@ use Rattle.valid.proofs.Spans.{Spans, spans_one, spans_then, spans_tab, number_w
 use Rattle.valid.proofs.Spans.{constants_span, patterns_span}
 use Rattle.valid.proofs.Parts.{Parts, cell_parts}
 use Rattle.valid.proofs.Heads.{operation_in, head_word_lem}
+use Rattle.cell_reader.specs.Record.{leading}
+use Rattle.cell_reader.specs.Record.{cell_record}
+use Rattle.cell_reader.proofs.AcceptedLaws.{record_parts}
 
 -- ---- Leading numbers.
 -- A number was read, and what follows it.
-record Valued (v : Number) (f : ℕ → ℕ → Leading) (n m next : ℕ) : Type 0 where
+record Valued (v : Result (ℕ × ℕ) Fault) (f : ℕ → ℕ → Result Leading Fault) (n m next : ℕ) : Type 0 where
   number : ℕ
   place : ℕ
-  value : v ≡ N.Value number place
-  rest : f number place ≡ L.Read n m next
+  value : v ≡ Ok (number, place)
+  rest : f number place ≡ Ok (leading n m next)
 
 valued :
-    (v : Number) (f : ℕ → ℕ → Leading) {n m next : ℕ} → on_number v L.Refused f ≡ L.Read n m next → Valued v f n m next
-valued (N.Value number place) f e = record { number = number; place = place; value = refl; rest = e }
-valued (N.Refused fault) f e = let z : ◌≡◌ {A = ℕ} 0 1 = cc in absurd (omega arith)
+    (v : Result (ℕ × ℕ) Fault) (f : ℕ → ℕ → Result Leading Fault) {n m next : ℕ} → on_number v Err f ≡ Ok (leading n m next) → Valued v f n m next
+valued (Ok (number, place)) f e = record { number = number; place = place; value = refl; rest = e }
+valued (Err fault) f e = let z : ◌≡◌ {A = ℕ} 0 1 = cc in absurd (omega arith)
 
 kept :
-    (b : Bool) (fault : Fault) (l : Leading) {n m next : ℕ} → cond b (L.Refused fault) l ≡ L.Read n m next →
-    l ≡ L.Read n m next
+    (b : Bool) (fault : Fault) (l : Result Leading Fault) {n m next : ℕ} → cond b (Err fault) l ≡ Ok (leading n m next) →
+    l ≡ Ok (leading n m next)
 kept true fault l e = let z : ◌≡◌ {A = ℕ} 0 1 = cc in absurd (omega arith)
 kept false fault l e = e
 
-otherwise : (b : Bool) (x y : Leading) {z : Leading} → b ≡ false → cond b x y ≡ z → y ≡ z
+otherwise : (b : Bool) (x y : Result Leading Fault) {z : Result Leading Fault} → b ≡ false → cond b x y ≡ z → y ≡ z
 otherwise b x y is e = rw is at e
 
 module _ (w : List ℕ) (numbers : Numbers) (end : ℕ) where
   third_number :
-      (n m at : ℕ) {n₁ m₁ next : ℕ} → third_at w numbers end n m at ≡ L.Read n₁ m₁ next → kind_of (word_at w at) ≡ 3
+      (n m at : ℕ) {n₁ m₁ next : ℕ} → third_at w numbers end n m at ≡ Ok (leading n₁ m₁ next) → kind_of (word_at w at) ≡ 3
   unfolding third_at
   third_number n m at read =
       let third = valued (number_at w (2 ^ 29 - 1) end at) _ read in
@@ -73,7 +70,7 @@ module _ (w : List ℕ) (numbers : Numbers) (end : ℕ) where
 
   -- The third number stands one place after the second, and two after the first.
   third_after-second :
-      (n at : ℕ) {n₁ m₁ next : ℕ} → 2 < numbers.count → second_at w numbers end n at ≡ L.Read n₁ m₁ next →
+      (n at : ℕ) {n₁ m₁ next : ℕ} → 2 < numbers.count → second_at w numbers end n at ≡ Ok (leading n₁ m₁ next) →
       kind_of (word_at w (at + 1)) ≡ 3
   unfolding second_at
   third_after-second n at many read =
@@ -84,7 +81,7 @@ module _ (w : List ℕ) (numbers : Numbers) (end : ℕ) where
       (otherwise (eqb numbers.count 2) _ _ (ne_eqb numbers.count 2 (λ e. omega arith)) second.rest))
 
   third_kind :
-      (at : ℕ) {n m next : ℕ} → 2 < numbers.count → leading_at w numbers end at ≡ L.Read n m next →
+      (at : ℕ) {n m next : ℕ} → 2 < numbers.count → leading_at w numbers end at ≡ Ok (leading n m next) →
       kind_of (word_at w (at + 2)) ≡ 3
   unfolding leading_at first_at
   third_kind at many read =
@@ -99,7 +96,7 @@ module _ (w : List ℕ) (numbers : Numbers) (end : ℕ) where
       (otherwise (eqb numbers.count 1) _ _ (ne_eqb numbers.count 1 (λ e. omega arith)) right))
 
   numbers_span :
-      (at : ℕ) {n m next : ℕ} → numbers.count ≤ 3 → leading_at w numbers end at ≡ L.Read n m next →
+      (at : ℕ) {n m next : ℕ} → numbers.count ≤ 3 → leading_at w numbers end at ≡ Ok (leading n m next) →
       Spans w at (map number_word (tab numbers.count (λ i. number_in w (at + i)))) next
   numbers_span at {n} {m} {next} few read =
       spans_tab w number_word (number_in w) numbers.count at next (leading.after few)
@@ -147,8 +144,8 @@ body_joins {w} {at} {count} {layout} {n} {c} parts start nets constants patterns
 
 module _ (w : List ℕ) (total : ℕ) where
   body_span :
-      (op : Operation) (end at n m start after : ℕ) → leading_at w (numbers_of op) end at ≡ L.Read n m start →
-      body_at w total (fields_of op n m) n end start ≡ S.Clean after →
+      (op : Operation) (end at n m start after : ℕ) → leading_at w (numbers_of op) end at ≡ Ok (leading n m start) →
+      body_at w total (fields_of op n m) n end start ≡ Ok after →
       (after ≡ end) × Spans w at (body_of (cell_in w op at)) end
   body_span op end at n m start after leading clean =
       let is = leading-read w (numbers_of op) end at leading in
@@ -168,8 +165,8 @@ module _ (w : List ℕ) (total : ℕ) where
   -- ---- Records.
   record_joins :
       (at : ℕ) (op : Operation) (first end n m start after : ℕ) → IsHead w at op first end →
-      leading_at w (numbers_of op) end first ≡ L.Read n m start →
-      body_at w total (fields_of op n m) n end start ≡ S.Clean after → Spans w at (record_of (cell_at w at)) after
+      leading_at w (numbers_of op) end first ≡ Ok (leading n m start) →
+      body_at w total (fields_of op n m) n end start ≡ Ok after → Spans w at (record_of (cell_at w at)) after
   unfolding cell_at record_of
   record_joins at op first end n m start after is leading clean =
       let begins : first ≡ at + 1 = is.start in
@@ -179,37 +176,37 @@ module _ (w : List ℕ) (total : ℕ) where
       rw (decoded, operation_in w op (at + 1), span.0) (spans_then _ _ (spans_one word refl) span.1)
 
   pub record_span :
-      (at : ℕ) {op : Operation} {width next : ℕ} → record_at w total at ≡ R.Read op width next →
+      (at : ℕ) {op : Operation} {width next : ℕ} → record_at w total at ≡ Ok (cell_record op width next) →
       Spans w at (record_of (cell_at w at)) next
   unfolding record_at contents_at
-  record_span at {op} {width} {next} read = head (head_at w at) refl read
+  record_span at {op} {width} {next} read = headed (head_at w at) refl read
     where
       body :
           (o : Operation) (first end n m start : ℕ) → IsHead w at o first end →
-          leading_at w (numbers_of o) end first ≡ L.Read n m start → (s : Scan) →
+          leading_at w (numbers_of o) end first ≡ Ok (leading n m start) → (s : Result ℕ Fault) →
           body_at w total (fields_of o n m) n end start ≡ s →
-          on_scan s R.Refused (λ (after : ℕ). R.Read o (fields_of o n m).width after) ≡ R.Read op width next →
+          on_read s Err (λ (after : ℕ). Ok (cell_record o (fields_of o n m).width after)) ≡ Ok (cell_record op width next) →
           Spans w at (record_of (cell_at w at)) next
-      body o first end n m start h l (S.Refused f) s e = let z : ◌≡◌ {A = ℕ} 0 1 = cc in absurd (omega arith)
-      body o first end n m start h l (S.Clean after) s e =
-          let same : after ≡ next = cc in rw same at (record_joins at o first end n m start after h l s)
+      body o first end n m start h l (Err f) s e = let z : ◌≡◌ {A = ℕ} 0 1 = cc in absurd (omega arith)
+      body o first end n m start h l (Ok after) s e =
+          let same : after ≡ next = (record_parts e).1.1 in rw same at (record_joins at o first end n m start after h l s)
 
       lead :
-          (o : Operation) (first end : ℕ) → IsHead w at o first end → (l : Leading) →
+          (o : Operation) (first end : ℕ) → IsHead w at o first end → (l : Result Leading Fault) →
           leading_at w (numbers_of o) end first ≡ l →
-          on_leading l R.Refused (λ (n m start : ℕ).
-          on_scan (body_at w total (fields_of o n m) n end start) R.Refused
-          (λ (after : ℕ). R.Read o (fields_of o n m).width after))
-          ≡ R.Read op width next → Spans w at (record_of (cell_at w at)) next
-      lead o first end h (L.Refused f) l e = let z : ◌≡◌ {A = ℕ} 0 1 = cc in absurd (omega arith)
-      lead o first end h (L.Read n m start) l e =
-          body o first end n m start h l (body_at w total (fields_of o n m) n end start) refl e
+          on_leading l Err (λ (n m start : ℕ).
+          on_read (body_at w total (fields_of o n m) n end start) Err
+          (λ (after : ℕ). Ok (cell_record o (fields_of o n m).width after)))
+          ≡ Ok (cell_record op width next) → Spans w at (record_of (cell_at w at)) next
+      lead o first end h (Err f) l e = let z : ◌≡◌ {A = ℕ} 0 1 = cc in absurd (omega arith)
+      lead o first end h (Ok x) l e =
+          body o first end x.n x.m x.next h l (body_at w total (fields_of o x.n x.m) x.n end x.next) refl e
 
-      head :
-          (h : Head) → head_at w at ≡ h →
-          on_head h R.Refused (λ (o : Operation) (first end : ℕ). contents_at w total o end first)
-          ≡ R.Read op width next →
+      headed :
+          (h : Result Head Fault) → head_at w at ≡ h →
+          on_head h Err (λ (o : Operation) (first end : ℕ). contents_at w total o end first)
+          ≡ Ok (cell_record op width next) →
           Spans w at (record_of (cell_at w at)) next
-      head (H.Refused f) h e = let z : ◌≡◌ {A = ℕ} 0 1 = cc in absurd (omega arith)
-      head (H.Record o first end) h e =
-          lead o first end (head_read w at h) (leading_at w (numbers_of o) end first) refl e
+      headed (Err f) h e = let z : ◌≡◌ {A = ℕ} 0 1 = cc in absurd (omega arith)
+      headed (Ok x) h e =
+          lead x.op x.first x.end (head_read w at h) (leading_at w (numbers_of x.op) x.end x.first) refl e

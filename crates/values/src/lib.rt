@@ -33,14 +33,12 @@ fn net_terms(
         calls.new names.new marks.new result (elements terms.new n) }
 {
     let mut counts = c;
-    let mut i: u32 = 0;
-    while i < n {
+    for i in 0..n {
         let word = logic::word_at(words, at as usize + i as usize);
         let net = Net(logic::payload(word));
         let made = nets::read_net(reading, table, calls, names, marks, counts, net);
         vectors::put_element(terms, i, made.value);
         counts = made.counts;
-        i += 1;
     }
     counts
 }

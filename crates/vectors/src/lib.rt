@@ -20,13 +20,11 @@ pub fn bv_concat(calls: &mut [u32], c: Counts, terms: &[u32], n: u32) -> Built
             counts: c,
         };
     }
-    let mut i = n - 1;
     let mut result = Built {
-        term: Term(logic::word_at(terms, i as usize)),
+        term: Term(logic::word_at(terms, (n - 1) as usize)),
         counts: c,
     };
-    while 0 < i {
-        i -= 1;
+    for i in (0..n - 1).rev() {
         let elem = Term(logic::word_at(terms, i as usize));
         result = builder::build_concat(calls, result.counts, result.term, elem);
     }
@@ -78,14 +76,11 @@ pub fn tv_concat(calls: &mut [u32], c: Counts, terms: &[u32], n: u32) -> BuiltTr
             counts: c,
         };
     }
-    let mut i = n - 1;
-    let top = element_at(terms, i);
     let mut result = BuiltTrits {
-        value: top,
+        value: element_at(terms, n - 1),
         counts: c,
     };
-    while 0 < i {
-        i -= 1;
+    for i in (0..n - 1).rev() {
         let elem = element_at(terms, i);
         result = tv_join(calls, result.counts, result.value, elem);
     }

@@ -4,9 +4,8 @@
 // lent slice is filled first, and compared whole. The last line counts the lists that are answered as stored.
 #![tactic(auto)]
 
-use builder::Counts;
+use logic::Fault;
 use requirement::Verified;
-use word_input::Next;
 
 // The file descriptor of standard output.
 const STDOUT_FILENO: i32 = 1;
@@ -19,78 +18,48 @@ const UNTOUCHED_MARK: u8 = 165;
 // The head of a check record.
 const CHECK: u32 = 1073741847;
 
-fn wide(mark: u8) -> u32 {
-    mark as u32
-}
-
-// The mark at a slot, as a word.
-fn mark_at(marks: &[u8], at: usize) -> u32 {
-    if at < marks.len() { wide(marks[at]) } else { 0 }
-}
-
 // Whether a slice has the n stored words and is untouched past them.
 fn holds_words(slice: &[u32], stored: &[u32], n: usize) -> bool {
-    let mut at: usize = 0;
-    while at < slice.len() {
+    for (at, word) in slice.iter().enumerate() {
         let expected = if at < n {
             logic::word_at(stored, at)
         } else {
             UNTOUCHED_WORD
         };
-        if logic::word_at(slice, at) != expected {
+        if *word != expected {
             return false;
         }
-        at += 1;
     }
     true
 }
 
 // Whether a recorded slice has the n stored marks and is untouched past them.
 fn holds_marks(slice: &[u8], stored: &[u32], n: usize) -> bool {
-    let mut at: usize = 0;
-    while at < slice.len() {
+    for (at, mark) in slice.iter().enumerate() {
         let expected = if at < n {
             logic::word_at(stored, at)
         } else {
-            wide(UNTOUCHED_MARK)
+            u32::from(UNTOUCHED_MARK)
         };
-        if mark_at(slice, at) != expected {
+        if u32::from(*mark) != expected {
             return false;
         }
-        at += 1;
     }
     true
 }
 
 // Whether a stored call list ends in a check.
 fn ends_in_check(stored: &[u32], n: usize) -> bool {
-    if n == 0 {
-        return false;
-    }
-    logic::word_at(stored, n - 1) == CHECK
+    0 < n && logic::word_at(stored, n - 1) == CHECK
 }
 
 // Whether an answer says that something is asked just where it should, and counts n words.
-fn tells(answer: Verified, asked: bool, n: usize) -> bool {
+fn tells(answer: Result<Verified, Fault>, asked: bool, n: usize) -> bool {
     match answer {
-        Verified::Refused(_) => false,
-        Verified::NothingAsked(c) => {
-            if asked {
-                return false;
-            }
-            counts_words(c, n)
-        }
-        Verified::Asked(c) => {
-            if asked {
-                return counts_words(c, n);
-            }
-            false
-        }
+        Err(_) => false,
+        Ok(Verified::NothingAsked(c)) => !asked && c.words == n,
+        Ok(Verified::Asked(c)) => asked && c.words == n,
     }
-}
-
-fn counts_words(c: Counts, n: usize) -> bool {
-    c.words == n
 }
 
 // Whether a list is accepted with the stored call words and marks.
@@ -105,12 +74,9 @@ fn accepted_as_stored(
     let mut calls = [UNTOUCHED_WORD; 4096];
     let mut recorded = [UNTOUCHED_MARK; 4096];
     let answer = design::verify(mode, list, &mut calls, &mut recorded);
-    if tells(answer, ends_in_check(stored, words), words) {
-        if holds_words(&calls, stored, words) {
-            return holds_marks(&recorded, stored_marks, slots);
-        }
-    }
-    false
+    tells(answer, ends_in_check(stored, words), words)
+        && holds_words(&calls, stored, words)
+        && holds_marks(&recorded, stored_marks, slots)
 }
 
 // Whether a list is refused with the stored number and place, and both slices are untouched.
@@ -118,18 +84,13 @@ fn refused_as_stored(mode: u32, list: &[u32], number: u32, place: u32) -> bool {
     let mut calls = [UNTOUCHED_WORD; 4096];
     let mut recorded = [UNTOUCHED_MARK; 4096];
     match design::verify(mode, list, &mut calls, &mut recorded) {
-        Verified::Refused(f) => {
-            if f.number == number {
-                if f.place == place as usize {
-                    if holds_words(&calls, list, 0) {
-                        return holds_marks(&recorded, list, 0);
-                    }
-                }
-            }
-            false
+        Err(f) => {
+            f.number == number
+                && f.place == place as usize
+                && holds_words(&calls, list, 0)
+                && holds_marks(&recorded, list, 0)
         }
-        Verified::NothingAsked(_) => false,
-        Verified::Asked(_) => false,
+        Ok(_) => false,
     }
 }
 
@@ -181,20 +142,18 @@ fn show_difference(number: u32) {
 
 // How many of the lists of the input are answered as stored.
 fn replay_all() -> u32 {
-    let mut number: u32 = 0;
     let mut same: u32 = 0;
-    while number < 1000 {
+    for number in 0..1000 {
         match word_input::next_word() {
-            Next::End => {
+            None => {
                 return same;
             }
-            Next::Word(kind) => {
+            Some(kind) => {
                 if replay(kind) {
                     same += 1;
                 } else {
                     show_difference(number);
                 }
-                number += 1;
             }
         }
     }

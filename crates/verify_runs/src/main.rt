@@ -2,8 +2,6 @@
 // case is its name and its input, each after its length in a little-endian word.
 #![tactic(auto)]
 
-use word_input::Next;
-
 // The file descriptors of standard input and standard output.
 const STDIN_FILENO: i32 = 0;
 
@@ -54,8 +52,8 @@ fn run_case(n: usize) {
 // One case, if the input has one.
 fn turn() -> bool {
     match word_input::next_word() {
-        Next::End => false,
-        Next::Word(length) => {
+        None => false,
+        Some(length) => {
             show_name(length as usize);
             run_case(word_input::word_or_zero() as usize);
             true
@@ -64,11 +62,8 @@ fn turn() -> bool {
 }
 
 fn main() {
-    let mut left: u32 = 1000;
-    while 0 < left {
-        if turn() {
-            left -= 1;
-        } else {
+    for _ in 0..1000 {
+        if !turn() {
             return;
         }
     }

@@ -1,16 +1,17 @@
 -- Document 01, "Faults and what stays", and document 02, changes 4 and 7. The answers of the C interface for a design
 -- list, each packed into one word of 64 bits, and what the slices hold.
-use Rattle.std.specs.Prelude.{◌≡◌, List, ℕ, length}
-use Rattle.design_list.specs.declared.DesignRead.{DesignRead}
+use Rattle.std.specs.Prelude.{◌≡◌, List, ℕ, length, Result}
+use Rattle.logic.specs.declared.Fault.{Fault}
 use Rattle.design_list.specs.Read.{Read, number_of, value_of}
 use Rattle.requirement.specs.Verified.{verified, unroomed, calls_after, recorded_after}
 use Rattle.packing.specs.Packed.{packed_as}
 use Rattle.packed.specs.Verified.{packed_verified, Told}
 use Rattle.ordering.specs.Answer.{order_of, slots_after}
 use Rattle.packed_order.specs.Packed.{packed_order}
+use Rattle.design_list.specs.declared.Extent.{Extent}
 
 -- The reader's number, and below it the place of the fault or base + added.
-abbrev pub packed : DesignRead → ℕ
+abbrev pub packed : Result Extent Fault → ℕ
 packed a = packed_as (number_of a) (value_of a)
 
 -- What the order of work answers in a mode, packed, and what it leaves in the two slices.

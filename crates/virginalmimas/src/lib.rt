@@ -7,16 +7,14 @@ ghost use Rattle.design_list.specs.Read.{read, answer};
 ghost use Rattle.virginalmimas.specs.Packed.{packed, PackedVerified, PackedCounts, PackedOrder};
 ghost use Rattle.packed_calls.specs.Packed.{PackedCheck, checked_of, PackedEvaluation, PackedScript, PackedAnswer};
 
-use design_list::DesignRead;
-
 // Reads a design list: the fault's number and place, or 0 and the number of slots.
 #[unsafe(no_mangle)]
 pub extern "C" fn vm_read(list: &[u32]) -> u64
     ensures { result ≡ packed (answer (read Ported list.now)) }
 {
     match design_list::read_design(list) {
-        DesignRead::Refused(f) => packing::packed_fault(f),
-        DesignRead::Accepted(x) => x.base as u64 + x.added as u64,
+        Ok(x) => x.base as u64 + x.added as u64,
+        Err(f) => packing::packed_fault(f),
     }
 }
 

@@ -9,17 +9,16 @@ use native.Mathlib.Omega.{arith}
 use lib.Dec.{eqb}
 use lib.ListN.{length, take}
 use lib.Seq.{sets-eq, take_at}
+use Rattle.std.specs.Prelude.{Result, Ok, Err}
+use Rattle.logic.specs.declared.Fault.{Fault}
 use Rattle.cell.specs.declared.Mode.{Mode}
 use Rattle.cell.specs.declared.Mode.TheVariants.{Ported, Inductive}
 use Rattle.cell.specs.Cell.{Cell, output_len, slots_of}
 use Rattle.cell.specs.Design.{Design, Placed, NetPair, total}
 use Rattle.right.specs.Laid.{Run}
-use Rattle.fields.specs.declared.Number.{Number}
-use Rattle.fields.specs.declared.Number.TheVariants as N
 use Rattle.fields.specs.Field.{on_number, number_at}
 use Rattle.fields.proofs.AcceptedLaws.{number_read}
 use Rattle.items.specs.declared.Header.{Header}
-use Rattle.items.specs.declared.Opening.TheVariants as O
 use Rattle.items.specs.Items.{counts_at, header_at, net_pair, pair_at}
 use Rattle.design_list.specs.Read.{read, accepted}
 use Rattle.design_list.proofs.AcceptedLaws.{accepted-read}
@@ -87,31 +86,31 @@ run_length s e [] run = omega arith
 run_length s e (p ∷ cells) run = let more = run_length (s + slots_of p.cell) e cells run.1 in omega arith
 
 -- A header that was read has at most 4,096 net replacements.
-header-pairs : (w : List ℕ) {h : Header} → header_at w ≡ O.Read h → h.netreps ≤ 4096
+header-pairs : (w : List ℕ) {h : Header} → header_at w ≡ Ok h → h.netreps ≤ 4096
 unfolding header_at counts_at
 header-pairs w {h} read = base_read (number_at w 4096 4 0) read
   where
-    counts : (base added : ℕ) (n₁ n₂ : Number) → number_at w 4096 4 3 ≡ n₂ →
-        on_number n₁ O.Refused (λ (cellreps _ : ℕ). on_number n₂ O.Refused (λ (netreps _ : ℕ).
-        O.Read record { base = base; added = added; cellreps = cellreps; netreps = netreps })) ≡ O.Read h →
+    counts : (base added : ℕ) (n₁ n₂ : Result (ℕ × ℕ) Fault) → number_at w 4096 4 3 ≡ n₂ →
+        on_number n₁ Err (λ (cellreps _ : ℕ). on_number n₂ Err (λ (netreps _ : ℕ).
+        Ok record { base = base; added = added; cellreps = cellreps; netreps = netreps })) ≡ Ok h →
         h.netreps ≤ 4096
-    counts base added (N.Refused f) n₂ n e = let z : ◌≡◌ {A = ℕ} 0 1 = cc in absurd (omega arith)
-    counts base added (N.Value a b) (N.Refused f) n e = let z : ◌≡◌ {A = ℕ} 0 1 = cc in absurd (omega arith)
-    counts base added (N.Value a b) (N.Value k next) n e =
+    counts base added (Err f) n₂ n e = let z : ◌≡◌ {A = ℕ} 0 1 = cc in absurd (omega arith)
+    counts base added (Ok (a, b)) (Err f) n e = let z : ◌≡◌ {A = ℕ} 0 1 = cc in absurd (omega arith)
+    counts base added (Ok (a, b)) (Ok (k, next)) n e =
         let same : record { base = base; added = added; cellreps = a; netreps = k } ≡ h = cc in
         rw (← same) (number_read w 4096 4 3 n).bounded
 
-    added-read : (base : ℕ) (n : Number) → on_number n O.Refused (λ (added _ : ℕ). counts_at w base added) ≡ O.Read h →
+    added-read : (base : ℕ) (n : Result (ℕ × ℕ) Fault) → on_number n Err (λ (added _ : ℕ). counts_at w base added) ≡ Ok h →
         h.netreps ≤ 4096
-    added-read base (N.Refused f) e = let z : ◌≡◌ {A = ℕ} 0 1 = cc in absurd (omega arith)
-    added-read base (N.Value added next) e = counts base added (number_at w 4096 4 2) (number_at w 4096 4 3) refl e
+    added-read base (Err f) e = let z : ◌≡◌ {A = ℕ} 0 1 = cc in absurd (omega arith)
+    added-read base (Ok (added, next)) e = counts base added (number_at w 4096 4 2) (number_at w 4096 4 3) refl e
 
-    base_read : (n : Number) →
-        on_number n O.Refused (λ (base _ : ℕ).
-        on_number (number_at w (4096 - base) 4 1) O.Refused (λ (added _ : ℕ). counts_at w base added)) ≡ O.Read h →
+    base_read : (n : Result (ℕ × ℕ) Fault) →
+        on_number n Err (λ (base _ : ℕ).
+        on_number (number_at w (4096 - base) 4 1) Err (λ (added _ : ℕ). counts_at w base added)) ≡ Ok h →
         h.netreps ≤ 4096
-    base_read (N.Refused f) e = let z : ◌≡◌ {A = ℕ} 0 1 = cc in absurd (omega arith)
-    base_read (N.Value base next) e = added-read base (number_at w (4096 - base) 4 1) e
+    base_read (Err f) e = let z : ◌≡◌ {A = ℕ} 0 1 = cc in absurd (omega arith)
+    base_read (Ok (base, next)) e = added-read base (number_at w (4096 - base) 4 1) e
 
 module _ (mode : Mode) (w : List ℕ) {d : Design} {replacements pairs : ℕ}
     (accepts : read mode w ≡ accepted d replacements pairs) where

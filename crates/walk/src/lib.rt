@@ -20,8 +20,7 @@ use net_pairs::Walked;
 fn slots_at(table: &[u32], slot: Slot) -> u32
     ensures { result ≡ max 1 (width_in table.now slot.0) }
 {
-    let width = slots::width_at(table, slot);
-    if width < 1 { 1 } else { width }
+    slots::width_at(table, slot).max(1)
 }
 
 // Every cell in slot order, and with it the next cell replacement where it is the cell's; the replacements end where

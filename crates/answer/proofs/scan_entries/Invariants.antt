@@ -1,8 +1,7 @@
 -- `answer::scan_entries` meets its contract. The loop's invariant: reading goes on from `slot` and `at` as it does from
--- the start. The measure is the number of marks left. Assumes nothing.
-use Prim.Native.Nat.{◌-◌}
+-- the start. Assumes nothing.
 use mathlib.Core.Path.{◌≡◌}
-use lib.ListN.{length, drop}
+use lib.ListN.{drop}
 use Rattle.tokens.specs.Place.{tokens_from}
 use Rattle.answer.specs.Entries.{entries, forget}
 use Rattle.answer.proofs.scan_entries.Given as goal
@@ -10,6 +9,3 @@ use Rattle.answer.proofs.scan_entries.Given as goal
 abbrev pub invariant-loop-slot : goal.invariant-loop-slot
 invariant-loop-slot l = forget (entries 0 l.recorded (tokens_from l.text l.start))
     ≡ forget (entries l.slot (drop l.slot l.recorded) (tokens_from l.text l.at))
-
-abbrev pub decreases-loop-slot : goal.decreases-loop-slot
-decreases-loop-slot l = length l.recorded - l.slot

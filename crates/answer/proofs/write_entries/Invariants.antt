@@ -1,8 +1,7 @@
 -- `answer::write_entries` meets its contract. The loop's invariant: what is left to write from `slot` on completes the
--- table. The measure is the number of marks left. Assumes nothing.
-use Prim.Native.Nat.{◌-◌}
+-- table. Assumes nothing.
 use mathlib.Core.Path.{◌≡◌}
-use lib.ListN.{length, drop}
+use lib.ListN.{drop}
 use Rattle.engine.specs.Emit.{overwrite}
 use Rattle.tokens.specs.Place.{tokens_from}
 use Rattle.answer.specs.Entries.{entries_written}
@@ -10,9 +9,5 @@ use Rattle.answer.proofs.write_entries.Given as goal
 
 abbrev pub invariant-loop-slot : goal.invariant-loop-slot
 invariant-loop-slot l =
-    (length l.trits ≡ length l.initial.trits)
-    × (overwrite l.initial.trits 0 (entries_written 0 l.recorded (tokens_from l.text l.start))
-    ≡ overwrite l.trits l.slot (entries_written l.slot (drop l.slot l.recorded) (tokens_from l.text l.at)))
-
-abbrev pub decreases-loop-slot : goal.decreases-loop-slot
-decreases-loop-slot l = length l.recorded - l.slot
+    overwrite l.initial.trits 0 (entries_written 0 l.recorded (tokens_from l.text l.start))
+    ≡ overwrite l.trits l.slot (entries_written l.slot (drop l.slot l.recorded) (tokens_from l.text l.at))

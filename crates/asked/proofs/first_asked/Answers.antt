@@ -1,6 +1,5 @@
 -- `asked::first_asked` meets its contract. The loop's invariant: the marks before `slot` ask for nothing.
--- The measure is the number of marks left. Assumes nothing.
-use Prim.Native.Nat.{◌-◌}
+-- Assumes nothing.
 use mathlib.Core.Path.{◌∙◌}
 use Rattle.asked.proofs.Ending.{asked-next}
 use Rattle.asked.proofs.first_asked.Goals as goal

@@ -1,6 +1,5 @@
 -- `asked::has_check` meets its contract. The loop's invariant: the records before `head` have no check.
 -- The measure is what is left of the list. Assumes nothing.
-use Prim.Native.Nat.{◌-◌}
 use mathlib.Core.Path.{◌≡◌, sym, ◌∙◌}
 use native.Mathlib.Omega.{arith}
 use Rattle.engine.specs.Encode.{bare, next_at}

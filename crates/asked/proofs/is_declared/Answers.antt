@@ -1,6 +1,5 @@
 -- `asked::is_declared` meets its contract. The loop's invariant: no record before `head` declares the name.
 -- The measure is what is left of the list. Assumes nothing.
-use Prim.Native.Nat.{◌-◌}
 use mathlib.Core.Path.{◌≡◌, sym, ◌∙◌}
 use native.Mathlib.Omega.{arith}
 use Rattle.engine.specs.Encode.{bare, next_at}

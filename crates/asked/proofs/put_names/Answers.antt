@@ -1,6 +1,5 @@
 -- `asked::put_names` meets its contract. The loop's invariant: what is written and what the marks from `slot` on ask
--- for are all names. The measure is the number of marks left. Assumes nothing.
-use Prim.Native.Nat.{◌-◌}
+-- for are all names. Assumes nothing.
 use mathlib.Core.Path.{refl, ◌∙◌}
 use mathlib.Core.List.{[]}
 use native.Mathlib.Omega.{arith}
@@ -16,11 +15,11 @@ loop-slot-preserved c =
     let inv = c.loop-slot.invariant in (
       _,
       c.put_mark_names-at.auto.text ∙ inv.1,
-      names-next inv.2 c.loop-slot-test.true,
+      names-next inv.2 (omega arith),
       wrote_then inv.3 c.put_mark_names-at.ensures c.well_formed.0.0,
     )
 
 pub returns : goal.returns
 returns c =
     let inv = c.loop-slot.invariant in
-    rw (names-end inv.2 c.loop-slot-test.false) at inv.3
+    rw (names-end inv.2 (omega arith)) at inv.3

@@ -1,9 +1,7 @@
 -- `bits_given::bits_fault` meets its contract: between two records the fault is what the records left say. The measure
 -- is how many words are left. Assumes nothing.
-use Prim.Native.Nat.{◌-◌}
-use mathlib.Core.Path.{sym, ap, ◌∙◌}
+use mathlib.Core.Path.{sym, ◌∙◌}
 use native.Mathlib.Omega.{arith}
-use Rattle.record_faults.specs.Faults.{wrong_as}
 use Rattle.call_list.proofs.CursorsLaws.{passed-next}
 use Rattle.bits_given.proofs.GivenLaws.{bits-here, bits-next, bits-end}
 use Rattle.bits_given.proofs.bits_fault.Goals as goal
@@ -11,7 +9,7 @@ use Rattle.bits_given.proofs.bits_fault.Goals as goal
 pub returns-then-wrong_bits : goal.returns-then-wrong_bits
 returns-then-wrong_bits c =
     let wrong = sym c.wrong_bits.ensures ∙ c.if-wrong_bits.true in
-    sym (ap wrong_as (bits-here c.loop-seen.invariant c.loop-seen-test.true wrong))
+    sym (bits-here c.loop-seen.invariant c.loop-seen-test.true wrong)
 
 pub loop-seen-preserved : goal.loop-seen-preserved
 loop-seen-preserved c =
@@ -25,4 +23,4 @@ loop-seen-preserved c =
     rw next (bits-next c.loop-seen.invariant within right)
 
 pub returns : goal.returns
-returns c = sym (ap wrong_as (bits-end c.loop-seen.invariant c.loop-seen-test.false))
+returns c = sym (bits-end c.loop-seen.invariant c.loop-seen-test.false)

@@ -1,5 +1,5 @@
 -- `bitvec::wrapping_mul` meets its contract. The invariant: modulo 2 ^ width the sum is that of the top j bits, which
--- is s times the number they form (`partial-product`). The measure is how many bits are left. Assumes nothing.
+-- is s times the number they form (`partial-product`). Assumes nothing.
 use Rattle.std.proofs.Common.{◌-◌, true, false, ◌∙◌, arith, eq-eqb, ne_eqb}
 use Rattle.bitvec.proofs.Products.{partial-none, partial-next}
 use Rattle.bitvec.proofs.wrapping_mul.Goals as goal

@@ -5,8 +5,8 @@ use mathlib.Core.List.{map}
 use Prim.Native.Nat.{ℕ, zero, suc, ◌≤◌}
 use native.Mathlib.Omega.{arith}
 use lib.ListN.{length, get_or-eq_default}
+use Rattle.std.specs.Prelude.{Some, None}
 use Rattle.cell.specs.Operation.{operations}
-use Rattle.cell.specs.declared.Decoded.TheVariants.{Known, Unknown}
 use Rattle.cell.proofs.operation_of.Goals as goal
 
 -- A number that is none of 0, 1, .. k - 1.
@@ -21,4 +21,4 @@ avoids_le (suc k) n h = let low = avoids_le k n h.0 in let other = h.1 in omega 
 pub returns-in_default : goal.returns-in_default
 returns-in_default c =
     let number = c.args.number in
-    sym (get_or-eq_default (map Known operations) Unknown (avoids_le (length operations) number c.in_default.in_default-own.rest))
+    sym (get_or-eq_default (map Some operations) None (avoids_le (length operations) number c.in_default.in_default-own.rest))

@@ -1,12 +1,10 @@
 -- `checker::check_records` meets its contract: between two records the tables and counts are those of the calls so far,
 -- and the answer from there is the answer. The measure is how many words are left. Assumes nothing.
-use Prim.Native.Nat.{◌-◌}
 use mathlib.Core.Path.{refl, sym, ◌∙◌}
 use Rattle.call_list.proofs.CursorsLaws.{passed-next}
 use native.Mathlib.Omega.{arith}
 use Rattle.term_table.specs.Near.{sort_near}
 use Rattle.record_faults.specs.Faults.{fault_by}
-use Rattle.record_faults.proofs.FaultsLaws.{wrong_at, wrong_none}
 use Rattle.checker.proofs.CheckingLaws.{checking_start, checked-fault, record_wrong, record_right}
 use Rattle.checker.proofs.CheckingLaws.{checked-end, checked_wrong}
 use Rattle.checker.proofs.check_records.Goals as goal
@@ -25,13 +23,13 @@ returns-then-checked c =
     let inv = c.loop-seen.invariant in
     checked_wrong (checked-fault inv.5 c.loop-seen-test.true c.if-checked.true)
 
-pub returns-in-At : goal.returns-in-At
-returns-in-At c =
+pub returns-in-Some : goal.returns-in-Some
+returns-in-Some c =
     let args = c.args in
     let sort =
     sort_near c.loop-seen.sorts c.loop-seen.recent c.loop-seen.places args.gap args.calls.now c.loop-seen.seen.terms in
     let fault = fault_by sort c.loop-seen.names c.loop-seen.tops args.calls.now c.loop-seen.seen.terms c.loop-seen.seen.at in
-    let wrong = wrong_at fault (sym c.record_fault.ensures ∙ c.in-At.is) in
+    let wrong = sym c.record_fault.ensures ∙ c.in-Some.is in
     checked_wrong (record_wrong c.loop-seen.invariant.5 c.loop-seen-test.true c.if-checked.false _ wrong)
 
 pub loop-seen-preserved : goal.loop-seen-preserved
@@ -46,7 +44,7 @@ loop-seen-preserved c =
     let sort =
     sort_near c.loop-seen.sorts c.loop-seen.recent c.loop-seen.places args.gap args.calls.now c.loop-seen.seen.terms in
     let fault = fault_by sort c.loop-seen.names c.loop-seen.tops args.calls.now c.loop-seen.seen.terms c.loop-seen.seen.at in
-    let right = wrong_none fault (sym c.record_fault.ensures ∙ c.in-None.is) in (
+    let right = sym c.record_fault.ensures ∙ c.in_default.is in (
       c.note_place.auto.places ∙ c.loop-seen.invariant.0,
       c.note_sort.auto.sorts ∙ c.loop-seen.invariant.1,
       c.note_sort.auto.recent ∙ c.loop-seen.invariant.2,

@@ -1,6 +1,6 @@
 -- `decision::matches` meets its contract. Invariant: `place` is that of pattern i (`Reached`), the terms of the
 -- patterns below i are stored, and if the rest of the patterns is run from here, all of them were run from the start
--- (`Left`). What is left of k patterns falls. Assumes nothing.
+-- (`Left`). Assumes nothing.
 use mathlib.Core.Path.{◌≡◌, refl, ap, ◌∙◌}
 use Prim.Native.Nat.{◌<◌, ◌+◌, ◌*◌, ◌-◌}
 use native.Mathlib.Omega.{arith}

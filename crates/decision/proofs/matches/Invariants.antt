@@ -1,6 +1,6 @@
 -- `decision::matches` meets its contract. Invariant: `place` is that of pattern i (`Reached`), the terms of the
 -- patterns below i are stored, and if the rest of the patterns is run from here, all of them were run from the start
--- (`Left`). What is left of k patterns falls. Assumes nothing.
+-- (`Left`). Assumes nothing.
 use mathlib.Core.Path.{◌≡◌}
 use Prim.Native.Nat.{◌≤◌, ◌<◌, ◌*◌, ◌-◌, ◌^◌}
 use lib.ListN.{length}
@@ -21,6 +21,3 @@ invariant-loop-i l =
     → Reached l.fields l.n l.k l.initial.place l.i l.place
     × Left (match_of (past_in l.table) (nets_in l.fields l.n 3)) (patterns_in l.fields l.n l.k l.initial.place) l.i l.initial.calls l.initial.names l.initial.marks l.initial.counts
     l.calls l.names l.marks l.counts (elements l.terms l.i))
-
-abbrev pub decreases-loop-i : goal.decreases-loop-i
-decreases-loop-i l = l.k - l.i

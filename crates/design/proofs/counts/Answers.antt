@@ -4,7 +4,7 @@ use mathlib.Core.Path.{sym, ◌∙◌}
 use Rattle.design.proofs.Verifies.{unknown-unroomed}
 use Rattle.design.proofs.counts.Goals as goal
 
-pub returns-in-Unknown : goal.returns-in-Unknown
-returns-in-Unknown c =
+pub returns-in-None : goal.returns-in-None
+returns-in-None c =
     c.no_mode.ensures
-    ∙ unknown-unroomed _ (sym c.mode_of.ensures ∙ c.in-Unknown.is) _
+    ∙ unknown-unroomed _ (sym c.mode_of.ensures ∙ c.in-None.is) _

@@ -4,7 +4,7 @@ use mathlib.Core.Path.{sym, ◌∙◌}
 use Rattle.design.proofs.Verifies.{unknown_verifies}
 use Rattle.design.proofs.verify.Goals as goal
 
-pub returns-in-Unknown : goal.returns-in-Unknown
-returns-in-Unknown c =
+pub returns-in-None : goal.returns-in-None
+returns-in-None c =
     rw c.no_mode.ensures
-    (unknown_verifies _ (sym c.mode_of.ensures ∙ c.in-Unknown.is) _ _ _)
+    (unknown_verifies _ (sym c.mode_of.ensures ∙ c.in-None.is) _ _ _)

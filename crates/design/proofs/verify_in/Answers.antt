@@ -8,15 +8,15 @@ use Rattle.design.proofs.verify_in.Goals as goal
 
 pub slice_bounds-written-end : goal.slice_bounds-written-end
 slice_bounds-written-end c =
-    (both _ _ _ _ (sym c.in-Enough.is ∙ c.room_for.ensures)).1
+    (both _ _ _ _ (sym c.in_default.is ∙ c.room_for.ensures)).1
 
-pub slice_bounds-written-end-in-Enough : goal.slice_bounds-written-end-in-Enough
-slice_bounds-written-end-in-Enough c =
-    taken_count _ _ (both _ _ _ _ (sym c.in-Enough.is ∙ c.room_for.ensures)).1
+pub slice_bounds-written-end-2 : goal.slice_bounds-written-end-2
+slice_bounds-written-end-2 c =
+    taken_count _ _ (both _ _ _ _ (sym c.in_default.is ∙ c.room_for.ensures)).1
 
 pub pass-requires : goal.pass-requires
 pass-requires c =
-    let fits = both _ _ _ _ (sym c.in-Enough.is ∙ c.room_for.ensures) in
+    let fits = both _ _ _ _ (sym c.in_default.is ∙ c.room_for.ensures) in
     let kept = c.dry_run-dry.auto.eqs in (
       c.requires.0,
       blank_again c.requires.1 c.dry_run-dry.auto.names c.clear_words.ensures
@@ -24,15 +24,15 @@ pass-requires c =
       λ ready. omega (arith, c.requires.2 ready, kept),
     )
 
-pub returns-in-Short : goal.returns-in-Short
-returns-in-Short c =
+pub returns-in-Err : goal.returns-in-Err
+returns-in-Err c =
     let room = room-is c.requires.0 (c.dry_run-dry.ensures c.requires.0) in
     short-room c.requires.0 c.args.calls.now c.args.recorded.now room
-    (sym c.in-Short.is ∙ c.room_for.ensures)
+    (sym c.in-Err.is ∙ c.room_for.ensures)
 
-pub returns-in-Enough : goal.returns-in-Enough
-returns-in-Enough c =
-    let fits = both _ _ _ _ (sym c.in-Enough.is ∙ c.room_for.ensures) in
+pub returns : goal.returns
+returns c =
+    let fits = both _ _ _ _ (sym c.in_default.is ∙ c.room_for.ensures) in
     let kept = c.pass.auto.marks ∙ c.clear.auto.bytes ∙ sym (taken_count _ _ fits.1) in
     let room = room-is c.requires.0 (c.dry_run-dry.ensures c.requires.0) in
     rw c.told.ensures

@@ -5,6 +5,7 @@ use mathlib.Core.Path.{refl, sym, ◌∙◌}
 use native.Mathlib.Omega.{arith}
 use Rattle.design_list.specs.Read.{read}
 use Rattle.design_list.specs.Table.{Stored}
+use Rattle.std.proofs.lemmas.Result.{err_from_is_err_and}
 use Rattle.design_list.proofs.TableLaws.{stored-cells}
 use Rattle.items.proofs.Laws.{header_read}
 use Rattle.design_list.proofs.read_into.Goals as goal
@@ -19,27 +20,30 @@ returns-then-list-lt4 c mode = rw (le-ltb _ _ c.if-list-gt16384.false, lt-ltb _ 
 
 pub read_cells-requires : goal.read_cells-requires
 read_cells-requires c =
-    let small = header_read _ (sym c.header_at.ensures ∙ c.in-Read.is) in
+    let small = header_read _ (sym c.header_at.ensures ∙ c.in_ok-header.was) in
     (small, omega (arith, small))
 
-pub returns-in-Refused : goal.returns-in-Refused
+pub returns-in_err-header : goal.returns-in_err-header
 unfolding read Stored
-returns-in-Refused c mode =
+returns-in_err-header c mode =
+    let p = err_from_is_err_and c.from_residual.result c.from_residual.ensures.1 in
     rw (
+      p.1,
+      p.2,
       le-ltb _ _ c.if-list-gt16384.false,
       le-ltb _ _ c.if-list-lt4.false,
       ← c.header_at.ensures,
-      c.in-Refused.is,
+      c.in_err-header.was,
     )
     (refl, tt)
 
-pub returns-in-Read : goal.returns-in-Read
+pub returns : goal.returns
 unfolding read
-returns-in-Read c mode =
+returns c mode =
     rw (
       le-ltb _ _ c.if-list-gt16384.false,
       le-ltb _ _ c.if-list-lt4.false,
       ← c.header_at.ensures,
-      c.in-Read.is,
+      c.in_ok-header.was,
     )
     (c.read_cells.ensures.0 mode, stored-cells mode _ _ _ _ c.read_cells.ensures.1)

@@ -7,11 +7,11 @@ use Rattle.engine.proofs.build_bitvec_lit.Goals as goal
 
 pub returns : goal.returns
 returns c =
-    let bits = c.literal_width-bits.result in
+    let bits = c.min-bits.result in
     let value = c.args.value in
     let wrote =
     wrote_then
     (rw (c.head_word.ensures, c.number_word.ensures) at c.push2-next.ensures)
     (rw c.reduce.ensures at c.digit_words.ensures) c.well_formed.0.0 in
-    let small : bits ≤ 64 = omega (arith, c.literal_width-bits.ensures) in
-    rw (← c.literal_width-bits.ensures) (rw (literal_record bits value small) at wrote)
+    let small : bits ≤ 64 = omega (arith, c.min-bits.ensures) in
+    rw (← c.min-bits.ensures) (rw (literal_record bits value small) at wrote)

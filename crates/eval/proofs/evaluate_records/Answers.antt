@@ -1,6 +1,5 @@
 -- `eval::evaluate_records` meets its contract: between two records what is written and counted is that of the calls so
 -- far. The measure is how many words are left. Assumes nothing.
-use Prim.Native.Nat.{◌-◌}
 use mathlib.Core.Path.{refl, ◌∙◌}
 use native.Mathlib.Omega.{arith}
 use Rattle.call_list.proofs.CursorsLaws.{passed-next}

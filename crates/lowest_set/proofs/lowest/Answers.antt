@@ -1,7 +1,6 @@
 -- `lowest_set::lowest` meets its contract. The invariant: p is not 0 and every leaf left of those under it is. A leaf
 -- that is reached so is that of the lowest number. The measure is what is left up to 8,192. Assumes nothing.
 use mathlib.Core.Path.{sym, ◌∙◌}
-use Prim.Native.Nat.{◌-◌}
 use lib.Dec.{eqb}
 use native.Mathlib.Omega.{arith}
 use Rattle.lowest_set.proofs.Finding.{none-there, reached_root, reached_down, child_within}

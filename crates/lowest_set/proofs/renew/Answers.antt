@@ -12,7 +12,7 @@ loop-p-preserved c =
       omega (arith, inv.1),
       λ members except. rw c.put-in-loop-p.ensures
           (word_computed (inv.2 members except) c.loop-p-test.true c.word_at-left.ensures
-          c.word_at-right.ensures c.larger.ensures),
+          c.word_at-right.ensures c.max.ensures),
     )
 
 pub returns : goal.returns

@@ -1,5 +1,5 @@
 -- `one_hot::first_match` meets its contract. Invariant: the patterns from `index` on are chosen from, and what the
--- model does below `index` completes its whole run (`MatchLeft`); each turn is one pattern. The measure is `index`.
+-- model does below `index` completes its whole run (`MatchLeft`); each turn is one pattern.
 -- Assumes nothing.
 use mathlib.Core.Path.{◌≡◌, ◌∙◌}
 use Prim.Native.Nat.{suc, ◌-◌}

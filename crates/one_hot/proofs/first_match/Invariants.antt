@@ -1,5 +1,5 @@
 -- `one_hot::first_match` meets its contract. Invariant: the patterns from `index` on are chosen from, and what the
--- model does below `index` completes its whole run (`MatchLeft`); each turn is one pattern. The measure is `index`.
+-- model does below `index` completes its whole run (`MatchLeft`); each turn is one pattern.
 -- Assumes nothing.
 use mathlib.Core.Path.{◌≡◌}
 use mathlib.Core.List.{List}
@@ -15,6 +15,3 @@ invariant-loop-index l =
     × (l.k ≤ 64 → (i : ℕ) (names marks : List ℕ)
     → MatchLeft (trits i l.matches) l.k (trits l.k l.initial.result.value) l.initial.calls l.initial.result.counts names marks
     l.index (trits l.k l.result.value) l.calls l.result.counts)
-
-abbrev pub decreases-loop-index : goal.decreases-loop-index
-decreases-loop-index l = l.index

@@ -1,5 +1,5 @@
 -- `operands::constants` meets its contract. The invariant: the numbers are those of the constants from i on, which
--- leave room for one more. The measure is i. Assumes nothing.
+-- leave room for one more. Assumes nothing.
 use mathlib.Core.Path.{◌≡◌, sym}
 use Prim.Native.Nat.{◌+◌, ◌-◌, min}
 use native.Mathlib.Omega.{arith}
@@ -11,8 +11,8 @@ use Rattle.operands.proofs.constants.Goals as goal
 pub loop-i-init : goal.loop-i-init
 loop-i-init c =
     let args = c.args in
-    let few = c.at_most_64-i.ensures in
-    let i = c.at_most_64-i.result in (
+    let few = c.min-i.ensures in
+    let i = c.min-i.result in (
       omega arith,
       sym (packed_none x_of args.words.now (min args.n 64) (args.at + i) i (omega arith)),
       sym (packed_none y_of args.words.now (min args.n 64) (args.at + i) i (omega arith)),

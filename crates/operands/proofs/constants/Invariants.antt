@@ -1,5 +1,5 @@
 -- `operands::constants` meets its contract. The invariant: the numbers are those of the constants from i on, which
--- leave room for one more. The measure is i. Assumes nothing.
+-- leave room for one more. Assumes nothing.
 use mathlib.Core.Path.{◌≡◌}
 use Prim.Native.Nat.{◌+◌, ◌-◌, ◌≤◌, min}
 use Rattle.logic.specs.Trit.{x_of, y_of}
@@ -9,6 +9,3 @@ use Rattle.operands.proofs.constants.Given as goal
 abbrev pub invariant-loop-i : goal.invariant-loop-i
 invariant-loop-i l =
     (l.i ≤ min l.n 64) × (l.x ≡ packed x_of l.words (min l.n 64 - l.i) (l.at + l.i)) × (l.y ≡ packed y_of l.words (min l.n 64 - l.i) (l.at + l.i))
-
-abbrev pub decreases-loop-i : goal.decreases-loop-i
-decreases-loop-i l = l.i

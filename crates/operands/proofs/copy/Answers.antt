@@ -1,5 +1,5 @@
 -- `operands::copy` meets its contract. The invariant: storing the rest from here gives what storing all from the start
--- does. The measure is what is left to copy. Assumes nothing.
+-- does. Assumes nothing.
 use Prim.Native.Nat.{◌+◌, ◌-◌}
 use mathlib.Core.Path.{sym, ◌∙◌}
 use native.Mathlib.Nat.{add_assoc}

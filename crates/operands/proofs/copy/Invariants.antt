@@ -1,5 +1,5 @@
 -- `operands::copy` meets its contract. The invariant: storing the rest from here gives what storing all from the start
--- does. The measure is what is left to copy. Assumes nothing.
+-- does. Assumes nothing.
 use Prim.Native.Nat.{ℕ, ◌+◌, ◌-◌}
 use mathlib.Core.List.{List}
 use mathlib.Core.Path.{◌≡◌}
@@ -16,6 +16,3 @@ after words from j = get_or words (from + j) 0
 abbrev pub invariant-loop-i : goal.invariant-loop-i
 invariant-loop-i l =
     (sets l.initial.out l.to (words_in l.words l.n l.from) ≡ sets l.out (l.to + l.i) (rest (after l.words l.from) l.n l.i)) × (length l.out ≡ length l.initial.out)
-
-abbrev pub decreases-loop-i : goal.decreases-loop-i
-decreases-loop-i l = l.n - l.i

@@ -1,5 +1,5 @@
 -- `operands::output_nets` meets its contract. The invariant: storing the rest from here gives what storing all from the
--- start does. The measure is what is left to store; the nets of the stored words are the output's. Assumes nothing.
+-- start does. The nets of the stored words are the output's. Assumes nothing.
 use Prim.Native.Nat.{◌-◌}
 use mathlib.Core.Path.{◌≡◌, sym, ◌∙◌}
 use lib.ListN.{length-set}

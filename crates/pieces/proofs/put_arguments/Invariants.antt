@@ -1,6 +1,5 @@
 -- `pieces::put_arguments` meets its contract. The loop's invariant: the arguments before `i` are written, and the place
--- is the one after them. The measure is the number of arguments left. Assumes nothing.
-use Prim.Native.Nat.{◌-◌, ◌≤◌}
+-- is the one after them. Assumes nothing.
 use mathlib.Core.Path.{◌≡◌}
 use lib.ListN.{length}
 use Rattle.engine.specs.Emit.{Wrote}
@@ -10,8 +9,5 @@ use Rattle.pieces.proofs.put_arguments.Given as goal
 
 abbrev pub invariant-loop-i : goal.invariant-loop-i
 invariant-loop-i l =
-    (l.i ≤ l.n) × (length l.text ≡ length l.initial.text)
-    × Wrote l.initial.text l.start (spaced (argument_texts l.places l.gap l.calls l.terms l.head l.i)) l.text l.at
-
-abbrev pub decreases-loop-i : goal.decreases-loop-i
-decreases-loop-i l = l.n - l.i
+    (length l.text ≡ length l.initial.text)
+    × Wrote l.initial.text l.start (spaced (argument_texts l.made.places.now l.made.gap l.made.calls.now l.made.terms l.head l.i)) l.text l.at

@@ -10,40 +10,10 @@ use Rattle.placing.proofs.placed_at.Goals as goal
 
 pub overflow_add-after : goal.overflow_add-after
 overflow_add-after c =
-    let read = record_read _ _ _ (sym c.record_in.ensures ∙ c.in-Read.is) in
+    let read = record_read _ _ _ (sym c.record_in.ensures ∙ c.in_ok-cell.was) in
     omega (arith, read.low-width, c.slots_of.ensures)
 
 pub overflow_cast-result : goal.overflow_cast-result
 overflow_cast-result c =
-    let read = record_read _ _ _ (sym c.record_in.ensures ∙ c.in-Read.is) in
+    let read = record_read _ _ _ (sym c.record_in.ensures ∙ c.in_ok-cell.was) in
     omega (arith, read.low-width, c.slots_of.ensures)
-
-pub returns-in-Refused : goal.returns-in-Refused
-unfolding placed_at
-returns-in-Refused c =
-    rw (
-      ← c.record_in.ensures,
-      c.in-Refused.is,
-    )
-
-pub returns-then-after-limit_of : goal.returns-then-after-limit_of
-unfolding placed_at
-returns-then-after-limit_of c =
-    rw (
-      ← c.record_in.ensures,
-      c.in-Read.is,
-      ← c.slots_of.ensures,
-      ← c.limit_of.ensures,
-      le-leb (c.args.slot.0 + c.slots_of.result) _ c.if-after-limit_of.true,
-    )
-
-pub returns-else-after-limit_of : goal.returns-else-after-limit_of
-unfolding placed_at
-returns-else-after-limit_of c =
-    rw (
-      ← c.record_in.ensures,
-      c.in-Read.is,
-      ← c.slots_of.ensures,
-      ← c.limit_of.ensures,
-      lt-leb _ _ c.if-after-limit_of.false,
-    )

@@ -12,23 +12,23 @@ use Rattle.program.proofs.output.Goals as goal
 enough : 16384 ≤ length {A = ℕ} (replicate 16384 0)
 enough = let many = length-replicate {A = ℕ} 16384 0 in omega arith
 
-pub slice_bounds-words-end-in-Words : goal.slice_bounds-words-end-in-Words
-slice_bounds-words-end-in-Words c =
-    (words-read _ (replicate 16384 0) enough (sym c.in-Words.is ∙ c.words.ensures.0)
+pub slice_bounds-words-end-in-Ok : goal.slice_bounds-words-end-in-Ok
+slice_bounds-words-end-in-Ok c =
+    (words-read _ (replicate 16384 0) enough (sym c.in-Ok.is ∙ c.words.ensures.0)
     c.words.ensures.1).0
 
 pub slice_bounds-put_list-end : goal.slice_bounds-put_list-end
 slice_bounds-put_list-end c =
     sym (length-take-le _ _
-    (words-read _ (replicate 16384 0) enough (sym c.in-Words.is ∙ c.words.ensures.0)
+    (words-read _ (replicate 16384 0) enough (sym c.in-Ok.is ∙ c.words.ensures.0)
     c.words.ensures.1).0)
 
-pub returns-in-Refused : goal.returns-in-Refused
-returns-in-Refused c =
-    rw (input-refused _ _ (sym c.in-Refused.is ∙ c.words.ensures.0)) c.refuse.ensures
+pub returns-in-Err : goal.returns-in-Err
+returns-in-Err c =
+    rw (input-refused _ _ (sym c.in-Err.is ∙ c.words.ensures.0)) c.refuse.ensures
 
-pub returns-in-Words : goal.returns-in-Words
-returns-in-Words c =
-    let is = sym c.in-Words.is ∙ c.words.ensures.0 in
+pub returns-in-Ok : goal.returns-in-Ok
+returns-in-Ok c =
+    let is = sym c.in-Ok.is ∙ c.words.ensures.0 in
     let words = words-read _ (replicate 16384 0) enough is c.words.ensures.1 in
     rw (input-read _ _ is, ← words.1) c.put_list.ensures

@@ -1,7 +1,8 @@
 -- `program::put_list` meets its contract: what `verify` leaves in the two slices is handed to the writer. Assumes
 -- nothing.
 use Prim.Native.Nat.{ℕ}
-use mathlib.Core.Path.{◌≡◌}
+use mathlib.Core.Path.{◌≡◌, ap, ◌∙◌}
+use Rattle.std.specs.Prelude.{Ok}
 use lib.ListN.{length, replicate, length-replicate}
 use Rattle.program.proofs.Laws.{nothing-says, asked-says, list-refused, handed, list-told}
 use Rattle.program.proofs.put_list.Goals as goal
@@ -15,24 +16,24 @@ marks = length-replicate {A = ℕ} 4096 0
 
 pub put_script-requires : goal.put_script-requires
 put_script-requires c =
-    handed c.verify.ensures words marks _ (nothing-says c.in-NothingAsked.is) _
+    handed c.verify.ensures words marks _ (nothing-says (c.in-Ok-NothingAsked.is ∙ ap Ok c.in-Ok-NothingAsked.field-0-is)) _
     c.slots_of-slots.ensures
 
-pub put_script-requires-in-Asked : goal.put_script-requires-in-Asked
-put_script-requires-in-Asked c =
-    handed c.verify.ensures words marks _ (asked-says c.in-Asked.is) _
+pub put_script-requires-in-Ok-Asked : goal.put_script-requires-in-Ok-Asked
+put_script-requires-in-Ok-Asked c =
+    handed c.verify.ensures words marks _ (asked-says (c.in-Ok-Asked.is ∙ ap Ok c.in-Ok-Asked.field-0-is)) _
     c.slots_of-slots.ensures
 
-pub returns-in-Refused : goal.returns-in-Refused
-returns-in-Refused c =
-    rw (list-refused c.verify.ensures words marks c.in-Refused.is) c.refuse.ensures
+pub returns-in-Err : goal.returns-in-Err
+returns-in-Err c =
+    rw (list-refused c.verify.ensures words marks c.in-Err.is) c.refuse.ensures
 
-pub returns-in-NothingAsked : goal.returns-in-NothingAsked
-returns-in-NothingAsked c =
-    rw (list-told c.verify.ensures words marks _ (nothing-says c.in-NothingAsked.is) _
+pub returns-in-Ok-NothingAsked : goal.returns-in-Ok-NothingAsked
+returns-in-Ok-NothingAsked c =
+    rw (list-told c.verify.ensures words marks _ (nothing-says (c.in-Ok-NothingAsked.is ∙ ap Ok c.in-Ok-NothingAsked.field-0-is)) _
     c.slots_of-slots.ensures) c.put_script.ensures
 
-pub returns-in-Asked : goal.returns-in-Asked
-returns-in-Asked c =
-    rw (list-told c.verify.ensures words marks _ (asked-says c.in-Asked.is) _
-    c.slots_of-slots.ensures) c.put_script-in-Asked.ensures
+pub returns-in-Ok-Asked : goal.returns-in-Ok-Asked
+returns-in-Ok-Asked c =
+    rw (list-told c.verify.ensures words marks _ (asked-says (c.in-Ok-Asked.is ∙ ap Ok c.in-Ok-Asked.field-0-is)) _
+    c.slots_of-slots.ensures) c.put_script-in-Ok-Asked.ensures

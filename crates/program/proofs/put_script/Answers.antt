@@ -3,7 +3,7 @@
 use Rattle.program.proofs.Laws.{wrote-script}
 use Rattle.program.proofs.put_script.Goals as goal
 
-pub returns-in-Bytes : goal.returns-in-Bytes
-returns-in-Bytes c =
-    wrote-script c.well_formed.1.0.0 (rw c.in-Bytes.is at c.write_script.ensures)
+pub returns-in-Ok : goal.returns-in-Ok
+returns-in-Ok c =
+    wrote-script c.well_formed.1.0.0 (rw c.in-Ok.is at c.write_script.ensures)
     c.put_loop.ensures

@@ -10,16 +10,16 @@ use Rattle.program.proofs.slots_of.Goals as goal
 
 pub overflow_add-result : goal.overflow_add-result
 overflow_add-result c =
-    omega (arith, table-low Ported _ (sym (c.read_design.ensures Ported).same ∙ c.in-Accepted.is))
+    omega (arith, table-low Ported _ (sym (c.read_design.ensures Ported).same ∙ c.in-Ok.is))
 
-pub returns-in-Refused : goal.returns-in-Refused
+pub returns-in-Err : goal.returns-in-Err
 unfolding read_in
-returns-in-Refused c =
+returns-in-Err c =
     sym (slots-refused (read Ported c.args.list.now)
-    (sym (c.read_design.ensures Ported).same ∙ c.in-Refused.is))
+    (sym (c.read_design.ensures Ported).same ∙ c.in-Err.is))
 
-pub returns-in-Accepted : goal.returns-in-Accepted
+pub returns-in-Ok : goal.returns-in-Ok
 unfolding read_in
-returns-in-Accepted c =
+returns-in-Ok c =
     sym (slots-accepted (read Ported c.args.list.now)
-    (sym (c.read_design.ensures Ported).same ∙ c.in-Accepted.is))
+    (sym (c.read_design.ensures Ported).same ∙ c.in-Ok.is))

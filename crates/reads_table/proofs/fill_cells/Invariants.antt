@@ -10,11 +10,10 @@ use Rattle.reads_table.specs.Table.{IsTable}
 use Rattle.reads_table.proofs.Filling.{ReadsLeft}
 use Rattle.reads_table.proofs.fill_cells.Given as goal
 
-abbrev pub invariant-loop-index : goal.invariant-loop-index
-invariant-loop-index l =
-    (length l.edges ≡ length l.initial.edges)
-    × ((mode : Mode) (d : Design) (replacements pairs : ℕ) → read mode l.list ≡ accepted d replacements pairs
-    → IsTable d l.table → ReadsLeft d l.list l.table replacements l.index l.at l.initial.edges l.edges l.count)
+abbrev pub invariant-loop-at : goal.invariant-loop-at
+invariant-loop-at l =
+    (mode : Mode) (d : Design) (replacements pairs : ℕ) → read mode l.list ≡ accepted d replacements pairs
+    → IsTable d l.table → ReadsLeft d l.list l.table replacements l.walk.slot l.walk.at l.initial.edges l.edges l.count
 
-abbrev pub decreases-loop-index : goal.decreases-loop-index
-decreases-loop-index l = length l.table - l.index
+abbrev pub decreases-loop-at : goal.decreases-loop-at
+decreases-loop-at l = length l.table - l.walk.slot

@@ -12,9 +12,8 @@ use Rattle.reads_table.proofs.fill_pairs.Given as goal
 
 abbrev pub invariant-loop-at : goal.invariant-loop-at
 invariant-loop-at l =
-    (length l.edges ≡ length l.initial.edges)
-    × ((mode : Mode) (d : Design) (replacements : ℕ) → read mode l.list ≡ accepted d replacements l.pairs
-    → IsTable d l.table → l.start ≤ l.pairs → VoidReadsLeft d l.list l.at l.initial.edges l.start l.edges l.count)
+    (mode : Mode) (d : Design) (replacements : ℕ) → read mode l.list ≡ accepted d replacements l.pairs
+    → IsTable d l.table → l.start ≤ l.pairs → VoidReadsLeft d l.list l.at l.initial.edges l.start l.edges l.count
 
 abbrev pub decreases-loop-at : goal.decreases-loop-at
 decreases-loop-at l = length l.list - l.at

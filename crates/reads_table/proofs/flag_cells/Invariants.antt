@@ -10,11 +10,10 @@ use Rattle.reads_table.specs.Table.{IsTable}
 use Rattle.reads_table.proofs.Flags.{FlagsLeft}
 use Rattle.reads_table.proofs.flag_cells.Given as goal
 
-abbrev pub invariant-loop-index : goal.invariant-loop-index
-invariant-loop-index l =
-    (length l.flags ≡ length l.initial.flags)
-    × ((mode : Mode) (d : Design) (replacements pairs : ℕ) → read mode l.list ≡ accepted d replacements pairs
-    → IsTable d l.table → FlagsLeft d l.list l.table replacements l.index l.at l.initial.flags l.flags)
+abbrev pub invariant-loop-at : goal.invariant-loop-at
+invariant-loop-at l =
+    (mode : Mode) (d : Design) (replacements pairs : ℕ) → read mode l.list ≡ accepted d replacements pairs
+    → IsTable d l.table → FlagsLeft d l.list l.table replacements l.walk.slot l.walk.at l.initial.flags l.flags
 
-abbrev pub decreases-loop-index : goal.decreases-loop-index
-decreases-loop-index l = length l.table - l.index
+abbrev pub decreases-loop-at : goal.decreases-loop-at
+decreases-loop-at l = length l.table - l.walk.slot

@@ -12,9 +12,8 @@ use Rattle.reads_table.proofs.flag_pairs.Given as goal
 
 abbrev pub invariant-loop-at : goal.invariant-loop-at
 invariant-loop-at l =
-    (length l.flags ≡ length l.initial.flags)
-    × ((mode : Mode) (d : Design) (replacements : ℕ) → read mode l.list ≡ accepted d replacements l.pairs
-    → IsTable d l.table → VoidsLeft d l.list l.at l.initial.flags l.flags)
+    (mode : Mode) (d : Design) (replacements : ℕ) → read mode l.list ≡ accepted d replacements l.pairs
+    → IsTable d l.table → VoidsLeft d l.list l.at l.initial.flags l.flags
 
 abbrev pub decreases-loop-at : goal.decreases-loop-at
 decreases-loop-at l = length l.list - l.at

@@ -1,6 +1,5 @@
 -- `running::pass` meets its contract: the walk does the steps of the list, and check asks the terms that it leaves
--- first in the table. Assumes
--- nothing.
+-- first in the table. Assumes nothing.
 use Rattle.running.proofs.Passes.{passes}
 use Rattle.running.proofs.pass.Goals as goal
 
@@ -8,4 +7,4 @@ pub returns : goal.returns
 returns c =
     λ d accepts tells size.
     passes (c.work-s.ensures d accepts tells size) c.work-s.auto.eqs
-    c.lesser-asked.ensures c.check-counts.ensures
+    c.min-asked.ensures c.check-counts.ensures

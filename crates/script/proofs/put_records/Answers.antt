@@ -1,7 +1,7 @@
 -- `script::put_records` meets its contract. The loop's invariant: the walk has come to the cursor, the ring has the
 -- sorts of the latest terms, and the lines of the records so far are written. The measure is what is left of the list.
 -- Assumes nothing.
-use Prim.Native.Nat.{◌+◌, ◌-◌}
+use Prim.Native.Nat.{◌+◌}
 use mathlib.Core.Path.{refl, ap, ◌∙◌}
 use mathlib.Core.List.{[]}
 use native.Mathlib.Omega.{arith}

@@ -1,6 +1,6 @@
 -- `script::terms_in` meets its contract: the records up to the cursor make as many terms as it counts. The measure is
 -- what is left of the list. Assumes nothing.
-use Prim.Native.Nat.{◌+◌, ◌-◌}
+use Prim.Native.Nat.{◌+◌}
 use mathlib.Core.Path.{ap, ◌∙◌}
 use mathlib.Core.List.{List}
 use native.Mathlib.Omega.{arith}

@@ -1,5 +1,5 @@
 -- `stores::copy` meets its contract. The invariant: storing the rest from here gives what storing all from the start
--- does. The measure is what is left to store. Assumes nothing.
+-- does. Assumes nothing.
 use Prim.Native.Nat.{◌-◌, ◌≤◌}
 use mathlib.Core.Path.{◌≡◌}
 use lib.ListN.{length, take, drop}
@@ -9,6 +9,3 @@ use Rattle.stores.proofs.copy.Given as goal
 abbrev pub invariant-loop-i : goal.invariant-loop-i
 invariant-loop-i l =
     (l.n ≤ length l.words → sets l.initial.out 0 (take l.n l.words) ≡ sets l.out l.i (drop l.i (take l.n l.words))) × (length l.out ≡ length l.initial.out)
-
-abbrev pub decreases-loop-i : goal.decreases-loop-i
-decreases-loop-i l = l.n - l.i

@@ -1,5 +1,5 @@
 -- `stores::fill` meets its contract. The invariant: storing the rest from here gives what storing all from the start
--- does. The measure is what is left to store. Assumes nothing.
+-- does. Assumes nothing.
 use Prim.Native.Nat.{◌-◌}
 use mathlib.Core.Path.{◌∙◌}
 use lib.ListN.{length-set}

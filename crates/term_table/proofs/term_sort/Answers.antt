@@ -11,18 +11,19 @@ use Rattle.term_table.specs.Near.{origin_near}
 use Rattle.term_table.proofs.NearLaws.{near_below, via_given}
 use Rattle.term_table.proofs.term_sort.Goals as goal
 
-pub returns-then-k-sorts : goal.returns-then-k-sorts
-returns-then-k-sorts c =
+pub returns-then-k-tables : goal.returns-then-k-tables
+returns-then-k-tables c =
     let args = c.args in
+    let t = args.tables.now in
     let known =
-    origin_near args.sorts.now args.recent.now args.places.now args.gap args.calls.now
+    origin_near t.sorts.now t.recent.now t.places.now t.gap t.calls.now
     args.terms in
     let below =
-    near_below args.sorts.now args.recent.now args.places.now args.gap args.calls.now
+    near_below t.sorts.now t.recent.now t.places.now t.gap t.calls.now
     args.terms in
-    let given : known args.term ≡ Given (get_or args.sorts.now args.term 0) =
-    rw (lt-ltb _ _ c.if-k-sorts.true) in
+    let given : known args.term ≡ Given (get_or t.sorts.now args.term 0) =
+    rw (lt-ltb _ _ c.if-k-tables.true) in
     let first = c.capped_sum.ensures in
     first ∙ ap capped
-    (let z : 0 + get_or args.sorts.now args.term 0 ≡ get_or args.sorts.now args.term 0 = omega arith in z)
+    (let z : 0 + get_or t.sorts.now args.term 0 ≡ get_or t.sorts.now args.term 0 = omega arith in z)
     ∙ sym (via_given known below args.term given)

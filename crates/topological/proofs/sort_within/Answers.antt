@@ -20,8 +20,5 @@ start_ready-requires c =
     (c.requires.1, empty_holds)
 
 pub take_turns-requires : goal.take_turns-requires
-take_turns-requires c = (
-  c.requires.1,
-  c.link_edges.ensures,
-  counts_start c.count_waits.ensures c.start_ready.ensures,
-)
+take_turns-requires c =
+    (c.requires.1, counts_start c.count_waits.ensures c.start_ready.ensures)

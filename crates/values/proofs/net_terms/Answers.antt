@@ -1,6 +1,6 @@
 -- `values::net_terms` meets its contract: after i turns the terms have the first i elements, and if the rest of the
--- nets is read from here, all of them were read from the start; each turn reads one net more. What is left of n nets
--- falls. Assumes nothing.
+-- nets is read from here, all of them were read from the start; each turn reads one net more.
+-- Assumes nothing.
 use mathlib.Core.Path.{◌≡◌, refl, ◌∙◌}
 use Prim.Native.Nat.{◌<◌, ◌+◌, ◌*◌, ◌-◌, ◌^◌}
 use native.Mathlib.Omega.{arith}

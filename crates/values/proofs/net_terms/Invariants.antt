@@ -1,6 +1,6 @@
 -- `values::net_terms` meets its contract: after i turns the terms have the first i elements, and if the rest of the
--- nets is read from here, all of them were read from the start; each turn reads one net more. What is left of n nets
--- falls. Assumes nothing.
+-- nets is read from here, all of them were read from the start; each turn reads one net more.
+-- Assumes nothing.
 use mathlib.Core.Path.{◌≡◌}
 use Prim.Native.Nat.{◌≤◌, ◌*◌, ◌-◌}
 use lib.ListN.{length}
@@ -16,6 +16,3 @@ invariant-loop-i l =
     × (length l.terms ≡ length l.initial.terms)
     × (2 * l.n ≤ length l.initial.terms → Left (reader l.reading l.table) (nets_in l.words l.n l.at) l.i
     l.initial.calls l.initial.names l.initial.marks l.initial.counts l.calls l.names l.marks l.counts (elements l.terms l.i))
-
-abbrev pub decreases-loop-i : goal.decreases-loop-i
-decreases-loop-i l = l.n - l.i

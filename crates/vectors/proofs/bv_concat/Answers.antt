@@ -1,6 +1,6 @@
 -- `vectors::bv_concat` meets its contract. Invariant: the elements from i on are joined, as the model joins them, to a
 -- vector of n - i bits. It holds of the last element alone, and each turn is one step of the model (`bv-from_turn`).
--- The measure is i. Assumes nothing.
+-- Assumes nothing.
 use mathlib.Core.Path.{◌≡◌, refl, ◌∙◌}
 use Prim.Native.Nat.{◌+◌, ◌-◌, ◌<◌}
 use native.Mathlib.Omega.{arith}

@@ -1,6 +1,6 @@
 -- `vectors::tv_concat` meets its contract. Invariant: the elements from i on are joined, as the model joins them, to a
 -- vector of n - i trits. It holds of the last element alone, and each turn is one step of the model (`tv-from_turn`).
--- The measure is i. Assumes nothing.
+-- Assumes nothing.
 use mathlib.Core.Path.{◌≡◌, refl, sym, ◌∙◌}
 use Prim.Native.Nat.{◌+◌, ◌-◌, ◌<◌}
 use native.Mathlib.Omega.{arith}
@@ -22,7 +22,7 @@ loop-i-init c =
       refl,
       λ names marks.
           ran_as (tv-from_top c.args.terms.now n above c.args.calls.now names marks c.args.c)
-          (rw one (sym c.element_at-top.ensures)),
+          (rw one (sym c.element_at.ensures)),
     )
 
 pub loop-i-preserved : goal.loop-i-preserved

@@ -1,6 +1,6 @@
 -- `vectors::tv_concat` meets its contract. Invariant: the elements from i on are joined, as the model joins them, to a
 -- vector of n - i trits. It holds of the last element alone, and each turn is one step of the model (`tv-from_turn`).
--- The measure is i. Assumes nothing.
+-- Assumes nothing.
 use mathlib.Core.Path.{◌≡◌}
 use Prim.Native.Nat.{◌-◌, ◌<◌}
 use lib.ListN.{length}
@@ -14,6 +14,3 @@ abbrev pub invariant-loop-i : goal.invariant-loop-i
 invariant-loop-i l =
     (l.i < l.n) × (length l.calls ≡ length l.initial.calls)
     × MakesTrits (from tv_concat_on (element_at l.terms) l.n l.i) (l.n - l.i) l.initial.calls l.initial.result.counts l.calls l.result
-
-abbrev pub decreases-loop-i : goal.decreases-loop-i
-decreases-loop-i l = l.i

@@ -9,10 +9,10 @@ use Rattle.virginalmimas.proofs.vm_read.Goals as goal
 pub overflow_add-result : goal.overflow_add-result
 overflow_add-result c =
     let answered = (c.read_design.ensures Ported).same in
-    omega (arith, table-low Ported _ (sym answered ∙ c.in-Accepted.is))
+    omega (arith, table-low Ported _ (sym answered ∙ c.in-Ok.is))
 
-pub returns-in-Accepted : goal.returns-in-Accepted
-returns-in-Accepted c =
+pub returns-in-Ok : goal.returns-in-Ok
+returns-in-Ok c =
     let answered = (c.read_design.ensures Ported).same in
-    let low = table-low Ported _ (sym answered ∙ c.in-Accepted.is) in
-    rw (← answered, c.in-Accepted.is) (omega (arith, low))
+    let low = table-low Ported _ (sym answered ∙ c.in-Ok.is) in
+    rw (← answered, c.in-Ok.is) (omega (arith, low))

@@ -1,8 +1,0 @@
--- `cells_test::main` is safe and ends: the turns left fall. Assumes nothing.
-use Rattle.cells_test.proofs.main.Given as goal
-
-abbrev pub invariant-loop-left : goal.invariant-loop-left
-invariant-loop-left l = Unit {0}
-
-abbrev pub decreases-loop-left : goal.decreases-loop-left
-decreases-loop-left l = l.left

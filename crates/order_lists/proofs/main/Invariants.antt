@@ -1,8 +1,0 @@
--- `order_lists::main` is safe and ends: the turns left fall. Assumes nothing.
-use Rattle.order_lists.proofs.main.Given as goal
-
-abbrev pub invariant-loop-left : goal.invariant-loop-left
-invariant-loop-left l = Unit {0}
-
-abbrev pub decreases-loop-left : goal.decreases-loop-left
-decreases-loop-left l = l.left

@@ -1,8 +1,0 @@
--- `verify_runs::main` is safe and ends: the turns left fall. Assumes nothing.
-use Rattle.verify_runs.proofs.main.Given as goal
-
-abbrev pub invariant-loop-left : goal.invariant-loop-left
-invariant-loop-left l = Unit {0}
-
-abbrev pub decreases-loop-left : goal.decreases-loop-left
-decreases-loop-left l = l.left
