@@ -151,21 +151,58 @@ pub fn constant_at(list: &[u32], end: usize, at: usize) -> Result<usize, Fault>
     }
 }
 
+// A step from place to place of a list, which answers the next place or the first fault met.
+pub trait Step {
+    // What the step answers at a place.
+    ghost answer: { Self → ℕ → Result ℕ Fault };
+
+    // Takes the step at a place.
+    fn taken(&self, at: usize) -> Result<usize, Fault>
+        ensures { result ≡ answer self.now at };
+}
+
 // A step taken n times, from place to place, up to the first fault.
-pub fn many<F: Fn(usize) -> Result<usize, Fault>>(
-    step: F,
-    n: usize,
-    start: usize,
-) -> Result<usize, Fault>
-    requires { F.IsAlwaysCallable step }
-    ensures { (f : ℕ → Result ℕ Fault) → ((at : ℕ) (r : Result ℕ Fault) → F.post step at r → r ≡ f at)
-        → result ≡ scan_many f n start }
+#[tactic(auto, using(crate::proofs::Laws::scans))]
+pub fn many<S: Step>(step: &S, n: usize, start: usize) -> Result<usize, Fault>
+    ensures { result ≡ scan_many (S.answer step.now) n start }
 {
     let mut at = start;
     for _ in 0..n {
-        at = step(at)?;
+        at = step.taken(at)?;
     }
     Ok(at)
+}
+
+// The step over a net, or over a control.
+#[derive(Clone, Copy)]
+struct NetStep<'a> {
+    list: &'a [u32],
+    total: usize,
+    control: bool,
+    end: usize,
+}
+
+impl Step for NetStep<'_> {
+    ghost answer = { λ s. net_at s.list.now s.total s.control s.end };
+
+    fn taken(&self, at: usize) -> Result<usize, Fault> {
+        net_at(self.list, self.total, self.control, self.end, at)
+    }
+}
+
+// The step over a constant.
+#[derive(Clone, Copy)]
+struct ConstantStep<'a> {
+    list: &'a [u32],
+    end: usize,
+}
+
+impl Step for ConstantStep<'_> {
+    ghost answer = { λ s. constant_at s.list.now s.end };
+
+    fn taken(&self, at: usize) -> Result<usize, Fault> {
+        constant_at(self.list, self.end, at)
+    }
 }
 
 // A run of n nets, or of n controls.
@@ -179,14 +216,20 @@ pub fn nets_at(
 ) -> Result<usize, Fault>
     ensures { result ≡ nets_at list.now total control end n start }
 {
-    many(|at| net_at(list, total, control, end, at), n, start)
+    let step = NetStep {
+        list,
+        total,
+        control,
+        end,
+    };
+    many(&step, n, start)
 }
 
 // A run of n constants.
 pub fn constants_at(list: &[u32], end: usize, n: usize, start: usize) -> Result<usize, Fault>
     ensures { result ≡ constants_at list.now end n start }
 {
-    many(|at| constant_at(list, end, at), n, start)
+    many(&ConstantStep { list, end }, n, start)
 }
 
 // The k patterns of a Match of n nets. The first word of the first alternate that is no constant leaves all three

@@ -8,6 +8,7 @@ ghost use Rattle.voids.specs.Voids.{pair_voids_at, voids_at};
 ghost use Rattle.fields.specs.Field.{scan_many};
 
 use cell::Standing;
+use fields::Step;
 use logic::{Driver, Fault, Net, Slot};
 
 // Whether a slot is that of a Void of the base, by the table's words.
@@ -117,6 +118,54 @@ fn pair_voids_at(list: &[u32], table: &[u32], base: usize, at: usize) -> Result<
     Ok(at + 1 + 1)
 }
 
+// The step over a cell: the fields of its record.
+#[derive(Clone, Copy)]
+struct CellStep<'a> {
+    list: &'a [u32],
+    table: &'a [u32],
+    base: usize,
+}
+
+impl Step for CellStep<'_> {
+    ghost answer = { λ s. record_voids_at s.list.now (is_void_in s.table.now s.base) };
+
+    fn taken(&self, at: usize) -> Result<usize, Fault> {
+        record_voids_at(self.list, self.table, self.base, at)
+    }
+}
+
+// The step over a cell replacement: the fields of its record after the #slot.
+#[derive(Clone, Copy)]
+struct ReplacementStep<'a> {
+    list: &'a [u32],
+    table: &'a [u32],
+    base: usize,
+}
+
+impl Step for ReplacementStep<'_> {
+    ghost answer = { λ s. replacement_voids_at s.list.now (is_void_in s.table.now s.base) };
+
+    fn taken(&self, at: usize) -> Result<usize, Fault> {
+        replacement_voids_at(self.list, self.table, self.base, at)
+    }
+}
+
+// The step over a net replacement: its to.
+#[derive(Clone, Copy)]
+struct PairStep<'a> {
+    list: &'a [u32],
+    table: &'a [u32],
+    base: usize,
+}
+
+impl Step for PairStep<'_> {
+    ghost answer = { λ s. pair_voids_at s.list.now (is_void_in s.table.now s.base) };
+
+    fn taken(&self, at: usize) -> Result<usize, Fault> {
+        pair_voids_at(self.list, self.table, self.base, at)
+    }
+}
+
 // The first word of the list that names a Void of the base where it may not: of the cells, the new cells and the tos.
 #[tactic(auto, unfolding(crate::specs::Voids::voids_at))]
 pub fn voids_at(
@@ -129,11 +178,10 @@ pub fn voids_at(
 ) -> Result<usize, Fault>
     ensures { result ≡ voids_at list.now (is_void_in table.now base) cells cellreps netreps }
 {
-    let replacements = fields::many(|at| record_voids_at(list, table, base, at), cells, 4)?;
-    let pairs = fields::many(
-        |at| replacement_voids_at(list, table, base, at),
-        cellreps,
-        replacements,
-    )?;
-    fields::many(|at| pair_voids_at(list, table, base, at), netreps, pairs)
+    let cell = CellStep { list, table, base };
+    let replacement = ReplacementStep { list, table, base };
+    let pair = PairStep { list, table, base };
+    let replacements = fields::many(&cell, cells, 4)?;
+    let pairs = fields::many(&replacement, cellreps, replacements)?;
+    fields::many(&pair, netreps, pairs)
 }
