@@ -73,11 +73,13 @@ fn declares_again(
     requires { op_from operation ≡ operation_at calls.now at }
     ensures { result ≡ again_by names.now tops.now calls.now at }
 {
+    if !call_list::is_declare(operation) {
+        return false;
+    }
     let letter = call_list::argument_word(calls, at, 0);
     let index = call_list::argument_word(calls, at, 1);
     let suffix = call_list::argument_word(calls, at, 2);
-    call_list::is_declare(operation)
-        && name_table::name_known(calls, names, tops, at, letter, index, suffix)
+    name_table::name_known(calls, names, tops, at, letter, index, suffix)
 }
 
 // Whether the head of the record at a place stands: a head, whole, of an operation with its count, no name declared

@@ -87,13 +87,13 @@ fn term_origin(tables: &Tables, terms: usize, k: u32) -> Origin
 
 // The sort of a term, through the terms that it goes by. Of a join the second is looked up and the first gone on with,
 // so that no calls nest deeper than joins do: in a well-formed list 63 times.
-fn sort_through(tables: &Tables, terms: usize, term: u32) -> u32
-    ensures { result ≡ sort_in tables.now terms term }
+fn sort_through(tables: Tables, terms: usize, term: u32) -> u32
+    ensures { result ≡ sort_in tables.entry terms term }
 {
     let mut k = term;
     let mut total = 0;
     loop {
-        match term_origin(tables, terms, k) {
+        match term_origin(&tables, terms, k) {
             Origin::Given(s) => {
                 return capped_sum(total, s);
             }
@@ -116,7 +116,7 @@ pub fn term_sort(tables: &Tables, terms: usize, term: u32) -> u32
     if k < tables.sorts.len() {
         return capped_sum(0, tables.sorts[k] as u32);
     }
-    sort_through(tables, terms, term)
+    sort_through(*tables, terms, term)
 }
 
 // The sort of the term that the record at a place makes, of so many so far.

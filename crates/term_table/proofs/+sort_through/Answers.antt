@@ -11,17 +11,17 @@ use Rattle.term_table.proofs.+sort_through.Goals as goal
 pub loop-s-init : goal.loop-s-init
 loop-s-init m c =
     let args = c.args in
-    let t = args.tables.now in
+    let t = args.tables in
     let k = args.term in
-    let known = origin_in args.tables.now args.terms in
+    let known = origin_in args.tables args.terms in
     (omega arith, sum-start (sort_via (suc k) known k) (via_low (suc k) known k))
 
 pub returns-in-Given : goal.returns-in-Given
 returns-in-Given m c =
     let state = c.loop-s in
     let args = c.args in
-    let t = args.tables.now in
-    let known = origin_in args.tables.now args.terms in
+    let t = args.tables in
+    let known = origin_in args.tables args.terms in
     let below = near_below t.sorts.now t.recent.now t.places.now t.gap t.calls.now args.terms in
     let origin = sym c.term_origin.ensures ∙ c.in-Given.is in
     c.capped_sum.ensures ∙ sym (sum-given state.total _)
@@ -32,8 +32,8 @@ pub loop-s-preserved-in-Same : goal.loop-s-preserved-in-Same
 loop-s-preserved-in-Same m c =
     let state = c.loop-s in
     let args = c.args in
-    let t = args.tables.now in
-    let known = origin_in args.tables.now args.terms in
+    let t = args.tables in
+    let known = origin_in args.tables args.terms in
     let below = near_below t.sorts.now t.recent.now t.places.now t.gap t.calls.now args.terms in
     let origin = sym c.term_origin.ensures ∙ c.in-Same.is in
     let said = via_same known below state.k origin in
@@ -43,8 +43,8 @@ pub loop-s-smaller-in-Same : goal.loop-s-smaller-in-Same
 loop-s-smaller-in-Same m c =
     let state = c.loop-s in
     let args = c.args in
-    let t = args.tables.now in
-    let known = origin_in args.tables.now args.terms in
+    let t = args.tables in
+    let known = origin_in args.tables args.terms in
     let below = near_below t.sorts.now t.recent.now t.places.now t.gap t.calls.now args.terms in
     let origin = sym c.term_origin.ensures ∙ c.in-Same.is in
     (via_same known below state.k origin).0
@@ -53,8 +53,8 @@ pub sort_through-requires : goal.sort_through-requires
 sort_through-requires m c =
     let state = c.loop-s in
     let args = c.args in
-    let t = args.tables.now in
-    let known = origin_in args.tables.now args.terms in
+    let t = args.tables in
+    let known = origin_in args.tables args.terms in
     let below = near_below t.sorts.now t.recent.now t.places.now t.gap t.calls.now args.terms in
     let origin = sym c.term_origin.ensures ∙ c.in-Joined.is in
     let said = via_joined known below state.k origin in
@@ -64,8 +64,8 @@ pub loop-s-smaller : goal.loop-s-smaller
 loop-s-smaller m c =
     let state = c.loop-s in
     let args = c.args in
-    let t = args.tables.now in
-    let known = origin_in args.tables.now args.terms in
+    let t = args.tables in
+    let known = origin_in args.tables args.terms in
     let below = near_below t.sorts.now t.recent.now t.places.now t.gap t.calls.now args.terms in
     let origin = sym c.term_origin.ensures ∙ c.in-Joined.is in
     let said = via_joined known below state.k origin in
@@ -75,8 +75,8 @@ pub loop-s-preserved : goal.loop-s-preserved
 loop-s-preserved m c =
     let state = c.loop-s in
     let args = c.args in
-    let t = args.tables.now in
-    let known = origin_in args.tables.now args.terms in
+    let t = args.tables in
+    let known = origin_in args.tables args.terms in
     let below = near_below t.sorts.now t.recent.now t.places.now t.gap t.calls.now args.terms in
     let origin = sym c.term_origin.ensures ∙ c.in-Joined.is in
     let said = via_joined known below state.k origin in
