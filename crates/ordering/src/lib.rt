@@ -24,7 +24,12 @@ pub enum Ordering {
 fn any_left(flags: &[u32]) -> bool
     ensures { result ≡ list_any (λ flag. not (flag == 0)) flags.now }
 {
-    flags.iter().any(|flag| *flag != 0)
+    for a in 0..flags.len() {
+        if flags[a] != 0 {
+            return true;
+        }
+    }
+    false
 }
 
 // The order goes into turns first: where there is a loop, the slice gets nothing but the loop.
