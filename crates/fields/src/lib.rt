@@ -163,12 +163,30 @@ pub trait Step {
 
 // A step taken n times, from place to place, up to the first fault.
 #[tactic(auto, using(crate::proofs::Laws::scans))]
-pub fn many<S: Step>(step: &S, n: usize, start: usize) -> Result<usize, Fault>
+pub fn many_steps<S: Step>(step: &S, n: usize, start: usize) -> Result<usize, Fault>
     ensures { result ≡ scan_many (S.answer step.now) n start }
 {
     let mut at = start;
     for _ in 0..n {
         at = step.taken(at)?;
+    }
+    Ok(at)
+}
+
+// A closure called n times, from place to place, up to the first fault; its caller knows that it may always be called.
+#[tactic(auto, using(crate::proofs::Laws::scans))]
+pub fn many<F: Fn(usize) -> Result<usize, Fault>>(
+    step: F,
+    n: usize,
+    start: usize,
+) -> Result<usize, Fault>
+    requires { F.IsAlwaysCallable step }
+    ensures { (f : ℕ → Result ℕ Fault) → ((at : ℕ) (r : Result ℕ Fault) → F.post step at r → r ≡ f at)
+        → result ≡ scan_many f n start }
+{
+    let mut at = start;
+    for _turn in 0..n {
+        at = step(at)?;
     }
     Ok(at)
 }
@@ -222,14 +240,14 @@ pub fn nets_at(
         control,
         end,
     };
-    many(&step, n, start)
+    many_steps(&step, n, start)
 }
 
 // A run of n constants.
 pub fn constants_at(list: &[u32], end: usize, n: usize, start: usize) -> Result<usize, Fault>
     ensures { result ≡ constants_at list.now end n start }
 {
-    many(&ConstantStep { list, end }, n, start)
+    many_steps(&ConstantStep { list, end }, n, start)
 }
 
 // The k patterns of a Match of n nets. The first word of the first alternate that is no constant leaves all three
@@ -329,5 +347,28 @@ pub fn head_at(list: &[u32], at: usize) -> Result<Head, Fault>
             number: 3,
             place: at,
         }),
+    }
+}
+
+#[cfg(test)]
+mod tests {
+    use super::*;
+
+    // The constants 0, 1 and X one after the other, and the net of slot 0, which is none.
+    #[test]
+    fn many_calls_a_closure(rt: HostRuntime) {
+        let list = [0, 1, 536870911, 2];
+        let constant = |at: usize| constant_at(&list, 4, at);
+        assert!(rt; matches!(many(constant, 3, 0), Ok(3)));
+        assert!(rt;
+            matches!(
+                many(constant, 4, 0),
+                Err(Fault {
+                    number: 8,
+                    place: 3
+                })
+            )
+        );
+        assert!(rt; matches!(many(constant, 0, 3), Ok(3)));
     }
 }

@@ -181,7 +181,7 @@ pub fn voids_at(
     let cell = CellStep { list, table, base };
     let replacement = ReplacementStep { list, table, base };
     let pair = PairStep { list, table, base };
-    let replacements = fields::many(&cell, cells, 4)?;
-    let pairs = fields::many(&replacement, cellreps, replacements)?;
-    fields::many(&pair, netreps, pairs)
+    let replacements = fields::many_steps(&cell, cells, 4)?;
+    let pairs = fields::many_steps(&replacement, cellreps, replacements)?;
+    fields::many_steps(&pair, netreps, pairs)
 }
